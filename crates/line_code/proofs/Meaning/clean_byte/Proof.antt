@@ -1,0 +1,48 @@
+use Rattle.line_code.specs.LineCode.{cleanByte}
+use borrow.Author.Needs.{needs}
+use Rattle.line_code.proofs.Meaning.clean_byte.Statement.{statement}
+use Rattle.line_code.proofs.Meaning.clean_byte.Tie as tie
+
+enum-told : tie.Need-enum-told
+enum-told c = search needs
+
+enum-known-self : tie.Need-enum-known-self
+enum-known-self c = search needs
+
+clean-byte-requires : tie.Need-clean-byte-requires
+clean-byte-requires c κs = search needs
+
+enum-told-2 : tie.Need-enum-told-2
+enum-told-2 c = search needs
+
+enum-told-3 : tie.Need-enum-told-3
+enum-told-3 c = search needs
+
+returns : tie.Need-returns
+unfolding cleanByte
+returns c = simp (c .enum-told .given .1)
+
+returns-2 : tie.Need-returns-2
+returns-2 c = simp (c .clean-byte .ensures, c .before .before .self .given .1)
+
+returns-3 : tie.Need-returns-3
+unfolding cleanByte
+returns-3 c = simp (c .enum-told2 .given .1)
+
+returns-4 : tie.Need-returns-4
+unfolding cleanByte
+returns-4 c = simp (c .enum-told3 .given .1)
+
+pub clean-byte-spec : {M : Type 1} → statement M
+clean-byte-spec =
+    tie.close
+    (tie.spec
+    enum-told
+    enum-known-self
+    clean-byte-requires
+    enum-told-2
+    enum-told-3
+    returns
+    returns-2
+    returns-3
+    returns-4)

@@ -1,0 +1,76 @@
+use mathlib.Core.Path.{refl}
+use native.Mathlib.Omega.{arith}
+use Rattle.line_code.specs.LineCode.{syndromeOf}
+use borrow.Author.Needs.{needs}
+use Rattle.line_code.proofs.syndrome.Statement.{statement}
+use Rattle.line_code.proofs.syndrome.Tie as tie
+
+add-p0 : tie.Need-add-p0
+add-p0 c = search needs
+
+add-p0-2 : tie.Need-add-p0-2
+add-p0-2 c = search needs
+
+add-p0-3 : tie.Need-add-p0-3
+add-p0-3 c = search needs
+
+add-p1 : tie.Need-add-p1
+add-p1 c = search needs
+
+add-p1-2 : tie.Need-add-p1-2
+add-p1-2 c = search needs
+
+add-p2 : tie.Need-add-p2
+add-p2 c = search needs
+
+add-p2-2 : tie.Need-add-p2-2
+add-p2-2 c = search needs
+
+add-p3 : tie.Need-add-p3
+add-p3 c = search needs
+
+add-p3-2 : tie.Need-add-p3-2
+add-p3-2 c = search needs
+
+mul-result : tie.Need-mul-result
+mul-result c = search needs
+
+add-result : tie.Need-add-result
+add-result c = search needs
+
+mul-result-2 : tie.Need-mul-result-2
+mul-result-2 c = search needs
+
+add-result-2 : tie.Need-add-result-2
+add-result-2 c = search needs
+
+mul-result-3 : tie.Need-mul-result-3
+mul-result-3 c = search needs
+
+add-result-3 : tie.Need-add-result-3
+add-result-3 c = search needs
+
+returns : tie.Need-returns
+unfolding syndromeOf
+returns c = (refl, omega arith)
+
+pub syndrome-spec : {M : Type 1} → statement M
+syndrome-spec =
+    tie.close
+    (tie.spec
+    add-p0
+    add-p0-2
+    add-p0-3
+    add-p1
+    add-p1-2
+    add-p2
+    add-p2-2
+    add-p3
+    add-p3-2
+    mul-result
+    add-result
+    mul-result-2
+    add-result-2
+    mul-result-3
+    add-result-3
+    returns)

@@ -1,0 +1,200 @@
+-- Laws of line codes: which bytes are clean, which are repaired to which, how many of each; and demand 2's flipped bits.
+-- Each is one test, computed at all 256 bytes or at all flips of the eight clean ones, and a law that gives the rule at each.
+use mathlib.Core.Path.{_≡_, refl, sym, ap, subst, _∙_}
+use mathlib.Core.Bool.{Bool, true, false, _&&_, _||_, not, cond, Bool·beq, true≢false}
+use Prim.Native.Nat.{ℕ, _+_, _-_, _/_, _%_, _<_, _≤_}
+use lib.Dec.{eqb, ltb}
+use native.Mathlib.Omega.{arith}
+use borrow.Author.Tests.{eqb-true, eq-eqb, ne-eqb, lt-ltb, le-ltb, ltb-true, ltb-false, not-true}
+use Rattle.bits.specs.Bits.{flipped, differ}
+use Rattle.bits.specs.Every.{and-left, and-right, and-both, every, each, count}
+use Rattle.line_code.specs.declared.Kind.{Kind}
+use Rattle.line_code.specs.declared.Kind.the-variants.{BL, BK, VL, SOF, EOF}
+use Rattle.line_code.specs.declared.Meaning.{Meaning}
+use Rattle.line_code.specs.declared.Meaning.the-variants.{EndOfLine, Line, ReservedEC, ReservedF1}
+use Rattle.line_code.specs.declared.Reading.{Reading}
+use Rattle.line_code.specs.declared.Reading.the-variants.{Clean, Repaired, Damaged}
+use Rattle.line_code.specs.declared.LineKind.{LineKind}
+use Rattle.line_code.specs.declared.LineKind.the-variants.{NotLine, LineOf}
+use Rattle.line_code.specs.LineCode.{kindNumber, kindNumbered, codeOf, reservedOf, meaningOf, meanings, topBit, cleanByte, readingOf, kindOf, isEnd, isClean, isRepaired, isDamaged}
+
+-- The code of a meaning.
+
+pub meaning-code : (m : Meaning) → meaningOf (codeOf m) ≡ m
+unfolding meaningOf kindNumbered reservedOf
+meaning-code EndOfLine = refl
+meaning-code (Line BL) = refl
+meaning-code (Line BK) = refl
+meaning-code (Line VL) = refl
+meaning-code (Line SOF) = refl
+meaning-code (Line EOF) = refl
+meaning-code ReservedEC = refl
+meaning-code ReservedF1 = refl
+
+kind-small : (k : Kind) → kindNumber k < 8
+kind-small BL = omega arith
+kind-small BK = omega arith
+kind-small VL = omega arith
+kind-small SOF = omega arith
+kind-small EOF = omega arith
+
+code-small : (m : Meaning) → codeOf m < 8
+code-small EndOfLine = omega arith
+code-small (Line k) = kind-small k
+code-small ReservedEC = omega arith
+code-small ReservedF1 = omega arith
+
+-- a test at all meanings
+abbrev atAll : (Meaning → Bool) → Bool
+atAll f = every (λ (c : ℕ). f (meaningOf c)) 8
+
+at-each : (f : Meaning → Bool) → atAll f ≡ true → (m : Meaning) → f m ≡ true
+at-each f h m = subst (λ (x : Meaning). f x ≡ true) (meaning-code m) (each (λ (c : ℕ). f (meaningOf c)) 8 h (codeOf m) (code-small m))
+
+-- A reading as a number, and back: two readings are compared as numbers.
+
+abbrev numberOf : Reading → ℕ
+numberOf (Clean m) = codeOf m
+numberOf (Repaired m) = 8 + codeOf m
+numberOf Damaged = 16
+
+abbrev fromNumber : ℕ → Reading
+fromNumber n = cond (ltb n 8) (Clean (meaningOf n)) (cond (ltb n 16) (Repaired (meaningOf (n - 8))) Damaged)
+
+back : (r : Reading) → fromNumber (numberOf r) ≡ r
+back (Clean m) = simp (lt-ltb (codeOf m) 8 (code-small m), meaning-code m)
+back (Repaired m) =
+    let s = code-small m in
+    let e : 8 + codeOf m - 8 ≡ codeOf m = omega arith in
+    simp (le-ltb (8 + codeOf m) 8 (omega arith), lt-ltb (8 + codeOf m) 16 (omega arith), e, meaning-code m)
+back Damaged = refl
+
+abbrev pub same : Reading → Reading → Bool
+same r s = eqb (numberOf r) (numberOf s)
+
+pub same-eq : (r s : Reading) → same r s ≡ true → r ≡ s
+same-eq r s h = sym (back r) ∙ ap fromNumber (eqb-true (numberOf r) (numberOf s) h) ∙ back s
+
+pub eq-same : (r s : Reading) → r ≡ s → same r s ≡ true
+eq-same r s e = eq-eqb (numberOf r) (numberOf s) (ap numberOf e)
+
+agree : (x y : Bool) → Bool·beq x y ≡ true → x ≡ y
+agree true true h = refl
+agree true false h = absurd (true≢false (sym h))
+agree false true h = absurd (true≢false (sym h))
+agree false false h = refl
+
+-- Clean and repaired bytes.
+
+-- 01's table
+pub clean-table : (cleanByte EndOfLine ≡ 0x80)
+    × (cleanByte (Line BL) ≡ 0x9D)
+    × (cleanByte (Line BK) ≡ 0xAB)
+    × (cleanByte (Line VL) ≡ 0xB6)
+    × (cleanByte (Line SOF) ≡ 0xC7)
+    × (cleanByte (Line EOF) ≡ 0xDA)
+    × (cleanByte ReservedEC ≡ 0xEC)
+    × (cleanByte ReservedF1 ≡ 0xF1)
+unfolding cleanByte
+clean-table = (refl, refl, refl, refl, refl, refl, refl, refl)
+
+abbrev cleanTest : ℕ → Meaning → Bool
+cleanTest b m = Bool·beq (same (readingOf b) (Clean m)) (eqb b (cleanByte m))
+
+clean-test : (b : ℕ) (m : Meaning) → b < 256 → same (readingOf b) (Clean m) ≡ eqb b (cleanByte m)
+unfolding cleanByte readingOf meaningOf kindNumbered reservedOf
+clean-test b m h =
+    agree (same (readingOf b) (Clean m)) (eqb b (cleanByte m))
+    (at-each (cleanTest b) (each (λ (n : ℕ). atAll (cleanTest n)) 256 refl b h) m)
+
+-- a byte reads clean with a meaning exactly if it is that meaning's clean byte
+pub clean-is : (b : ℕ) (m : Meaning) → b < 256 → readingOf b ≡ Clean m → b ≡ cleanByte m
+clean-is b m h e = eqb-true b (cleanByte m) (sym (clean-test b m h) ∙ eq-same (readingOf b) (Clean m) e)
+
+clean-small : (m : Meaning) → ltb (cleanByte m) 256 ≡ true
+unfolding cleanByte meaningOf kindNumbered reservedOf
+clean-small = at-each (λ (m : Meaning). ltb (cleanByte m) 256) refl
+
+pub clean-reading : (m : Meaning) → readingOf (cleanByte m) ≡ Clean m
+clean-reading m =
+    same-eq (readingOf (cleanByte m)) (Clean m)
+    (clean-test (cleanByte m) m (ltb-true (cleanByte m) 256 (clean-small m)) ∙ eq-eqb (cleanByte m) (cleanByte m) refl)
+
+abbrev repairedTest : ℕ → Meaning → Bool
+repairedTest b m = Bool·beq (same (readingOf b) (Repaired m)) (topBit b && eqb (differ 7 b (cleanByte m)) 1)
+
+repaired-test : (b : ℕ) (m : Meaning) → b < 256 → same (readingOf b) (Repaired m) ≡ (topBit b && eqb (differ 7 b (cleanByte m)) 1)
+unfolding cleanByte readingOf meaningOf kindNumbered reservedOf
+repaired-test b m h =
+    agree (same (readingOf b) (Repaired m)) (topBit b && eqb (differ 7 b (cleanByte m)) 1)
+    (at-each (repairedTest b) (each (λ (n : ℕ). atAll (repairedTest n)) 256 refl b h) m)
+
+-- a byte is repaired to a clean byte exactly if its top bit is 1 and it differs from it in one of its low seven bits
+pub repaired-is : (b : ℕ) (m : Meaning) → b < 256 → readingOf b ≡ Repaired m → (topBit b ≡ true) × (differ 7 b (cleanByte m) ≡ 1)
+repaired-is b m h e =
+    let t : (topBit b && eqb (differ 7 b (cleanByte m)) 1) ≡ true = sym (repaired-test b m h) ∙ eq-same (readingOf b) (Repaired m) e in
+    (and-left (topBit b) _ t, eqb-true (differ 7 b (cleanByte m)) 1 (and-right (topBit b) _ t))
+
+pub repaired-reading : (b : ℕ) (m : Meaning) → b < 256 → topBit b ≡ true → differ 7 b (cleanByte m) ≡ 1 → readingOf b ≡ Repaired m
+repaired-reading b m h t d =
+    same-eq (readingOf b) (Repaired m)
+    (repaired-test b m h ∙ and-both (topBit b) _ t (eq-eqb (differ 7 b (cleanByte m)) 1 d))
+
+-- of 256 there are 8 clean, 56 repaired, 192 damaged
+pub counts : (count (λ b. isClean (readingOf b)) 256 ≡ 8) × (count (λ b. isRepaired (readingOf b)) 256 ≡ 56) × (count (λ b. isDamaged (readingOf b)) 256 ≡ 192)
+unfolding readingOf meaningOf kindNumbered reservedOf
+counts = (refl, refl, refl)
+
+-- Demand 2: flipped bits.
+
+abbrev mended : Meaning → ℕ → Bool
+mended m i = same (readingOf (flipped (cleanByte m) i)) (Repaired m)
+
+-- any one of the low seven bits of a clean byte flipped is read as the same meaning, repaired
+pub one-flip : (m : Meaning) (i : ℕ) → i < 7 → readingOf (flipped (cleanByte m) i) ≡ Repaired m
+unfolding cleanByte readingOf meaningOf kindNumbered reservedOf
+one-flip m i h =
+    same-eq (readingOf (flipped (cleanByte m) i)) (Repaired m)
+    (each (mended m) 7 (at-each (λ (x : Meaning). every (mended x) 7) refl m) i h)
+
+abbrev noLine : LineKind → Bool
+noLine NotLine = true
+noLine (LineOf k) = false
+
+no-line : (k : LineKind) → noLine k ≡ true → k ≡ NotLine
+no-line NotLine h = refl
+no-line (LineOf k) h = absurd (true≢false (sym h))
+
+-- the byte with two of its bits flipped names no line kind
+abbrev apart : Meaning → ℕ → ℕ → Bool
+apart m i j = eqb i j || noLine (kindOf (readingOf (flipped (flipped (cleanByte m) i) j)))
+
+or-right : (a b : Bool) → (a || b) ≡ true → a ≡ false → b ≡ true
+or-right true b h e = absurd (true≢false e)
+or-right false b h e = h
+
+-- any two different bits among the eight of a clean byte flipped are never read as a line kind
+pub two-flips : (m : Meaning) (i j : ℕ) → i < 8 → j < 8 → (i ≡ j → ⊥) → kindOf (readingOf (flipped (flipped (cleanByte m) i) j)) ≡ NotLine
+unfolding cleanByte readingOf meaningOf kindNumbered reservedOf
+two-flips m i j h g d =
+    no-line (kindOf (readingOf (flipped (flipped (cleanByte m) i) j)))
+    (or-right (eqb i j) _
+    (each (apart m i) 8 (each (λ (n : ℕ). every (apart m n) 8) 8 (at-each (λ (x : Meaning). every (λ (n : ℕ). every (apart x n) 8) 8) refl m) i h) j g)
+    (ne-eqb i j d))
+
+-- Codes that end in F.
+
+damaged-far : (b : ℕ) → 256 ≤ b → readingOf b ≡ Damaged
+unfolding readingOf
+damaged-far b h = simp (ne-eqb (b / 128) 1 (λ e. omega arith))
+
+-- a byte that ends in F is no end of line: so a code that lies on the next mark's F never is
+pub no-end-F : (b : ℕ) → b % 16 ≡ 15 → isEnd (readingOf b) ≡ false
+unfolding readingOf meaningOf kindNumbered reservedOf
+no-end-F b e = go (ltb b 256) refl
+  where
+    go : (x : Bool) → ltb b 256 ≡ x → isEnd (readingOf b) ≡ false
+    go true h =
+        not-true (isEnd (readingOf b))
+        (or-right (not (eqb (b % 16) 15)) _ (each (λ (n : ℕ). not (eqb (n % 16) 15) || not (isEnd (readingOf n))) 256 refl b (ltb-true b 256 h)) (ap not (eq-eqb (b % 16) 15 e)))
+    go false h = ap isEnd (damaged-far b (ltb-false b 256 h))

@@ -1,0 +1,2 @@
+pub mod LineNumber
+pub mod LineNumberLaws

@@ -1,0 +1,78 @@
+use mathlib.Core.Path.{_≡_, refl, sym, _∙_}
+use Prim.Native.Nat.{_≤_, _-_}
+use borrow.Author.Needs.{needs}
+use lib.ListN.{length, drop}
+use Rattle.profile.specs.Layout.{rules, fits}
+use Rattle.profile.specs.LayoutLaws.{rules-length}
+use Rattle.profile.proofs.Fits.{fits-unequal, fits-step, fits-end}
+use Rattle.profile.proofs.Profile.body_fits.Statement.{statement}
+use Rattle.profile.proofs.Profile.body_fits.Tie as tie
+
+abbrev Inv-loop : tie.InvT-loop
+Inv-loop self kind body i₀ i =
+    (i ≤ length body) × (length body ≡ length (rules self kind)) × (fits (rules self kind) body ≡ fits (drop i (rules self kind)) (drop i body))
+
+abbrev μ-loop : tie.MeasureT-loop
+μ-loop self kind body i₀ i = length body - i
+
+body-length-requires : tie.Need-body-length-requires Inv-loop μ-loop
+body-length-requires c κs = search needs
+
+returns : tie.Need-returns Inv-loop μ-loop
+returns c =
+    let a = c .before .before .before .args in
+    let e = c .before .body-length .ensures ∙ sym (rules-length (a .self) (a .kind)) in
+    sym (fits-unequal (rules (a .self) (a .kind)) (a .body .now) (λ q. c .if1 .taken (q ∙ sym e)))
+
+loop-holds : tie.Need-loop-holds Inv-loop μ-loop
+loop-holds c =
+    let a = c .before .before .before .args in
+    (search needs, c .if1 .left ∙ c .before .body-length .ensures ∙ sym (rules-length (a .self) (a .kind)), refl)
+
+rule-at-requires : tie.Need-rule-at-requires Inv-loop μ-loop
+rule-at-requires c κs = search needs
+
+shared-slice-read-allows : tie.Need-shared-slice-read-allows Inv-loop μ-loop
+shared-slice-read-allows c = search needs
+
+allows-requires : tie.Need-allows-requires Inv-loop μ-loop
+allows-requires c κs = search needs
+
+add-i : tie.Need-add-i Inv-loop μ-loop
+add-i c = search needs
+
+loop-less : tie.Need-loop-less Inv-loop μ-loop
+loop-less c = search needs
+
+loop-again : tie.Need-loop-again Inv-loop μ-loop
+loop-again c =
+    let l = c .before .before .before .before .before .loop .inv in
+    (search needs, l .1, l .2 ∙ fits-step _ _ _ (l .1) (c .before .before .before .before .loop-test .taken) ∙ simp (← c .before .before .before .rule-at .ensures, ← c .before .allows .ensures, c .if2 .taken))
+
+returns-2 : tie.Need-returns-2 Inv-loop μ-loop
+returns-2 c =
+    let l = c .before .before .before .before .before .loop .inv in
+    sym (l .2 ∙ fits-step _ _ _ (l .1) (c .before .before .before .before .loop-test .taken) ∙ simp (← c .before .before .before .rule-at .ensures, ← c .before .allows .ensures, c .if2 .left))
+
+returns-3 : tie.Need-returns-3 Inv-loop μ-loop
+returns-3 c =
+    let l = c .before .loop .inv in
+    sym (l .2 ∙ fits-end _ _ _ (l .1) (c .loop-test .left))
+
+pub body-fits-spec : {M : Type 1} → statement M
+body-fits-spec =
+    tie.close
+    (tie.spec
+    Inv-loop
+    μ-loop
+    body-length-requires
+    returns
+    loop-holds
+    rule-at-requires
+    shared-slice-read-allows
+    allows-requires
+    add-i
+    loop-less
+    loop-again
+    returns-2
+    returns-3)

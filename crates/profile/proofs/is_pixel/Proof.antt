@@ -1,0 +1,16 @@
+use native.Mathlib.Omega.{arith}
+use borrow.Author.Tests.{le-leb}
+use lib.Dec.{leb·suc-suc}
+use Rattle.profile.proofs.is_pixel.Statement.{statement}
+use Rattle.profile.proofs.is_pixel.Tie as tie
+
+returns : tie.Need-returns
+returns c = simp (c .if1 .taken)
+
+returns-2 : tie.Need-returns-2
+returns-2 c =
+    let b = c .before .args .byte in
+    simp (le-leb 1 b (omega arith)) (leb·suc-suc b 254)
+
+pub is-pixel-spec : {M : Type 1} → statement M
+is-pixel-spec = tie.close (tie.spec returns returns-2)

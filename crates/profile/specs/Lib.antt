@@ -1,0 +1,4 @@
+pub mod Profile
+pub mod Layout
+pub mod LayoutLaws
+pub mod Places

@@ -1,0 +1,78 @@
+-- The numbers of refusals (01, the table under 'One answer for each mark'), each under its name.
+use Prim.Native.Nat.{ℕ}
+
+-- the mark's code is damaged
+abbrev pub damagedCode : ℕ
+damagedCode = 1
+
+-- the code is reserved, clean or repaired
+abbrev pub reservedCode : ℕ
+reservedCode = 2
+
+-- a line kind, and finish came before another mark
+abbrev pub unfinishedLine : ℕ
+unfinishedLine = 3
+
+-- a line's text has the wrong length
+abbrev pub wrongLength : ℕ
+wrongLength = 4
+
+-- a number byte is bad
+abbrev pub badNumber : ℕ
+badNumber = 5
+
+-- a body byte is not allowed
+abbrev pub badBody : ℕ
+badBody = 6
+
+-- the next mark's code is not end of line
+abbrev pub noEndOfLine : ℕ
+noEndOfLine = 7
+
+-- end code, and the mark before is absent or not a line kind
+abbrev pub endWithoutLine : ℕ
+endWithoutLine = 8
+
+-- the gap is not as laid out
+abbrev pub badGap : ℕ
+badGap = 9
+
+-- an input is above 15
+abbrev pub notANibble : ℕ
+notANibble = 10
+
+-- profile not 0 or 1, or a state failing its own stated test
+abbrev pub badState : ℕ
+badState = 11
+
+-- line buffer shorter than the body; or too little room to write
+abbrev pub noRoom : ℕ
+noRoom = 12
+
+-- kind not 1 to 5 (writer); kind above 5 (judge)
+abbrev pub badKind : ℕ
+badKind = 13
+
+-- number above 4095
+abbrev pub numberTooLarge : ℕ
+numberTooLarge = 14
+
+-- body of the wrong length
+abbrev pub wrongBodyLength : ℕ
+wrongBodyLength = 15
+
+-- body byte, mean or gap byte not allowed
+abbrev pub byteNotAllowed : ℕ
+byteNotAllowed = 16
+
+-- more than 255 null bytes asked for
+abbrev pub tooManyNulls : ℕ
+tooManyNulls = 17
+
+-- frame: number or kind is not the one due
+abbrev pub notTheLineDue : ℕ
+notTheLineDue = 18
+
+-- frame: a broken line
+abbrev pub brokenLine : ℕ
+brokenLine = 19

@@ -1,0 +1,42 @@
+// The numbers of refusals (paper 01's table), each under its name. specs/Refusal.antt has the same names for the definitions.
+
+// A mark's answer, 1 to 9.
+pub const DAMAGED_CODE: u8 = 1;
+
+pub const RESERVED_CODE: u8 = 2;
+
+pub const UNFINISHED_LINE: u8 = 3;
+
+pub const WRONG_LENGTH: u8 = 4;
+
+pub const BAD_NUMBER: u8 = 5;
+
+pub const BAD_BODY: u8 = 6;
+
+pub const NO_END_OF_LINE: u8 = 7;
+
+pub const END_WITHOUT_LINE: u8 = 8;
+
+pub const BAD_GAP: u8 = 9;
+
+// A call that is refused, and changes nothing.
+pub const NOT_A_NIBBLE: u8 = 10;
+
+pub const BAD_STATE: u8 = 11;
+
+pub const NO_ROOM: u8 = 12;
+
+pub const BAD_KIND: u8 = 13;
+
+pub const NUMBER_TOO_LARGE: u8 = 14;
+
+pub const WRONG_BODY_LENGTH: u8 = 15;
+
+pub const BYTE_NOT_ALLOWED: u8 = 16;
+
+pub const TOO_MANY_NULLS: u8 = 17;
+
+// A frame that breaks.
+pub const NOT_THE_LINE_DUE: u8 = 18;
+
+pub const BROKEN_LINE: u8 = 19;

@@ -1,0 +1,4 @@
+pub mod Answers
+pub mod Stream
+pub mod Written
+pub mod Starred
