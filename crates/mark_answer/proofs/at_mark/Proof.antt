@@ -1,0 +1,67 @@
+use denote.Ref.{now}
+use mathlib.Core.Option.{some}
+use Rattle.mark_answer.proofs.ByReading.{by-reading}
+use Rattle.mark_answer.specs.Judge.{judge}
+use borrow.Author.Needs.{needs}
+use Rattle.mark_answer.proofs.at_mark.Statement.{statement}
+use Rattle.mark_answer.proofs.at_mark.Tie as tie
+
+enum-told : tie.Need-enum-told
+enum-told c = search needs
+
+enum-known-mark : tie.Need-enum-known-mark
+enum-known-mark c = search needs
+
+read-requires : tie.Need-read-requires
+read-requires c κs = search needs
+
+enum-known-reading : tie.Need-enum-known-reading
+enum-known-reading c = search needs
+
+meaning-answer-requires : tie.Need-meaning-answer-requires
+meaning-answer-requires c κs = search needs
+
+enum-known-reading-2 : tie.Need-enum-known-reading-2
+enum-known-reading-2 c = search needs
+
+meaning-answer-requires-2 : tie.Need-meaning-answer-requires-2
+meaning-answer-requires-2 c κs = search needs
+
+enum-told-2 : tie.Need-enum-told-2
+enum-told-2 c = search needs
+
+returns : tie.Need-returns
+unfolding judge
+returns c = simp (c .enum-told .given .1)
+
+returns-2 : tie.Need-returns-2
+returns-2 c =
+    let a = c .before .before .before .before .before .before .before .before .args in
+    simp (by-reading (a .profile) (a .length) (a .kept) (now (a .body)) (some (a .next)) (c .before .before .before .before .before .before .mark .given .1) (c .before .before .before .before .read .ensures), c .before .before .reading .given .1, c .meaning-answer .ensures)
+
+returns-3 : tie.Need-returns-3
+returns-3 c =
+    let a = c .before .before .before .before .before .before .before .before .args in
+    simp (by-reading (a .profile) (a .length) (a .kept) (now (a .body)) (some (a .next)) (c .before .before .before .before .before .before .mark .given .1) (c .before .before .before .before .read .ensures), c .before .before .reading2 .given .1, c .meaning-answer2 .ensures)
+
+returns-4 : tie.Need-returns-4
+returns-4 c =
+    let a = c .before .before .before .before .before .before .args in
+    simp (by-reading (a .profile) (a .length) (a .kept) (now (a .body)) (some (a .next)) (c .before .before .before .before .mark .given .1) (c .before .before .read .ensures), c .enum-told2 .given .1)
+
+pub at-mark-spec : {M : Type 1} → statement M
+at-mark-spec =
+    tie.close
+    (tie.spec
+    enum-told
+    enum-known-mark
+    read-requires
+    enum-known-reading
+    meaning-answer-requires
+    enum-known-reading-2
+    meaning-answer-requires-2
+    enum-told-2
+    returns
+    returns-2
+    returns-3
+    returns-4)

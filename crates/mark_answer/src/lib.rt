@@ -1,0 +1,316 @@
+// What is kept of a mark's text, and the mark's answer from that (paper 01, 'One answer for each mark').
+//
+// In: nibbles of a text one after another, as they leave the reader's window. Out: when the next mark is complete, or at finish, the
+// open mark's answer, 1 to 9, a good gap or a line. Cost: constant for a nibble; a body is scanned only where a line is answered.
+ghost use mathlib.Core.Path.{_≡_};
+ghost use mathlib.Core.List.{[]};
+ghost use mathlib.Core.Option.{none, some};
+ghost use mathlib.Core.Bool.{Bool, _||_};
+ghost use Prim.Native.Nat.{_+_, _*_, _/_, _<_};
+ghost use Rattle.line_code.specs.LineCode.{readingOf};
+ghost use Rattle.stream.specs.Answers.{answerFor};
+ghost use Rattle.mark_answer.specs.Kept.{nothingKept, topPlace, byteAt, gapStart, strayAt, keptAt, bodyAt};
+ghost use Rattle.mark_answer.specs.Judge.{judgeBody, judgeLine, judgeGap, judgeEnd, judgeMeaning, judge};
+use line_code::Kind;
+use line_code::LineKind;
+use line_code::Meaning;
+use line_code::Reading;
+use line_number::Decoded;
+use profile::Profile;
+use stream::Answer;
+use stream::LineFacts;
+use stream::Mark;
+
+// The weight of the oldest nibble in a window of eight.
+pub const TOP_PLACE: u32 = 0x1000_0000;
+
+// What is kept of a text besides the body: the two bytes after the code (a line's number, or a gap's bytes), and whether a nibble where
+// a gap has nothing but F was another.
+pub struct Kept {
+    pub first: u8,
+    pub second: u8,
+    pub stray: bool,
+}
+
+impl Kept {
+    // Of an empty text.
+    pub fn nothing() -> Kept
+        ensures { λ r. ⌜ r ≡ nothingKept ⌝ }
+    {
+        Kept {
+            first: 0,
+            second: 0,
+            stray: false,
+        }
+    }
+
+    // With the oldest nibble of a window, which is the text's nibble at the place.
+    pub fn commit(self, profile: Profile, place: u32, window: u32) -> Kept
+        ensures { λ r. ⌜ r ≡ keptAt profile place (window / topPlace) self ⌝ }
+    {
+        let nibble = top(window);
+        let first = byte_at(2, place, nibble, self.first);
+        let second = byte_at(4, place, nibble, self.second);
+        let stray = stray_at(profile, place, nibble, self.stray);
+        Kept {
+            first,
+            second,
+            stray,
+        }
+    }
+}
+
+// The place from which a gap holds nothing but F.
+pub fn gap_start(profile: Profile) -> u32
+    ensures { λ r. ⌜ r ≡ gapStart profile ⌝ }
+{
+    match profile {
+        Profile::VV5404 => 2,
+        Profile::VV5300 => BODY_PLACE,
+    }
+}
+
+// Puts the oldest nibble of a window, which is the text's nibble at the place, into the body, if it belongs there.
+pub fn store(body: &mut [u8; 356], place: u32, window: u32)
+    ensures { λ _. ⌜ now (body .exit) ≡ bodyAt place (window / topPlace) (now (body .entry)) ⌝ }
+{
+    if place < BODY_PLACE {
+        return;
+    }
+    let i = ((place - BODY_PLACE) / 2) as usize;
+    if i < Profile::LONGEST {
+        let nibble = top(window);
+        if place % 2 == 0 {
+            body[i] = 16 * nibble;
+        } else {
+            body[i] = with_low(body[i], nibble);
+        }
+    }
+}
+
+// The open mark's answer when the next mark's code is complete. Its text has this many nibbles, the code's two among them.
+pub fn at_mark(
+    profile: Profile,
+    mark: Mark,
+    length: u32,
+    kept: Kept,
+    body: &[u8; 356],
+    next: u8,
+) -> Answer
+    ensures { λ r. ⌜ r ≡ answerFor (judge profile mark length kept (now (body .entry)) (some next)) ⌝ }
+{
+    match mark {
+        Mark::NoMark => Answer::Nothing,
+        Mark::Open(before, code) => {
+            let reading = line_code::read(code);
+            match reading {
+                Reading::Clean(m) => meaning_answer(
+                    profile,
+                    before,
+                    m,
+                    false,
+                    length,
+                    kept,
+                    body,
+                    next,
+                ),
+                Reading::Repaired(m) => meaning_answer(
+                    profile,
+                    before,
+                    m,
+                    true,
+                    length,
+                    kept,
+                    body,
+                    next,
+                ),
+                Reading::Damaged => Answer::Refused(refusal::DAMAGED_CODE),
+            }
+        }
+    }
+}
+
+// The open mark's answer at finish.
+pub fn at_finish(profile: Profile, mark: Mark, length: u32, kept: Kept) -> Answer
+    ensures { λ r. ⌜ r ≡ answerFor (judge profile mark length kept [] none) ⌝ }
+{
+    match mark {
+        Mark::NoMark => Answer::Nothing,
+        Mark::Open(before, code) => {
+            let reading = line_code::read(code);
+            match reading {
+                Reading::Clean(m) => last_answer(profile, before, m, length, kept),
+                Reading::Repaired(m) => last_answer(profile, before, m, length, kept),
+                Reading::Damaged => Answer::Refused(refusal::DAMAGED_CODE),
+            }
+        }
+    }
+}
+
+// The place in a text of a line's first body nibble, and of a profile 1 gap's first F.
+const BODY_PLACE: u32 = 6;
+
+// The oldest nibble of a window of eight.
+fn top(window: u32) -> u8
+    ensures { λ r. ⌜ (r ≡ window / topPlace) × (r < 16) ⌝ }
+{
+    (window / TOP_PLACE) as u8
+}
+
+// A byte with another low nibble.
+fn with_low(byte: u8, nibble: u8) -> u8
+    requires { ⌜ nibble < 16 ⌝ }
+    ensures { λ r. ⌜ r ≡ byte / 16 * 16 + nibble ⌝ }
+{
+    byte / 16 * 16 + nibble
+}
+
+// The byte whose nibbles are at the place from and the one after it.
+fn byte_at(from: u32, place: u32, nibble: u8, byte: u8) -> u8
+    requires { ⌜ (nibble < 16) × (from < 16) ⌝ }
+    ensures { λ r. ⌜ r ≡ byteAt from place nibble byte ⌝ }
+{
+    if place == from {
+        return 16 * nibble;
+    }
+    if place == from + 1 {
+        return with_low(byte, nibble);
+    }
+    byte
+}
+
+fn stray_at(profile: Profile, place: u32, nibble: u8, stray: bool) -> bool
+    ensures { λ r. ⌜ r ≡ strayAt profile place nibble stray ⌝ }
+{
+    if stray {
+        return true;
+    }
+    if gap_start(profile) <= place {
+        return nibble != 15;
+    }
+    false
+}
+
+fn meaning_answer(
+    profile: Profile,
+    before: LineKind,
+    m: Meaning,
+    repaired: bool,
+    length: u32,
+    kept: Kept,
+    body: &[u8; 356],
+    next: u8,
+) -> Answer
+    ensures { λ r. ⌜ r ≡ answerFor (judgeMeaning profile before m repaired length kept (now (body .entry)) (some next)) ⌝ }
+{
+    match m {
+        Meaning::EndOfLine => end_answer(profile, before, length, kept),
+        Meaning::Line(kind) => line_answer(profile, kind, repaired, length, kept, body, next),
+        Meaning::ReservedEC => Answer::Refused(refusal::RESERVED_CODE),
+        Meaning::ReservedF1 => Answer::Refused(refusal::RESERVED_CODE),
+    }
+}
+
+fn last_answer(profile: Profile, before: LineKind, m: Meaning, length: u32, kept: Kept) -> Answer
+    ensures { λ r. ⌜ ((repaired : Bool) → r ≡ answerFor (judgeMeaning profile before m repaired length kept [] none)) ⌝ }
+{
+    match m {
+        Meaning::EndOfLine => end_answer(profile, before, length, kept),
+        Meaning::Line(_) => Answer::Refused(refusal::UNFINISHED_LINE),
+        Meaning::ReservedEC => Answer::Refused(refusal::RESERVED_CODE),
+        Meaning::ReservedF1 => Answer::Refused(refusal::RESERVED_CODE),
+    }
+}
+
+// 8, or the gap's answer.
+fn end_answer(profile: Profile, before: LineKind, length: u32, kept: Kept) -> Answer
+    ensures { λ r. ⌜ r ≡ answerFor (judgeEnd profile before length kept) ⌝ }
+{
+    match before {
+        LineKind::NotLine => Answer::Refused(refusal::END_WITHOUT_LINE),
+        LineKind::LineOf(kind) => gap_answer(profile, kind, length, kept),
+    }
+}
+
+// 9, or the good gap.
+fn gap_answer(profile: Profile, kind: Kind, length: u32, kept: Kept) -> Answer
+    ensures { λ r. ⌜ r ≡ answerFor (judgeGap profile kind length kept) ⌝ }
+{
+    if kept.stray {
+        return Answer::Refused(refusal::BAD_GAP);
+    }
+    match profile {
+        Profile::VV5404 => Answer::Gap(Profile::NULL, Profile::NULL),
+        Profile::VV5300 => {
+            if length < BODY_PLACE {
+                return Answer::Refused(refusal::BAD_GAP);
+            }
+            let first = kept.first;
+            let second = kept.second;
+            if profile.gap_fits(kind, first, second) {
+                return Answer::Gap(first, second);
+            }
+            Answer::Refused(refusal::BAD_GAP)
+        }
+    }
+}
+
+// 4, 5, or by the body.
+fn line_answer(
+    profile: Profile,
+    kind: Kind,
+    repaired: bool,
+    length: u32,
+    kept: Kept,
+    body: &[u8; 356],
+    next: u8,
+) -> Answer
+    ensures { λ r. ⌜ r ≡ answerFor (judgeLine profile kind repaired length kept (now (body .entry)) (readingOf next)) ⌝ }
+{
+    let wanted = 2 * profile.body_length() + BODY_PLACE as usize;
+    if length as usize == wanted {
+        let d = line_number::decode(kept.first, kept.second);
+        return match d {
+            Decoded::Number(number) => body_answer(profile, kind, repaired, number, body, next),
+            Decoded::Bad => Answer::Refused(refusal::BAD_NUMBER),
+        };
+    }
+    Answer::Refused(refusal::WRONG_LENGTH)
+}
+
+// 6, 7, or the line.
+fn body_answer(
+    profile: Profile,
+    kind: Kind,
+    repaired: bool,
+    number: u16,
+    body: &[u8; 356],
+    next: u8,
+) -> Answer
+    ensures { λ r. ⌜ r ≡ answerFor (judgeBody profile kind repaired number (now (body .entry)) (readingOf next)) ⌝ }
+{
+    let n = profile.body_length();
+    let all: &[u8] = body;
+    if profile.body_fits(kind, &all[..n]) {
+        let reading = line_code::read(next);
+        if reading.is_end() {
+            let facts = LineFacts {
+                kind,
+                number,
+                repaired: either(repaired, reading.is_repaired()),
+            };
+            return Answer::Line(facts);
+        }
+        return Answer::Refused(refusal::NO_END_OF_LINE);
+    }
+    Answer::Refused(refusal::BAD_BODY)
+}
+
+fn either(a: bool, b: bool) -> bool
+    ensures { λ r. ⌜ r ≡ (a || b) ⌝ }
+{
+    if a {
+        return true;
+    }
+    b
+}

@@ -1,0 +1,35 @@
+-- The window as the code computes it: nibbles shifted out, and flushed.
+use mathlib.Core.Path.{_≡_, ap, sym, _∙_}
+use Prim.Native.Nat.{ℕ, zero, suc, _+_, _-_, _*_, _/_, _^_, _≤_, _<_}
+use native.Mathlib.Omega.{arith}
+use lib.Dec.{lit≤}
+use lib.Pow.{shr-shr}
+use Rattle.profile.specs.declared.Profile.{Profile}
+use Rattle.profile.specs.declared.Profile.the-variants.{VV5404, VV5300}
+use Rattle.mark_answer.specs.Kept.{gapStart}
+use Rattle.reader.specs.declared.Head.{Head}
+use Rattle.reader.specs.Reader.{aged, shifted, flushed}
+
+-- nibbles that leave at the new end are a shift
+pub aged-shift : (k w : ℕ) → aged k w ≡ w / 2 ^ (4 * k)
+aged-shift zero w = omega arith
+aged-shift (suc k) w = aged-shift k (w / 16) ∙ shr-shr w 4 (4 * k) ∙ ap (λ (n : ℕ). w / 2 ^ n) (omega arith)
+
+pub all-aged : (k w : ℕ) → k ≡ 8 → w < 4294967296 → 0 ≡ aged k w
+all-aged k w e h =
+    let z : 0 ≡ aged 8 w = omega arith in
+    z ∙ ap (λ (n : ℕ). aged n w) (sym e)
+
+pub flushed-next : (i : ℕ) (h : Head) → i < 8 → flushed (8 - i) h ≡ flushed (8 - (i + 1)) (shifted h 0)
+flushed-next i h l =
+    let e : 8 - i ≡ suc (8 - (i + 1)) = omega arith in
+    ap (λ (n : ℕ). flushed n h) e
+
+pub flushed-all : (i : ℕ) (h : Head) → 8 ≤ i → flushed (8 - i) h ≡ h
+flushed-all i h l =
+    let e : 8 - i ≡ 0 = omega arith in
+    ap (λ (n : ℕ). flushed n h) e
+
+pub gap-start-small : (p : Profile) → gapStart p ≤ 6
+gap-start-small VV5404 = lit≤ tt
+gap-start-small VV5300 = lit≤ tt

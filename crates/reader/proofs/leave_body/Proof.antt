@@ -1,0 +1,19 @@
+use borrow.Author.Tests.{le-leb, lt-leb}
+use Rattle.reader.specs.Reader.{leaveBody}
+use borrow.Author.Needs.{needs}
+use Rattle.reader.proofs.leave_body.Statement.{statement}
+use Rattle.reader.proofs.leave_body.Tie as tie
+
+returns : tie.Need-returns
+unfolding leaveBody
+returns c = simp (lt-leb _ _ (c .if1 .taken))
+
+store-requires : tie.Need-store-requires
+store-requires c κs = search needs
+
+returns-2 : tie.Need-returns-2
+unfolding leaveBody
+returns-2 c = simp (le-leb _ _ (c .before .before .before .if1 .left), c .store .ensures)
+
+pub leave-body-spec : {M : Type 1} → statement M
+leave-body-spec = tie.close (tie.spec returns store-requires returns-2)

@@ -1,0 +1,19 @@
+use borrow.Author.Tests.{le-leb, lt-leb}
+use Rattle.reader.specs.Reader.{leaveKept}
+use borrow.Author.Needs.{needs}
+use Rattle.reader.proofs.leave_kept.Statement.{statement}
+use Rattle.reader.proofs.leave_kept.Tie as tie
+
+returns : tie.Need-returns
+unfolding leaveKept
+returns c = simp (lt-leb _ _ (c .if1 .taken))
+
+commit-requires : tie.Need-commit-requires
+commit-requires c κs = search needs
+
+returns-2 : tie.Need-returns-2
+unfolding leaveKept
+returns-2 c = simp (le-leb _ _ (c .before .before .if1 .left), c .commit .ensures)
+
+pub leave-kept-spec : {M : Type 1} → statement M
+leave-kept-spec = tie.close (tie.spec returns commit-requires returns-2)

@@ -1,0 +1,15 @@
+use borrow.Author.Needs.{needs}
+use Rattle.reader.proofs.open_at.Statement.{statement}
+use Rattle.reader.proofs.open_at.Tie as tie
+
+kind-requires : tie.Need-kind-requires
+kind-requires c κs = search needs
+
+nothing-requires : tie.Need-nothing-requires
+nothing-requires c κs = search needs
+
+returns : tie.Need-returns
+returns c = simp (c .nothing .ensures, c .before .kind .ensures)
+
+pub open-at-spec : {M : Type 1} → statement M
+open-at-spec = tie.close (tie.spec kind-requires nothing-requires returns)

@@ -1,0 +1,57 @@
+use Rattle.reader.specs.Reader.{takeHead, takeOutcome}
+use borrow.Author.Needs.{needs}
+use Rattle.reader.proofs.take.Statement.{statement}
+use Rattle.reader.proofs.take.Tie as tie
+
+leave-body-requires : tie.Need-leave-body-requires
+leave-body-requires c κs = search needs
+
+slide-requires : tie.Need-slide-requires
+slide-requires c κs = search needs
+
+is-mark-requires : tie.Need-is-mark-requires
+is-mark-requires c κs = search needs
+
+cast-complete : tie.Need-cast-complete
+cast-complete c = search needs
+
+complete-requires : tie.Need-complete-requires
+complete-requires c κs = search needs
+
+same-length : tie.Need-same-length
+same-length c = search needs
+
+returns : tie.Need-returns
+unfolding takeHead takeOutcome
+returns c = (
+  simp (← c .before .before .before .before .before .before .before .slide .ensures, ← c .before .before .before .before .before .before .is-mark .ensures, c .before .before .before .before .before .if1 .taken, c .before .before .complete .ensures .0),
+  simp (← c .before .before .before .before .before .before .before .slide .ensures, ← c .before .before .before .before .before .before .is-mark .ensures, c .before .before .before .before .before .if1 .taken, c .before .before .complete .ensures .1, c .before .before .before .before .before .before .before .before .leave-body .ensures),
+  c .before .before .before .before .before .before .before .before .leave-body .ensures,
+  simp (← c .before .before .before .before .before .before .before .slide .ensures, ← c .before .before .before .before .before .before .is-mark .ensures, c .before .before .before .before .before .if1 .taken, c .before .before .complete .ensures .2, c .before .before .before .before .before .before .before .before .leave-body .ensures),
+)
+
+shift-requires : tie.Need-shift-requires
+shift-requires c κs = search needs
+
+returns-2 : tie.Need-returns-2
+unfolding takeHead takeOutcome
+returns-2 c = (
+  simp (← c .before .before .before .slide .ensures, ← c .before .before .is-mark .ensures, c .before .if1 .left, c .shift .ensures),
+  simp (← c .before .before .before .slide .ensures, ← c .before .before .is-mark .ensures, c .before .if1 .left),
+  c .before .before .before .before .leave-body .ensures,
+  simp (← c .before .before .before .slide .ensures, ← c .before .before .is-mark .ensures, c .before .if1 .left),
+)
+
+pub take-spec : {M : Type 1} → statement M
+take-spec =
+    tie.close
+    (tie.spec
+    leave-body-requires
+    slide-requires
+    is-mark-requires
+    cast-complete
+    complete-requires
+    same-length
+    returns
+    shift-requires
+    returns-2)

@@ -1,0 +1,140 @@
+-- The reader's bounded state, and what each call does to it. What it means is in Stream.antt; a law joins the two.
+use mathlib.Core.Bool.{Bool, true, _&&_, _||_, not, cond}
+use mathlib.Core.List.{List, []}
+use mathlib.Core.Option.{none, some}
+use Prim.Native.Nat.{ℕ, zero, suc, _+_, _-_, _*_, _/_, _%_}
+use lib.Dec.{eqb, leb, ltb}
+use lib.ListN.{replicate}
+use Rattle.refusal.specs.Refusal.{notANibble, badState, noRoom}
+use Rattle.profile.specs.declared.Profile.{Profile}
+use Rattle.profile.specs.declared.Profile.the-variants.{VV5404}
+use Rattle.profile.specs.declared.Numbered.{Numbered}
+use Rattle.profile.specs.declared.Numbered.the-variants as numbered
+use Rattle.profile.specs.Profile.{profileNumbered, bodyLength, longest}
+use Rattle.stream.specs.declared.Mark.{Mark}
+use Rattle.stream.specs.declared.Mark.the-variants.{NoMark, Open}
+use Rattle.stream.specs.Answers.{Outcome, nothing, refused}
+use Rattle.stream.specs.Stream.{kindAt}
+use Rattle.mark_answer.specs.declared.Kept.{Kept}
+use Rattle.mark_answer.specs.Kept.{topPlace, gapStart, nothingKept, keptAt, bodyAt}
+use Rattle.mark_answer.specs.Judge.{judge}
+use Rattle.reader.specs.declared.Head.{Head}
+use Rattle.reader.specs.declared.Reader.{Reader}
+
+-- a reader after a call, and what the call answered
+pub record Took : Type 0 where
+  pub reader : Reader
+  pub outcome : Outcome
+
+-- The window.
+
+-- F F F F 0 0 as a number, newest nibble lowest
+abbrev pub groupNumber : ℕ
+groupNumber = 0xFFFF00
+
+-- a window's newest two nibbles are the code of a mark
+unfoldable pub isMark : ℕ → Bool
+isMark w = eqb (w / 256) groupNumber
+
+-- a window with one nibble more, and its oldest gone
+unfoldable pub slide : ℕ → ℕ → ℕ
+slide w n = w % topPlace * 16 + n
+
+-- where the count of a text's nibbles stops: a longer text is wrong in any case
+abbrev pub countStop : ℕ
+countStop = 1000
+
+unfoldable pub bump : ℕ → ℕ
+bump n = cond (ltb n countStop) (n + 1) n
+
+-- a full window's oldest nibble leaves it: number count - 8 of the text
+unfoldable pub leaveKept : Head → Kept
+leaveKept h = cond (leb 8 (h .count)) (keptAt (h .profile) (h .count - 8) (h .window / topPlace) (h .kept)) (h .kept)
+
+unfoldable pub leaveBody : Head → List ℕ → List ℕ
+leaveBody h body = cond (leb 8 (h .count)) (bodyAt (h .count - 8) (h .window / topPlace) body) body
+
+-- one nibble, where no mark is complete
+abbrev pub shifted : Head → ℕ → Head
+shifted h n =
+    record { profile = h .profile; at = h .at; count = bump (h .count); window = slide (h .window) n; kept = leaveKept h }
+
+-- a mark with this code, just complete: its code is all of its text
+abbrev pub opened : Head → ℕ → Head
+opened h code = record { profile = h .profile; at = Open (kindAt (h .at)) code; count = 2; window = code; kept = nothingKept }
+
+-- The reader's own test (11): constant time, and it looks at no byte of the body.
+
+-- a window without its k newest nibbles: w / 16 ^ k
+abbrev pub aged : ℕ → ℕ → ℕ
+aged zero w = w
+aged (suc k) w = aged k (w / 16)
+
+-- while the code is still in the window it stands where the count says, and nothing before it
+abbrev pub windowFits : Mark → ℕ → ℕ → Bool
+windowFits NoMark c w = cond (leb c 8) (eqb (aged c w) 0) true
+windowFits (Open before code) c w =
+    leb 2 c && cond (leb c 8) (eqb (aged (c - 2) w) code) (cond (eqb c 9) (eqb (aged 7 w) (code % 16)) true)
+
+-- the count has not passed its stop; no mark is complete and not yet taken; the window fits; and a stray nibble is noted only where one
+-- can have left the window
+unfoldable pub passes : Head → Bool
+passes h =
+    leb (h .count) countStop
+    && (not (isMark (h .window))
+    && (windowFits (h .at) (h .count) (h .window) && (not (h .kept .stray) || ltb (gapStart (h .profile) + 8) (h .count))))
+
+-- The calls.
+
+abbrev pub freshReader : Profile → Reader
+freshReader p = record { head = record { profile = p; at = NoMark; count = 0; window = 0; kept = nothingKept }; body = replicate longest 0 }
+
+abbrev pub refusing : Reader → ℕ → Took
+refusing r n = record { reader = r; outcome = refused n }
+
+abbrev pub newFor : Numbered → Took
+newFor (numbered.Profile p) = record { reader = freshReader p; outcome = nothing }
+newFor numbered.NoProfile = refusing (freshReader VV5404) badState
+
+-- creation
+abbrev pub newOf : ℕ → Took
+newOf n = newFor (profileNumbered n)
+
+-- the state after a nibble that is taken, and what is answered: a mark is complete, or not. The text has count + 1 - 8 nibbles where it is
+unfoldable pub takeHead : Head → ℕ → Head
+takeHead h n = cond (isMark (slide (h .window) n)) (opened h (slide (h .window) n % 256)) (shifted h n)
+
+unfoldable pub takeOutcome : Head → List ℕ → ℕ → Outcome
+takeOutcome h body n =
+    cond (isMark (slide (h .window) n))
+    (judge (h .profile) (h .at) (h .count - 7) (leaveKept h) (leaveBody h body) (some (slide (h .window) n % 256)))
+    nothing
+
+abbrev pub taking : Reader → ℕ → Took
+taking r n =
+    record {
+      reader = record { head = takeHead (r .head) n; body = leaveBody (r .head) (r .body) };
+      outcome = takeOutcome (r .head) (r .body) n;
+    }
+
+-- feeding one nibble, with a buffer of so many bytes: 11, 10, 12, or the nibble is taken
+unfoldable pub feedOf : Reader → ℕ → ℕ → Took
+feedOf r n room =
+    cond (passes (r .head))
+    (cond (leb n 15) (cond (leb (bodyLength (r .head .profile)) room) (taking r n) (refusing r noRoom)) (refusing r notANibble))
+    (refusing r badState)
+
+-- the window's nibbles leave it, the oldest first: k zeros push them out
+abbrev pub flushed : ℕ → Head → Head
+flushed zero h = h
+flushed (suc k) h = flushed k (shifted h 0)
+
+-- finish: 11, or the last mark is answered with all of its text, and the reader is fresh
+unfoldable pub finishOf : Reader → Took
+finishOf r =
+    cond (passes (r .head))
+    (record {
+      reader = freshReader (r .head .profile);
+      outcome = judge (r .head .profile) (r .head .at) (r .head .count) (flushed 8 (r .head) .kept) [] none;
+    })
+    (refusing r badState)

@@ -1,0 +1,397 @@
+// The reader of the video bus, one nibble at a time (paper 01, 'One answer for each mark').
+//
+// In: nibbles 0 to 15, each with a lent line buffer; finish at the end. Out: beside the next reader, one answer for each mark, given
+// when the next mark's code is complete or at finish: a line (its body is then the front of the lent buffer), a good gap, or a refusal.
+// Refused, with reader and buffer as before: 11 a state that fails the reader's own test, 10 an input above 15, 12 a buffer shorter than
+// the body. Cost: constant for a nibble; a body is scanned and copied only where a line is answered.
+ghost use mathlib.Core.Path.{_≡_};
+ghost use Prim.Native.Nat.{_≤_, _<_, _-_};
+ghost use lib.ListN.{length};
+ghost use Rattle.line_code.specs.declared.LineKind.{LineKind};
+ghost use Rattle.profile.specs.Profile.{bodyLength};
+ghost use Rattle.stream.specs.declared.Mark.the-variants.{NoMark, Open};
+ghost use Rattle.stream.specs.Answers.{outcomeOf, answerFor, bufferAfter, refused};
+ghost use Rattle.reader.specs.Reader.{isMark, slide, bump, leaveKept, leaveBody, shifted, opened, aged, windowFits, passes, freshReader, newOf, takeHead, takeOutcome, feedOf, flushed, finishOf};
+ghost use Rattle.reader.specs.Parts.{readerOf, completeOutcome, copied};
+use mark_answer::Kept;
+use profile::Numbered;
+use profile::Profile;
+use stream::Answer;
+use stream::Mark;
+
+// All of a reader's state but the body.
+pub struct Head {
+    pub profile: Profile,
+    // The open mark.
+    pub at: Mark,
+    // The nibbles of its text so far, its code's two among them; held at 1000, which is longer than any text that is right.
+    pub count: u32,
+    // The text's eight newest nibbles, the newest lowest.
+    pub window: u32,
+    // What is kept of the text's older nibbles, which have left the window; their body bytes are in the reader's body.
+    pub kept: Kept,
+}
+
+// A reader: what it keeps goes in and comes back by value.
+pub struct Reader {
+    pub head: Head,
+    pub body: [u8; Profile::LONGEST],
+}
+
+// A reader after a call, and the call's answer.
+pub struct Fed {
+    pub reader: Reader,
+    pub answer: Answer,
+}
+
+impl Reader {
+    // A reader of the profile with this number. Refused: 11 if there is none, and then a fresh profile 0 reader comes back.
+    pub fn new(profile: u8) -> Fed
+        ensures { λ r. ⌜ (r .reader ≡ newOf profile .reader) × (r .answer ≡ answerFor (newOf profile .outcome)) ⌝ }
+    {
+        let found = Profile::numbered(profile);
+        match found {
+            Numbered::Profile(p) => {
+                let r = Reader::fresh(p);
+                let a = Answer::Nothing;
+                Fed {
+                    reader: r,
+                    answer: a,
+                }
+            }
+            Numbered::NoProfile => {
+                let r = Reader::fresh(Profile::VV5404);
+                let a = Answer::Refused(refusal::BAD_STATE);
+                Fed {
+                    reader: r,
+                    answer: a,
+                }
+            }
+        }
+    }
+
+    // A fresh reader: no mark, and no nibble.
+    pub fn fresh(profile: Profile) -> Reader
+        ensures { λ r. ⌜ r ≡ freshReader profile ⌝ }
+    {
+        let at = Mark::NoMark;
+        let kept = Kept::nothing();
+        let head = Head {
+            profile,
+            at,
+            count: 0,
+            window: 0,
+            kept,
+        };
+        Reader {
+            head,
+            body: [0; Profile::LONGEST],
+        }
+    }
+
+    // Takes one nibble. Refused: 11, 10, 12, in this order.
+    pub fn feed(self, nibble: u8, buffer: &mut [u8]) -> Fed
+        ensures { λ r. ⌜ (r .reader ≡ feedOf self nibble (length (now (buffer .entry))) .reader) × (outcomeOf (self .head .profile) (r .answer) (now (buffer .exit)) ≡ feedOf self nibble (length (now (buffer .entry))) .outcome) × (now (buffer .exit) ≡ bufferAfter (feedOf self nibble (length (now (buffer .entry))) .outcome) (now (buffer .entry))) ⌝ }
+    {
+        let h = self.head;
+        let mut body = self.body;
+        let t = step(h, &mut body, nibble, buffer);
+        let head = t.head;
+        let answer = t.answer;
+        let reader = Reader { head, body };
+        Fed { reader, answer }
+    }
+
+    // Answers the last mark, if there is one, and leaves a fresh reader. Refused: 11, and then the reader stays as it was.
+    pub fn finish(self) -> Fed
+        ensures { λ r. ⌜ (r .reader ≡ finishOf self .reader) × (r .answer ≡ answerFor (finishOf self .outcome)) ⌝ }
+    {
+        let h = self.head;
+        if h.passes() {
+            let g = flush(h);
+            let at = h.at;
+            let kept = g.kept;
+            let p = h.profile;
+            let answer = mark_answer::at_finish(p, at, h.count, kept);
+            let reader = Reader::fresh(p);
+            return Fed { reader, answer };
+        }
+        let answer = Answer::Refused(refusal::BAD_STATE);
+        Fed {
+            reader: self,
+            answer,
+        }
+    }
+}
+
+impl Head {
+    // The reader's own test: constant time, and no look at the body.
+    pub fn passes(self) -> bool
+        ensures { λ r. ⌜ r ≡ passes self ⌝ }
+    {
+        let count = self.count;
+        let window = self.window;
+        if COUNT_STOP < count {
+            return false;
+        }
+        if is_mark(window) {
+            return false;
+        }
+        let at = self.at;
+        if window_fits(at, count, window) {
+            let kept = self.kept;
+            if kept.stray {
+                let p = self.profile;
+                return mark_answer::gap_start(p) + WINDOW < count;
+            }
+            return true;
+        }
+        false
+    }
+}
+
+// Where the count of a text's nibbles stops.
+const COUNT_STOP: u32 = 1000;
+
+// The nibbles of a full window: a mark's F F F F 0 0 and its code.
+const WINDOW: u32 = 8;
+
+// F F F F 0 0 as a number, newest nibble lowest.
+const GROUP: u32 = 0xFFFF00;
+
+// A state after a nibble, but for the body, and the answer.
+struct Stepped {
+    head: Head,
+    answer: Answer,
+}
+
+// Feeding, with the body beside the rest of the state.
+fn step(h: Head, body: &mut [u8; 356], nibble: u8, buffer: &mut [u8]) -> Stepped
+    ensures { λ r. ⌜ (r .head ≡ feedOf (readerOf h (now (body .entry))) nibble (length (now (buffer .entry))) .reader .head) × (r .answer ≡ answerFor (feedOf (readerOf h (now (body .entry))) nibble (length (now (buffer .entry))) .outcome)) × (now (body .exit) ≡ feedOf (readerOf h (now (body .entry))) nibble (length (now (buffer .entry))) .reader .body) × (now (buffer .exit) ≡ bufferAfter (feedOf (readerOf h (now (body .entry))) nibble (length (now (buffer .entry))) .outcome) (now (buffer .entry))) ⌝ }
+{
+    if h.passes() {
+        if 15 < nibble {
+            return refuse(h, refusal::NOT_A_NIBBLE);
+        }
+        let p = h.profile;
+        if buffer.len() < p.body_length() {
+            return refuse(h, refusal::NO_ROOM);
+        }
+        return take(h, body, nibble, buffer);
+    }
+    refuse(h, refusal::BAD_STATE)
+}
+
+fn refuse(h: Head, number: u8) -> Stepped
+    ensures { λ r. ⌜ (r .head ≡ h) × (r .answer ≡ answerFor (refused number)) ⌝ }
+{
+    let answer = Answer::Refused(number);
+    Stepped { head: h, answer }
+}
+
+// Takes a nibble: the oldest of a full window leaves it, and a mark is complete or not.
+fn take(h: Head, body: &mut [u8; 356], nibble: u8, buffer: &mut [u8]) -> Stepped
+    requires { ⌜ (nibble < 16) × (bodyLength (h .profile) ≤ length (now buffer)) ⌝ }
+    ensures { λ r. ⌜ (r .head ≡ takeHead h nibble) × (r .answer ≡ answerFor (takeOutcome h (now (body .entry)) nibble)) × (now (body .exit) ≡ leaveBody h (now (body .entry))) × (now (buffer .exit) ≡ bufferAfter (takeOutcome h (now (body .entry)) nibble) (now (buffer .entry))) ⌝ }
+{
+    leave_body(h, body);
+    let newest = slide(h.window, nibble);
+    if is_mark(newest) {
+        return complete(h, body, (newest % 256) as u8, buffer);
+    }
+    let head = shift(h, nibble);
+    let answer = Answer::Nothing;
+    Stepped { head, answer }
+}
+
+// A mark with this code is complete: the mark before it is answered, and a line handed out.
+fn complete(h: Head, body: &[u8; 356], code: u8, buffer: &mut [u8]) -> Stepped
+    requires { ⌜ bodyLength (h .profile) ≤ length (now buffer) ⌝ }
+    ensures { λ r. ⌜ (r .head ≡ opened h code) × (r .answer ≡ answerFor (completeOutcome h (now (body .entry)) code)) × (now (buffer .exit) ≡ bufferAfter (completeOutcome h (now (body .entry)) code) (now (buffer .entry))) ⌝ }
+{
+    let p = h.profile;
+    let at = h.at;
+    let kept = leave_kept(h);
+    let answer = mark_answer::at_mark(p, at, text_length(h.count), kept, body, code);
+    hand_out(p, answer, body, buffer);
+    let head = open_at(h, code);
+    Stepped { head, answer }
+}
+
+// The length of the open mark's text when the next mark is complete: that mark's eight nibbles are not of it, and seven are counted.
+fn text_length(count: u32) -> u32
+    ensures { λ r. ⌜ r ≡ count - 7 ⌝ }
+{
+    if count < WINDOW {
+        return 0;
+    }
+    count - (WINDOW - 1)
+}
+
+// A line's body goes to the front of the buffer.
+fn hand_out(p: Profile, answer: Answer, body: &[u8; 356], buffer: &mut [u8])
+    requires { ⌜ bodyLength p ≤ length (now buffer) ⌝ }
+    ensures { λ _. ⌜ now (buffer .exit) ≡ bufferAfter (outcomeOf p answer (now (body .entry))) (now (buffer .entry)) ⌝ }
+{
+    let all: &[u8] = body;
+    match answer {
+        Answer::Nothing => {}
+        Answer::Line(_) => copy_front(buffer, all, p.body_length()),
+        Answer::Gap(_, _) => {}
+        Answer::Refused(_) => {}
+    }
+}
+
+// The first n bytes of one slice go to the front of another.
+fn copy_front(to: &mut [u8], from: &[u8], n: usize)
+    requires { ⌜ (n ≤ length (now from)) × (n ≤ length (now to)) ⌝ }
+    ensures { λ _. ⌜ now (to .exit) ≡ copied (now (to .entry)) (now (from .entry)) n ⌝ }
+{
+    let mut i: usize = 0;
+    while i < n {
+        to[i] = from[i];
+        i += 1;
+    }
+}
+
+// The window.
+
+// A window's newest two nibbles are the code of a mark.
+fn is_mark(window: u32) -> bool
+    ensures { λ r. ⌜ r ≡ isMark window ⌝ }
+{
+    window / 256 == GROUP
+}
+
+// A window with one nibble more, and its oldest gone.
+fn slide(window: u32, nibble: u8) -> u32
+    requires { ⌜ nibble < 16 ⌝ }
+    ensures { λ r. ⌜ r ≡ slide window nibble ⌝ }
+{
+    window % mark_answer::TOP_PLACE * 16 + nibble as u32
+}
+
+// A full window's oldest nibble leaves it.
+fn leave_kept(h: Head) -> Kept
+    ensures { λ r. ⌜ r ≡ leaveKept h ⌝ }
+{
+    let kept = h.kept;
+    if h.count < WINDOW {
+        return kept;
+    }
+    let p = h.profile;
+    kept.commit(p, h.count - WINDOW, h.window)
+}
+
+fn leave_body(h: Head, body: &mut [u8; 356])
+    ensures { λ _. ⌜ now (body .exit) ≡ leaveBody h (now (body .entry)) ⌝ }
+{
+    if h.count < WINDOW {
+        return;
+    }
+    mark_answer::store(body, h.count - WINDOW, h.window);
+}
+
+fn next_count(count: u32) -> u32
+    ensures { λ r. ⌜ r ≡ bump count ⌝ }
+{
+    if count < COUNT_STOP {
+        return count + 1;
+    }
+    count
+}
+
+// One nibble, where no mark is complete.
+fn shift(h: Head, nibble: u8) -> Head
+    requires { ⌜ nibble < 16 ⌝ }
+    ensures { λ r. ⌜ r ≡ shifted h nibble ⌝ }
+{
+    let profile = h.profile;
+    let at = h.at;
+    let count = next_count(h.count);
+    let window = slide(h.window, nibble);
+    let kept = leave_kept(h);
+    Head {
+        profile,
+        at,
+        count,
+        window,
+        kept,
+    }
+}
+
+// A mark with this code, just complete: its code is all of its text.
+fn open_at(h: Head, code: u8) -> Head
+    ensures { λ r. ⌜ r ≡ opened h code ⌝ }
+{
+    let profile = h.profile;
+    let before = h.at;
+    let kind = before.kind();
+    let at = Mark::Open(kind, code);
+    let kept = Kept::nothing();
+    Head {
+        profile,
+        at,
+        count: 2,
+        window: code as u32,
+        kept,
+    }
+}
+
+// The window's nibbles leave it, the oldest first.
+fn flush(h: Head) -> Head
+    ensures { λ r. ⌜ r ≡ flushed 8 h ⌝ }
+{
+    let mut g = h;
+    let mut i: u32 = 0;
+    while i < WINDOW {
+        g = shift(g, 0);
+        i += 1;
+    }
+    g
+}
+
+// While the code is still in the window it stands where the count says, and nothing before it.
+fn window_fits(at: Mark, count: u32, window: u32) -> bool
+    ensures { λ r. ⌜ r ≡ windowFits at count window ⌝ }
+{
+    match at {
+        Mark::NoMark => unmarked_fits(count, window),
+        Mark::Open(_, code) => marked_fits(code as u32, count, window),
+    }
+}
+
+fn unmarked_fits(count: u32, window: u32) -> bool
+    ensures { λ r. ⌜ r ≡ windowFits NoMark count window ⌝ }
+{
+    if WINDOW < count {
+        return true;
+    }
+    aged(count, window) == 0
+}
+
+fn marked_fits(code: u32, count: u32, window: u32) -> bool
+    ensures { λ r. ⌜ ((before : LineKind) → r ≡ windowFits (Open before code) count window) ⌝ }
+{
+    if count < 2 {
+        return false;
+    }
+    if count <= WINDOW {
+        return aged(count - 2, window) == code;
+    }
+    if count == WINDOW + 1 {
+        return aged(WINDOW - 1, window) == code % 16;
+    }
+    true
+}
+
+// A window without its k newest nibbles.
+fn aged(k: u32, window: u32) -> u32
+    requires { ⌜ k ≤ 8 ⌝ }
+    ensures { λ r. ⌜ r ≡ aged k window ⌝ }
+{
+    if k < WINDOW {
+        return window >> (4 * k);
+    }
+    0
+}

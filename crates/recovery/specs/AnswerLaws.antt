@@ -1,0 +1,94 @@
+-- The cases of a mark's answer, gone through once: what holds of each case holds of the answer of every mark and of every step.
+use mathlib.Core.Path.{_≡_, refl}
+use mathlib.Core.Bool.{Bool, true, false}
+use mathlib.Core.List.{List, [], _∷_}
+use mathlib.Core.Option.{Option, none, some}
+use Prim.Native.Nat.{ℕ, _+_, _*_, _<_}
+use native.Mathlib.Omega.{arith}
+use lib.Dec.{eqb}
+use lib.ListN.{length}
+use borrow.Author.Tests.{eqb-true}
+use Rattle.refusal.specs.Refusal.{damagedCode, reservedCode, unfinishedLine, wrongLength, badNumber, badBody, noEndOfLine, endWithoutLine, badGap, notANibble}
+use Rattle.line_code.specs.declared.Kind.{Kind}
+use Rattle.line_code.specs.declared.Meaning.{Meaning}
+use Rattle.line_code.specs.declared.Meaning.the-variants.{EndOfLine, Line, ReservedEC, ReservedF1}
+use Rattle.line_code.specs.declared.Reading.{Reading}
+use Rattle.line_code.specs.declared.Reading.the-variants.{Clean, Repaired, Damaged}
+use Rattle.line_code.specs.declared.LineKind.{LineKind}
+use Rattle.line_code.specs.declared.LineKind.the-variants.{NotLine, LineOf}
+use Rattle.line_code.specs.LineCode.{readingOf, isEnd}
+use Rattle.profile.specs.declared.Profile.{Profile}
+use Rattle.profile.specs.declared.Profile.the-variants.{VV5404, VV5300}
+use Rattle.profile.specs.Profile.{bodyLength}
+use Rattle.stream.specs.declared.Mark.{Mark}
+use Rattle.stream.specs.declared.Mark.the-variants.{NoMark, Open}
+use Rattle.stream.specs.Answers.{Outcome, nothing, line, gap, refused, require, bytesOnto, lineFrom, lineAnswer, turned, afterCode, twoBytesThenF, gapAnswer, byMeaning, byReading, answerOf}
+use Rattle.stream.specs.Stream.{State, Completed, not-yet, mark, detect, answerAt, advance, step}
+
+-- the next mark's code is end of line; false at finish
+abbrev pub endsAt : Option ℕ → Bool
+endsAt none = false
+endsAt (some c) = isEnd (readingOf c)
+
+-- P holds of each case but lines; a mark's refusal is below 10
+module _ (P : Outcome → Type 0) (if-nothing : P nothing) (if-gap : (a b : ℕ) → P (gap a b)) (if-refused : (n : ℕ) → n < notANibble → P (refused n)) where
+  require-cases : (t : Bool) (n : ℕ) (o : Outcome) → n < notANibble → (t ≡ true → P o) → P (require t n o)
+  unfolding require
+  require-cases true n o h f = f refl
+  require-cases false n o h f = if-refused n h
+
+  two-cases : (k : Kind) (w : List ℕ) → P (twoBytesThenF k w)
+  two-cases k [] = if-refused badGap (omega arith)
+  two-cases k (h ∷ []) = if-refused badGap (omega arith)
+  two-cases k (h ∷ l ∷ []) = if-refused badGap (omega arith)
+  two-cases k (h ∷ l ∷ h₂ ∷ []) = if-refused badGap (omega arith)
+  two-cases k (h ∷ l ∷ h₂ ∷ l₂ ∷ w) = require-cases _ badGap _ (omega arith) (λ _. if-gap _ _)
+
+  gap-cases : (p : Profile) (before : LineKind) (t : List ℕ) → P (gapAnswer p before t)
+  gap-cases p NotLine t = if-refused endWithoutLine (omega arith)
+  gap-cases VV5404 (LineOf k) t = require-cases _ badGap _ (omega arith) (λ _. if-gap _ _)
+  gap-cases VV5300 (LineOf k) t = two-cases k (afterCode (turned t []))
+
+  from-cases : (p : Profile) (k : Kind) (r : Bool) (bytes : Option (List ℕ)) (next : Reading)
+      → ((n : ℕ) (q : Bool) (body : List ℕ) → length body ≡ bodyLength p → isEnd next ≡ true → P (line k n q body)) → P (lineFrom p k r bytes next)
+  from-cases p k r none next f = if-refused wrongLength (omega arith)
+  from-cases p k r (some []) next f = if-refused wrongLength (omega arith)
+  from-cases p k r (some (c ∷ [])) next f = if-refused wrongLength (omega arith)
+  from-cases p k r (some (c ∷ a ∷ [])) next f = if-refused wrongLength (omega arith)
+  from-cases p k r (some (c ∷ a ∷ b ∷ body)) next f =
+      require-cases (eqb (length body) (bodyLength p)) wrongLength _ (omega arith) λ h.
+      require-cases _ badNumber _ (omega arith) λ _.
+      require-cases _ badBody _ (omega arith) λ _.
+      require-cases (isEnd next) noEndOfLine _ (omega arith) λ e.
+      f _ _ body (eqb-true (length body) (bodyLength p) h) e
+
+  -- a line's body is as long as the profile says, and its next code is end of line
+  abbrev pub IfLine : Profile → Option ℕ → Type 0
+  IfLine p next = (k : Kind) (n : ℕ) (r : Bool) (body : List ℕ) → length body ≡ bodyLength p → endsAt next ≡ true → P (line k n r body)
+
+  line-cases : (p : Profile) (k : Kind) (r : Bool) (t : List ℕ) (next : Option ℕ) → IfLine p next → P (lineAnswer p k r t next)
+  line-cases p k r t none f = if-refused unfinishedLine (omega arith)
+  line-cases p k r t (some c) f = from-cases p k r (bytesOnto t []) (readingOf c) (f k)
+
+  meaning-cases : (p : Profile) (before : LineKind) (m : Meaning) (r : Bool) (t : List ℕ) (next : Option ℕ) → IfLine p next → P (byMeaning p before m r t next)
+  meaning-cases p before EndOfLine r t next f = gap-cases p before t
+  meaning-cases p before (Line k) r t next f = line-cases p k r t next f
+  meaning-cases p before ReservedEC r t next f = if-refused reservedCode (omega arith)
+  meaning-cases p before ReservedF1 r t next f = if-refused reservedCode (omega arith)
+
+  reading-cases : (p : Profile) (before : LineKind) (c : Reading) (t : List ℕ) (next : Option ℕ) → IfLine p next → P (byReading p before c t next)
+  reading-cases p before (Clean m) t next f = meaning-cases p before m false t next f
+  reading-cases p before (Repaired m) t next f = meaning-cases p before m true t next f
+  reading-cases p before Damaged t next f = if-refused damagedCode (omega arith)
+
+  pub answer-cases : (p : Profile) (m : Mark) (t : List ℕ) (next : Option ℕ) → IfLine p next → P (answerAt p m t next)
+  unfolding answerOf
+  answer-cases p NoMark t next f = if-nothing
+  answer-cases p (Open before c) t next f = reading-cases p before (readingOf c) t next f
+
+  pub step-cases : (p : Profile) (s : State) (n : ℕ) → ((k : Kind) (m : ℕ) (r : Bool) (body : List ℕ) → length body ≡ bodyLength p → P (line k m r body)) → P (step p s n .outcome)
+  step-cases p s n f = go (detect (n ∷ s .text))
+    where
+      go : (d : Completed) → P (advance p (s .at) (n ∷ s .text) d .outcome)
+      go not-yet = if-nothing
+      go (mark x y before) = answer-cases p (s .at) before (some (16 * x + y)) (λ k m r body e _. f k m r body e)

@@ -1,0 +1,10 @@
+pub mod Calls
+pub mod Marks
+pub mod AnswerLaws
+pub mod Resync
+pub mod MarkFree
+pub mod ReadBack
+pub mod Damage
+pub mod DemandThree
+pub mod WrittenLaws
+pub mod Examples

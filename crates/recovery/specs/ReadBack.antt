@@ -1,0 +1,326 @@
+-- Demand 2, read-back: a line as written comes out once, as it was given to the writer, when its end code is complete; then its gap.
+-- The same line with one of the low seven bits of a code flipped comes out the same, marked repaired.
+use mathlib.Core.Path.{_≡_, refl, _∙_, ap, ap₂, sym}
+use mathlib.Core.Bool.{Bool, true, false, _&&_, _||_, true≢false}
+use mathlib.Core.List.{List, [], _∷_, _++_, append-nil}
+use mathlib.Core.Option.{Option, none, some}
+use Prim.Native.Nat.{ℕ, zero, suc, _+_, _/_, _%_, _≤_, _<_}
+use native.Mathlib.Omega.{arith}
+use lib.Dec.{eqb, leb}
+use lib.ListN.{length, replicate}
+use borrow.Author.Tests.{leb-true, leb-false, eqb-true, eqb-false, eq-eqb, ne-eqb}
+use Rattle.bits.specs.Bits.{flipped}
+use Rattle.bits.specs.Every.{and-left, and-right, and-both}
+use Rattle.refusal.specs.Refusal.{wrongLength, badNumber, badBody, noEndOfLine, badGap}
+use Rattle.line_code.specs.declared.Kind.{Kind}
+use Rattle.line_code.specs.declared.Kind.the-variants.{BL, BK, VL, SOF, EOF}
+use Rattle.line_code.specs.declared.Meaning.{Meaning}
+use Rattle.line_code.specs.declared.Meaning.the-variants.{EndOfLine, Line}
+use Rattle.line_code.specs.declared.Reading.{Reading}
+use Rattle.line_code.specs.declared.Reading.the-variants.{Clean, Repaired}
+use Rattle.line_code.specs.declared.LineKind.{LineKind}
+use Rattle.line_code.specs.declared.LineKind.the-variants.{LineOf}
+use Rattle.line_code.specs.LineCode.{cleanByte, readingOf, kindOf, isEnd, isRepaired, isDamaged}
+use Rattle.line_code.specs.LineCodeLaws.{clean-reading, one-flip}
+use Rattle.line_number.specs.LineNumber.{numberByte, numberGood, numberFrom}
+use Rattle.profile.specs.declared.Profile.{Profile}
+use Rattle.profile.specs.declared.Profile.the-variants.{VV5404, VV5300}
+use Rattle.profile.specs.Profile.{bodyLength, fillerByte, nullByte}
+use Rattle.profile.specs.Layout.{isPixel, fits, rules, gapFits, bothAre}
+use Rattle.stream.specs.declared.Mark.{Mark}
+use Rattle.stream.specs.declared.Mark.the-variants.{Open}
+use Rattle.stream.specs.Answers.{Outcome, nothing, line, gap, require, bytesOnto, lineFrom, turned, allF, afterCode, gapFrom, byMeaning, byReading, answerOf}
+use Rattle.stream.specs.Stream.{State, group, fresh, kindAt, answerAt, step, finish, run, outcomes}
+use Rattle.stream.specs.Written.{Sent, Writable, nibbles, markOf, startMark, content, tail, written}
+use Rattle.line_number.specs.LineNumberLaws.{byte-good, byte-value}
+use Rattle.profile.specs.LayoutLaws.{rules-length, fits-length}
+use Rattle.recovery.specs.Marks.{onto}
+use Rattle.recovery.specs.Resync.{stateWith, opened, byte-joined, Opens, resync}
+use Rattle.recovery.specs.MarkFree.{NoGroup, no-group-more, nothings, Lengthens, no-mark, strip-wrong, few-no-group, few-empty, few-up, few-pixel, lineText, few-line, no-inner-mark}
+
+-- Runs, piece by piece.
+
+pub run-append : (p : Profile) (s : State) (u v : List ℕ) → run p s (u ++ v) ≡ run p (run p s u) v
+run-append p s [] v = refl
+run-append p s (n ∷ u) v = run-append p (step p s n .state) u v
+
+pub outcomes-append : (p : Profile) (s : State) (u v : List ℕ) → outcomes p s (u ++ v) ≡ outcomes p s u ++ outcomes p (run p s u) v
+outcomes-append p s [] v = refl
+outcomes-append p s (n ∷ u) v = ap {B = List Outcome} (λ l. step p s n .outcome ∷ l) (outcomes-append p (step p s n .state) u v)
+
+-- the first seven nibbles of a mark bring nothing
+abbrev pub seven : List Outcome
+seven = nothing ∷ nothing ∷ nothing ∷ nothing ∷ nothing ∷ nothing ∷ nothing ∷ []
+
+-- then its last nibble brings an outcome
+abbrev pub sevenThen : Outcome → List Outcome
+sevenThen o = seven ++ (o ∷ [])
+
+-- a mark with the code c after a text t without F F F F 0 0: the mark before is answered with that text
+record MarkTold (p : Profile) (m : Mark) (t : List ℕ) (c : ℕ) : Type 0 where
+  state : run p (stateWith m t) (markOf c) ≡ opened (kindAt m) c
+  told : outcomes p (stateWith m t) (markOf c) ≡ sevenThen (answerAt p m t (some c))
+
+marked : (p : Profile) (m : Mark) (t : List ℕ) (c : ℕ) → NoGroup t → MarkTold p m t c
+marked p m t c h =
+    let w : List ℕ = 15 ∷ 15 ∷ 0 ∷ 0 ∷ c / 16 ∷ c % 16 ∷ [] in
+    let q : Lengthens p m t (15 ∷ 15 ∷ []) = no-mark p m t (15 ∷ 15 ∷ []) (no-group-more refl (no-group-more refl h)) in
+    record {
+      state = ap (λ (x : State). run p x w) (q .state) ∙ ap (λ (b : ℕ). stateWith (Open (kindAt m) b) (c % 16 ∷ c / 16 ∷ [])) (byte-joined c);
+      told =
+          outcomes-append p (stateWith m t) (15 ∷ 15 ∷ []) w
+          ∙ ap₂ _++_ (q .told) (ap (λ (x : State). outcomes p x w) (q .state))
+          ∙ ap (λ (b : ℕ). sevenThen (answerAt p m t (some b))) (byte-joined c);
+    }
+
+-- Code bytes.
+
+-- a meaning read clean, or repaired
+abbrev pub readAs : Bool → Meaning → Reading
+readAs false m = Clean m
+readAs true m = Repaired m
+
+read-no-end : (r : Bool) (k : Kind) → isEnd (readAs r (Line k)) ≡ false
+read-no-end true k = refl
+read-no-end false k = refl
+
+read-kind : (r : Bool) (k : Kind) → kindOf (readAs r (Line k)) ≡ LineOf k
+read-kind true k = refl
+read-kind false k = refl
+
+read-end : (r : Bool) → isEnd (readAs r EndOfLine) ≡ true
+read-end true = refl
+read-end false = refl
+
+read-repaired : (r : Bool) (m : Meaning) → isRepaired (readAs r m) ≡ r
+read-repaired true m = refl
+read-repaired false m = refl
+
+read-not-damaged : (r : Bool) (m : Meaning) → isDamaged (readAs r m) ≡ false
+read-not-damaged true m = refl
+read-not-damaged false m = refl
+
+by-read : (p : Profile) (before : LineKind) (r : Bool) (m : Meaning) (t : List ℕ) (next : Option ℕ)
+    → byReading p before (readAs r m) t next ≡ byMeaning p before m r t next
+by-read p before true m t next = refl
+by-read p before false m t next = refl
+
+-- FF, and every number that is no byte
+damaged-above : (c : ℕ) → 254 < c → isDamaged (readingOf c) ≡ true
+unfolding readingOf
+damaged-above c h = go (eqb c 255) refl
+  where
+    go : (b : Bool) → eqb c 255 ≡ b → isDamaged (readingOf c) ≡ true
+    go true e = ap (λ (x : ℕ). isDamaged (readingOf x)) (eqb-true c 255 e)
+    go false e = let n = eqb-false c 255 e in simp (ne-eqb (c / 128) 1 (λ e. omega arith))
+
+-- so a code byte that is read is neither
+pub read-small : (c : ℕ) (r : Bool) (m : Meaning) → readingOf c ≡ readAs r m → c ≤ 254
+read-small c r m h = go (leb c 254) refl
+  where
+    go : (b : Bool) → leb c 254 ≡ b → c ≤ 254
+    go true e = leb-true c 254 e
+    go false e = absurd (true≢false (sym (damaged-above c (leb-false c 254 e)) ∙ ap isDamaged h ∙ read-not-damaged r m))
+
+-- The line.
+
+passes : (t : Bool) (n : ℕ) (o : Outcome) → t ≡ true → require t n o ≡ o
+unfolding require
+passes true n o h = refl
+passes false n o h = absurd (true≢false (sym h))
+
+bytes-onto : (bs t rest : List ℕ) → bytesOnto (onto t (nibbles bs)) rest ≡ bytesOnto t (bs ++ rest)
+bytes-onto [] t rest = refl
+bytes-onto (b ∷ bs) t rest = bytes-onto bs (b % 16 ∷ b / 16 ∷ t) rest ∙ ap (λ (c : ℕ). bytesOnto t (c ∷ (bs ++ rest))) (byte-joined b)
+
+line-bytes : (c : ℕ) (s : Sent) → bytesOnto (lineText c s) [] ≡ some (c ∷ numberByte (s .number / 64) ∷ numberByte (s .number % 64) ∷ s .body)
+line-bytes c s =
+    bytes-onto (c ∷ numberByte (s .number / 64) ∷ numberByte (s .number % 64) ∷ s .body) [] []
+    ∙ ap {B = Option (List ℕ)} (λ l. some (c ∷ numberByte (s .number / 64) ∷ numberByte (s .number % 64) ∷ l)) (append-nil (s .body))
+
+-- a line as written, but with the code bytes given: with the clean ones it is `written s`
+abbrev pub writtenWith : ℕ → ℕ → Sent → List ℕ
+writtenWith start end s = markOf start ++ (content s ++ (markOf end ++ tail s))
+
+-- the text of the end mark when the line's gap and nulls have come in
+abbrev pub gapText : ℕ → Sent → List ℕ
+gapText c s = onto (c % 16 ∷ c / 16 ∷ []) (tail s)
+
+body-long : (p : Profile) (s : Sent) → Writable p s → eqb (length (s .body)) (bodyLength p) ≡ true
+body-long p s g = eq-eqb (length (s .body)) (bodyLength p) (fits-length (rules p (s .kind)) (s .body) (g .body-fits) ∙ rules-length p (s .kind))
+
+line-answer : (p : Profile) (s : Sent) → Writable p s → (before : LineKind) (start end : ℕ) (r q : Bool)
+    → readingOf start ≡ readAs r (Line (s .kind)) → readingOf end ≡ readAs q EndOfLine
+    → answerAt p (Open before start) (lineText start s) (some end) ≡ line (s .kind) (s .number) (r || q) (s .body)
+unfolding answerOf
+line-answer p s g before start end r q hs he =
+    let high : s .number / 64 < 64 = omega (arith, g .number-small) in
+    let low : s .number % 64 < 64 = omega arith in
+    let number : numberFrom (numberByte (s .number / 64)) (numberByte (s .number % 64)) ≡ s .number
+    = omega (arith, byte-value (s .number / 64) high, byte-value (s .number % 64) low) in
+    ap (λ x. byReading p before x (lineText start s) (some end)) hs
+    ∙ by-read p before r (Line (s .kind)) (lineText start s) (some end)
+    ∙ ap₂ (λ bs x. lineFrom p (s .kind) r bs x) (line-bytes start s) he
+    ∙ passes (eqb (length (s .body)) (bodyLength p)) wrongLength _ (body-long p s g)
+    ∙ passes (numberGood (numberByte (s .number / 64)) && numberGood (numberByte (s .number % 64))) badNumber _
+    (and-both (numberGood (numberByte (s .number / 64))) _ (byte-good (s .number / 64) high) (byte-good (s .number % 64) low))
+    ∙ passes (fits (rules p (s .kind)) (s .body)) badBody _ (g .body-fits)
+    ∙ passes (isEnd (readAs q EndOfLine)) noEndOfLine _ (read-end q)
+    ∙ ap₂ (λ n x. line (s .kind) n (r || x) (s .body)) number (read-repaired q EndOfLine)
+
+-- The gap.
+
+-- a nibble that is not 0 ends no group
+not-zero : (n : ℕ) {t : List ℕ} → 0 < n → NoGroup t → NoGroup (n ∷ t)
+not-zero n h g = no-group-more (strip-wrong 0 n _ (λ e. omega arith)) g
+
+no-group-null : (b : ℕ) {t : List ℕ} → b ≡ nullByte → NoGroup t → NoGroup (b % 16 ∷ b / 16 ∷ t)
+no-group-null b h g = not-zero (b % 16) (omega arith) (not-zero (b / 16) (omega arith) g)
+
+no-group-nulls : (k : ℕ) (t : List ℕ) → NoGroup t → NoGroup (onto t (nibbles (replicate k nullByte)))
+no-group-nulls zero t g = g
+no-group-nulls (suc k) t g = no-group-nulls k (15 ∷ 15 ∷ t) (no-group-null nullByte refl g)
+
+no-group-pixels : (a b c : ℕ) → a ≤ 254 → b ≤ 254 → c ≤ 254 → NoGroup (b % 16 ∷ b / 16 ∷ a % 16 ∷ a / 16 ∷ c % 16 ∷ c / 16 ∷ [])
+no-group-pixels a b c ha hb hc = few-no-group _ (few-up 3 (omega arith) (few-pixel b hb (few-pixel a ha (few-pixel c hc few-empty))))
+
+no-group-fillers : (a b c : ℕ) → bothAre fillerByte a b ≡ true → c ≤ 254 → NoGroup (b % 16 ∷ b / 16 ∷ a % 16 ∷ a / 16 ∷ c % 16 ∷ c / 16 ∷ [])
+no-group-fillers a b c h hc =
+    let ea = eqb-true a fillerByte (and-left (eqb a fillerByte) (eqb b fillerByte) h) in
+    let eb = eqb-true b fillerByte (and-right (eqb a fillerByte) (eqb b fillerByte) h) in
+    no-group-pixels a b c (omega arith) (omega arith) hc
+
+no-group-two : (p : Profile) (k : Kind) (a b c : ℕ) → gapFits p k a b ≡ true → c ≤ 254 → NoGroup (b % 16 ∷ b / 16 ∷ a % 16 ∷ a / 16 ∷ c % 16 ∷ c / 16 ∷ [])
+no-group-two VV5404 k a b c h hc =
+    no-group-null b (eqb-true b nullByte (and-right (eqb a nullByte) (eqb b nullByte) h))
+    (no-group-null a (eqb-true a nullByte (and-left (eqb a nullByte) (eqb b nullByte) h))
+    (few-no-group _ (few-up 3 (omega arith) (few-pixel c hc few-empty))))
+no-group-two VV5300 BL a b c h hc = no-group-fillers a b c h hc
+no-group-two VV5300 BK a b c h hc = no-group-fillers a b c h hc
+no-group-two VV5300 VL a b c h hc =
+    no-group-pixels a b c
+    (leb-true a 254 (and-right (leb 1 a) (leb a 254) (and-left (isPixel a) (isPixel b) h)))
+    (leb-true b 254 (and-right (leb 1 b) (leb b 254) (and-right (isPixel a) (isPixel b) h)))
+    hc
+no-group-two VV5300 SOF a b c h hc = no-group-fillers a b c h hc
+no-group-two VV5300 EOF a b c h hc = no-group-fillers a b c h hc
+
+no-group-gap : (p : Profile) (s : Sent) → Writable p s → (c : ℕ) → c ≤ 254 → NoGroup (gapText c s)
+no-group-gap p s g c h = no-group-nulls (s .nulls) _ (no-group-two p (s .kind) (s .gap-one) (s .gap-two) c (g .gap-fits) h)
+
+turned-onto : (t w rest : List ℕ) → turned (onto t w) rest ≡ turned t (w ++ rest)
+turned-onto t [] rest = refl
+turned-onto t (n ∷ w) rest = turned-onto (n ∷ t) w rest
+
+nulls-F : (k : ℕ) → allF (nibbles (replicate k nullByte)) ≡ true
+nulls-F zero = refl
+nulls-F (suc k) = nulls-F k
+
+null-F : (b : ℕ) (bs : List ℕ) → b ≡ nullByte → allF (nibbles bs) ≡ true → allF (nibbles (b ∷ bs)) ≡ true
+null-F b bs e h = and-both (eqb (b / 16) 15) _ (eq-eqb (b / 16) 15 (omega arith)) (and-both (eqb (b % 16) 15) _ (eq-eqb (b % 16) 15 (omega arith)) h)
+
+gap-from : (p : Profile) (k : Kind) (a b n : ℕ) → gapFits p k a b ≡ true → gapFrom p k (nibbles (a ∷ b ∷ replicate n nullByte)) ≡ gap a b
+gap-from VV5404 k a b n h =
+    let ea = eqb-true a nullByte (and-left (eqb a nullByte) (eqb b nullByte) h) in
+    let eb = eqb-true b nullByte (and-right (eqb a nullByte) (eqb b nullByte) h) in
+    let ns : List ℕ = replicate n nullByte in
+    passes (allF (nibbles (a ∷ b ∷ ns))) badGap _ (null-F a (b ∷ ns) ea (null-F b ns eb (nulls-F n))) ∙ ap₂ gap (sym ea) (sym eb)
+gap-from VV5300 k a b n h =
+    ap₂ (λ (x y : ℕ). require (gapFits VV5300 k x y && allF (nibbles (replicate n nullByte))) badGap (gap x y)) (byte-joined a) (byte-joined b)
+    ∙ passes (gapFits VV5300 k a b && allF (nibbles (replicate n nullByte))) badGap _ (and-both (gapFits VV5300 k a b) _ h (nulls-F n))
+
+gap-answer : (p : Profile) (s : Sent) → Writable p s → (end : ℕ) (q : Bool) → readingOf end ≡ readAs q EndOfLine → (next : Option ℕ)
+    → answerAt p (Open (LineOf (s .kind)) end) (gapText end s) next ≡ gap (s .gap-one) (s .gap-two)
+unfolding answerOf
+gap-answer p s g end q he next =
+    ap (λ x. byReading p (LineOf (s .kind)) x (gapText end s) next) he
+    ∙ by-read p (LineOf (s .kind)) q EndOfLine (gapText end s) next
+    ∙ ap (λ w. gapFrom p (s .kind) (afterCode w)) (turned-onto (end % 16 ∷ end / 16 ∷ []) (tail s) [])
+    ∙ ap (λ w. gapFrom p (s .kind) w) (append-nil (tail s))
+    ∙ gap-from p (s .kind) (s .gap-one) (s .gap-two) (s .nulls) (g .gap-fits)
+
+-- Both, from any state.
+
+-- what comes out of a line as written after its start mark: the line, with the end code's second nibble, and nothing else
+abbrev pub restTold : Sent → Bool → List Outcome
+restTold s repaired = nothings (content s) ++ (sevenThen (line (s .kind) (s .number) repaired (s .body)) ++ nothings (tail s))
+
+pub record ComesBack (p : Profile) (s : Sent) (start end : ℕ) (repaired : Bool) (x : State) : Type 0 where
+  -- no line comes out of the start mark
+  pub opens : Opens p x (markOf start) start
+  pub told : outcomes p x (writtenWith start end s) ≡ outcomes p x (markOf start) ++ restTold s repaired
+  pub state : run p x (writtenWith start end s) ≡ stateWith (Open (LineOf (s .kind)) end) (gapText end s)
+
+pub comes-back : (p : Profile) (s : Sent) → Writable p s → (start end : ℕ) (r q : Bool)
+    → readingOf start ≡ readAs r (Line (s .kind)) → readingOf end ≡ readAs q EndOfLine → (x : State) → ComesBack p s start end (r || q) x
+comes-back p s g start end r q hs he x =
+    let open₁ : Opens p x (markOf start) start = resync p x start (ap isEnd hs ∙ read-no-end r (s .kind)) in
+    let m = Open (open₁ .before) start in
+    let e = Open (LineOf (s .kind)) end in
+    let start-small = read-small start r (Line (s .kind)) hs in
+    let end-small = read-small end q EndOfLine he in
+    let one : Lengthens p m (start % 16 ∷ start / 16 ∷ []) (content s) = no-inner-mark p s g m start start-small in
+    let two : MarkTold p m (lineText start s) end = marked p m (lineText start s) end (few-no-group (lineText start s) (few-line p s g start start-small)) in
+    let three : Lengthens p e (end % 16 ∷ end / 16 ∷ []) (tail s) = no-mark p e (end % 16 ∷ end / 16 ∷ []) (tail s) (no-group-gap p s g end end-small) in
+    let open₂ : run p (stateWith m (lineText start s)) (markOf end) ≡ opened (LineOf (s .kind)) end
+    = two .state ∙ ap (λ (b : LineKind). opened b end) (ap kindOf hs ∙ read-kind r (s .kind)) in
+    record {
+      opens = open₁;
+      told =
+          outcomes-append p x (markOf start) (content s ++ (markOf end ++ tail s))
+          ∙ ap (λ (l : List Outcome). outcomes p x (markOf start) ++ l)
+          (ap (λ (y : State). outcomes p y (content s ++ (markOf end ++ tail s))) (open₁ .state)
+          ∙ outcomes-append p (opened (open₁ .before) start) (content s) (markOf end ++ tail s)
+          ∙ ap₂ _++_ (one .told)
+          (ap (λ (y : State). outcomes p y (markOf end ++ tail s)) (one .state)
+          ∙ outcomes-append p (stateWith m (lineText start s)) (markOf end) (tail s)
+          ∙ ap₂ _++_ (two .told ∙ ap sevenThen (line-answer p s g (open₁ .before) start end r q hs he)) (ap (λ (y : State). outcomes p y (tail s)) open₂ ∙ three .told)));
+      state =
+          run-append p x (markOf start) (content s ++ (markOf end ++ tail s))
+          ∙ ap (λ (y : State). run p y (content s ++ (markOf end ++ tail s))) (open₁ .state)
+          ∙ run-append p (opened (open₁ .before) start) (content s) (markOf end ++ tail s)
+          ∙ ap (λ (y : State). run p y (markOf end ++ tail s)) (one .state)
+          ∙ run-append p (stateWith m (lineText start s)) (markOf end) (tail s)
+          ∙ ap (λ (y : State). run p y (tail s)) open₂
+          ∙ three .state;
+    }
+
+-- From a fresh reader.
+
+-- the nibbles w, fed to a fresh reader, are read as the line s
+pub record ReadsBack (p : Profile) (s : Sent) (w : List ℕ) (repaired : Bool) : Type 0 where
+  -- only the second nibble of the end code brings an answer: the line
+  pub line-told : outcomes p fresh w ≡ nothings (startMark s) ++ restTold s repaired
+  -- the gap is told when the next mark's code is complete, whatever that is, or at finish
+  pub gap-at-mark : (code : ℕ) → outcomes p (run p fresh w) (markOf code) ≡ sevenThen (gap (s .gap-one) (s .gap-two))
+  pub gap-at-finish : finish p (run p fresh w) .outcome ≡ gap (s .gap-one) (s .gap-two)
+
+-- with any code bytes that are read as the line's kind and as end of line
+pub read-back-with : (p : Profile) (s : Sent) → Writable p s → (start end : ℕ) (r q : Bool)
+    → readingOf start ≡ readAs r (Line (s .kind)) → readingOf end ≡ readAs q EndOfLine → ReadsBack p s (writtenWith start end s) (r || q)
+read-back-with p s g start end r q hs he =
+    let b = comes-back p s g start end r q hs he fresh in
+    let e = Open (LineOf (s .kind)) end in
+    let answered = gap-answer p s g end q he in
+    record {
+      line-told = b .told;
+      gap-at-mark = λ code.
+          ap (λ (y : State). outcomes p y (markOf code)) (b .state)
+          ∙ marked p e (gapText end s) code (no-group-gap p s g end (read-small end q EndOfLine he)) .told
+          ∙ ap sevenThen (answered (some code));
+      gap-at-finish = ap (λ (y : State). finish p y .outcome) (b .state) ∙ answered none;
+    }
+
+-- one of the low seven bits of the start code flipped: the same line, marked repaired
+pub start-flipped : (p : Profile) (s : Sent) → Writable p s → (i : ℕ) → i < 7
+    → ReadsBack p s (writtenWith (flipped (cleanByte (Line (s .kind))) i) (cleanByte EndOfLine) s) true
+start-flipped p s g i h = read-back-with p s g _ _ true false (one-flip (Line (s .kind)) i h) (clean-reading EndOfLine)
+
+-- one of the low seven bits of the end code flipped: the same
+pub end-flipped : (p : Profile) (s : Sent) → Writable p s → (i : ℕ) → i < 7
+    → ReadsBack p s (writtenWith (cleanByte (Line (s .kind))) (flipped (cleanByte EndOfLine) i) s) true
+end-flipped p s g i h = read-back-with p s g _ _ false true (clean-reading (Line (s .kind))) (one-flip EndOfLine i h)
+
+-- whatever is written is read back: the same kind, number and body, not repaired; then the gap's two bytes
+pub read-back : (p : Profile) (s : Sent) → Writable p s → ReadsBack p s (written s) false
+read-back p s g = read-back-with p s g _ _ false false (clean-reading (Line (s .kind))) (clean-reading EndOfLine)

@@ -1,0 +1,121 @@
+-- Laws of lines as written: how many nibbles they have, and that each is 0 to 15.
+use mathlib.Core.Path.{_≡_, refl, _∙_, sym}
+use mathlib.Core.Bool.{true, false, true≢false}
+use mathlib.Core.List.{List, [], _∷_, _++_}
+use Prim.Native.Nat.{ℕ, zero, suc, _+_, _*_, _/_, _%_, _≤_}
+use native.Mathlib.Omega.{arith}
+use lib.Dec.{eqb, leb}
+use lib.ListN.{length, replicate, take, drop, length-append, length-replicate}
+use borrow.Author.Tests.{leb-true, eqb-true}
+use Rattle.bits.specs.Every.{and-left, and-right}
+use Rattle.line_code.specs.declared.Kind.{Kind}
+use Rattle.line_code.specs.declared.Kind.the-variants.{BL, BK, VL, SOF, EOF}
+use Rattle.line_code.specs.declared.Meaning.{Meaning}
+use Rattle.line_code.specs.declared.Meaning.the-variants.{EndOfLine, Line}
+use Rattle.line_code.specs.LineCode.{cleanByte}
+use Rattle.line_code.specs.LineCodeLaws.{clean-reading}
+use Rattle.line_number.specs.LineNumber.{numberByte}
+use Rattle.profile.specs.declared.Profile.{Profile}
+use Rattle.profile.specs.declared.Profile.the-variants.{VV5404, VV5300}
+use Rattle.profile.specs.declared.Rule.{Rule}
+use Rattle.profile.specs.declared.Rule.the-variants.{Filler, Pixel, Any}
+use Rattle.profile.specs.Profile.{bodyLength, fillerByte, nullByte}
+use Rattle.profile.specs.Layout.{isPixel, allows, fits, rules, bothAre, gapFits}
+use Rattle.stream.specs.Written.{Sent, Writable, AllWritable, no-lines, and-line, nibbles, markOf, endMark, tail, written, stream}
+use Rattle.line_number.specs.LineNumberLaws.{byte-small}
+use Rattle.profile.specs.LayoutLaws.{rules-length, fits-length}
+use Rattle.recovery.specs.Calls.{changed}
+use Rattle.recovery.specs.ReadBack.{read-small}
+
+-- Lengths.
+
+nibbles-length : (bs : List ℕ) → length (nibbles bs) ≡ 2 * length bs
+nibbles-length [] = refl
+nibbles-length (b ∷ bs) = omega (arith, nibbles-length bs)
+
+-- 736 + 2k nibbles or 360 + 2k
+pub written-length : (p : Profile) (s : Sent) → Writable p s → length (written s) ≡ 24 + 2 * bodyLength p + 2 * s .nulls
+written-length p s g =
+    let b : length (s .body) ≡ bodyLength p = fits-length (rules p (s .kind)) (s .body) (g .body-fits) ∙ rules-length p (s .kind) in
+    omega (
+      arith,
+      length-append (nibbles (s .body)) (endMark ++ tail s),
+      nibbles-length (s .body),
+      nibbles-length (replicate (s .nulls) nullByte),
+      length-replicate {A = ℕ} (s .nulls) nullByte,
+    )
+
+-- Nibbles.
+
+-- each is 0 to 15
+pub data AllNibbles : List ℕ → Type 0 where
+  no-nibble : AllNibbles []
+  and-nibble : {n : ℕ} {w : List ℕ} → n ≤ 15 → AllNibbles w → AllNibbles (n ∷ w)
+
+all-append : {u v : List ℕ} → AllNibbles u → AllNibbles v → AllNibbles (u ++ v)
+all-append no-nibble h = h
+all-append (and-nibble l g) h = and-nibble l (all-append g h)
+
+all-take : (n : ℕ) {w : List ℕ} → AllNibbles w → AllNibbles (take n w)
+all-take zero h = no-nibble
+all-take (suc n) no-nibble = no-nibble
+all-take (suc n) (and-nibble l h) = and-nibble l (all-take n h)
+
+all-drop : (n : ℕ) {w : List ℕ} → AllNibbles w → AllNibbles (drop n w)
+all-drop zero h = h
+all-drop (suc n) no-nibble = no-nibble
+all-drop (suc n) (and-nibble l h) = all-drop n h
+
+all-byte : (b : ℕ) {w : List ℕ} → b ≤ 255 → AllNibbles w → AllNibbles (b / 16 ∷ b % 16 ∷ w)
+all-byte b h g = let high : b / 16 ≤ 15 = omega arith in let low : b % 16 ≤ 15 = omega arith in and-nibble high (and-nibble low g)
+
+all-nulls : (k : ℕ) → AllNibbles (nibbles (replicate k nullByte))
+all-nulls zero = no-nibble
+all-nulls (suc k) = all-byte nullByte (omega arith) (all-nulls k)
+
+allowed-byte : (r : Rule) (b : ℕ) → allows r b ≡ true → b ≤ 255
+allowed-byte Filler b h = omega (arith, eqb-true b fillerByte h)
+allowed-byte Pixel b h = omega (arith, leb-true b 254 (and-right (leb 1 b) (leb b 254) h))
+allowed-byte Any b h = leb-true b 255 h
+
+all-body : (rs : List Rule) (bs : List ℕ) → fits rs bs ≡ true → AllNibbles (nibbles bs)
+all-body rs [] h = no-nibble
+all-body [] (b ∷ bs) h = absurd (true≢false (sym h))
+all-body (r ∷ rs) (b ∷ bs) h =
+    all-byte b (allowed-byte r b (and-left (allows r b) (fits rs bs) h)) (all-body rs bs (and-right (allows r b) (fits rs bs) h))
+
+gap-fillers : (a b : ℕ) → bothAre fillerByte a b ≡ true → (a ≤ 255) × (b ≤ 255)
+gap-fillers a b h =
+    (allowed-byte Filler a (and-left (eqb a fillerByte) (eqb b fillerByte) h), allowed-byte Filler b (and-right (eqb a fillerByte) (eqb b fillerByte) h))
+
+gap-bytes : (p : Profile) (k : Kind) (a b : ℕ) → gapFits p k a b ≡ true → (a ≤ 255) × (b ≤ 255)
+gap-bytes VV5404 k a b h =
+    (omega (arith, eqb-true a nullByte (and-left (eqb a nullByte) (eqb b nullByte) h)), omega (arith, eqb-true b nullByte (and-right (eqb a nullByte) (eqb b nullByte) h)))
+gap-bytes VV5300 BL a b h = gap-fillers a b h
+gap-bytes VV5300 BK a b h = gap-fillers a b h
+gap-bytes VV5300 VL a b h = (allowed-byte Pixel a (and-left (isPixel a) (isPixel b) h), allowed-byte Pixel b (and-right (isPixel a) (isPixel b) h))
+gap-bytes VV5300 SOF a b h = gap-fillers a b h
+gap-bytes VV5300 EOF a b h = gap-fillers a b h
+
+all-mark : (m : Meaning) → AllNibbles (markOf (cleanByte m))
+all-mark m =
+    let c = read-small (cleanByte m) false m (clean-reading m) in
+    all-byte 255 (omega arith) (all-byte 255 (omega arith) (all-byte 0 (omega arith) (all-byte (cleanByte m) (omega arith) no-nibble)))
+
+all-written : (p : Profile) (s : Sent) → Writable p s → AllNibbles (written s)
+all-written p s g =
+    let high = byte-small (s .number / 64) (omega (arith, g .number-small)) in
+    let low = byte-small (s .number % 64) (omega arith) in
+    let two = gap-bytes p (s .kind) (s .gap-one) (s .gap-two) (g .gap-fits) in
+    all-append (all-mark (Line (s .kind)))
+    (all-append
+    (all-byte (numberByte (s .number / 64)) (omega (arith, high)) (all-byte (numberByte (s .number % 64)) (omega (arith, low)) (all-body (rules p (s .kind)) (s .body) (g .body-fits))))
+    (all-append (all-mark EndOfLine) (all-byte (s .gap-one) (two .0) (all-byte (s .gap-two) (two .1) (all-nulls (s .nulls))))))
+
+all-stream : (p : Profile) {ss : List Sent} → AllWritable p ss → AllNibbles (stream ss)
+all-stream p no-lines = no-nibble
+all-stream p (and-line {s = s} g h) = all-append (all-written p s g) (all-stream p h)
+
+-- a clean stream with a stretch replaced by nibbles is made of nibbles
+pub all-changed : (p : Profile) {ss : List Sent} → AllWritable p ss → (i j : ℕ) {new : List ℕ} → AllNibbles new → AllNibbles (changed ss i j new)
+all-changed p h i j g = all-append (all-take i (all-stream p h)) (all-append g (all-drop j (all-stream p h)))

@@ -1,0 +1,14 @@
+pub mod Window
+pub mod Stored
+pub mod Sound
+pub mod Passes
+pub mod Refine
+pub mod ReaderCalls
+pub mod Agree
+pub mod Equivalent
+pub mod Reachable
+pub mod Used
+pub mod Interchangeable
+pub mod StandsFor
+pub mod Explained
+pub mod Examples

@@ -1,0 +1,290 @@
+-- Each state of the meaning in which no mark is just complete is equivalent to one that nibbles fed to a fresh reader lead to: its newest
+-- four nibbles are fed as they are, and before them each 0 after four F is fed as 1, so that no mark comes.
+use mathlib.Core.Path.{_≡_, refl, _∙_, ap, sym, subst}
+use mathlib.Core.Bool.{Bool, true, false, cond}
+use mathlib.Core.List.{List, [], _∷_, _++_}
+use mathlib.Core.Option.{Option, none}
+use Prim.Native.Nat.{ℕ, zero, suc, _+_, _*_, _/_, _%_, _<_}
+use native.Mathlib.Nat.{not-suc-le-zero, le-of-suc-le-suc}
+use native.Mathlib.Omega.{arith}
+use lib.Dec.{eqb, leb, ltb}
+use lib.ListN.{replicate}
+use borrow.Author.Tests.{eqb-true, eqb-false, ltb-true, ltb-false, leb-true, leb-false}
+use Rattle.line_code.specs.declared.Kind.{Kind}
+use Rattle.line_code.specs.declared.Kind.the-variants.{BL, BK, VL, SOF, EOF}
+use Rattle.line_code.specs.declared.Meaning.the-variants.{Line}
+use Rattle.line_code.specs.declared.LineKind.{LineKind}
+use Rattle.line_code.specs.declared.LineKind.the-variants.{NotLine, LineOf}
+use Rattle.line_code.specs.LineCode.{cleanByte, readingOf, meaningOf, kindNumbered, reservedOf}
+use Rattle.profile.specs.declared.Profile.{Profile}
+use Rattle.stream.specs.declared.Mark.{Mark}
+use Rattle.stream.specs.declared.Mark.the-variants.{NoMark, Open}
+use Rattle.stream.specs.Answers.{turned}
+use Rattle.stream.specs.Stream.{State, strip, group, Completed, not-yet, markIf, detect, advance, fresh, run}
+use Rattle.stream.specs.Written.{markOf}
+use Rattle.recovery.specs.Resync.{stateWith}
+use Rattle.recovery.specs.Marks.{strip-none}
+use Rattle.recovery.specs.MarkFree.{strip-wrong}
+use Rattle.recovery.specs.ReadBack.{run-append}
+use Rattle.refinement.specs.Window.{Small, small-none, small-more}
+use Rattle.refinement.specs.Passes.{Byte}
+use Rattle.refinement.specs.Agree.{AgreeOnto, at-base, onto-other, onto-F, onto-free}
+use Rattle.refinement.specs.Equivalent.{trailingF, baseOf, trailingFAt, below, above, Rests, one-rest, two-rests, rests-if, rests-F, Equivalent, the-same, texts-agree}
+
+-- Texts without 0 after four F.
+
+-- on a mark's code; f F at the newest end
+data NoZero (m : Mark) : ℕ → List ℕ → Type 0 where
+  zero-base : NoZero m (trailingFAt m) (baseOf m)
+  zero-other : (n f : ℕ) {t : List ℕ} → n < 15 → (n ≡ 0 → f < 4) → NoZero m f t → NoZero m 0 (n ∷ t)
+  zero-F : (f : ℕ) {t : List ℕ} → NoZero m f t → NoZero m (suc f) (15 ∷ t)
+
+-- the code alone has no more F than it counts as
+base-fewer : (m : Mark) (k : ℕ) → trailingFAt m < k → strip (replicate k 15) (baseOf m) ≡ none
+unfolding trailingF
+base-fewer m zero h = absurd (not-suc-le-zero h)
+base-fewer NoMark (suc k) h = refl
+base-fewer (Open before c) (suc zero) h = go (eqb c 255) (eqb (c % 16) 15) refl h
+  where
+    go : (x y : Bool) → eqb (c % 16) 15 ≡ y → cond x 2 (cond y 1 0) < 1 → strip (15 ∷ []) (c % 16 ∷ c / 16 ∷ []) ≡ none
+    go true y e g = absurd (omega arith)
+    go false true e g = absurd (omega arith)
+    go false false e g = strip-wrong 15 (c % 16) _ (λ z. eqb-false (c % 16) 15 e (sym z))
+base-fewer (Open before c) (suc (suc zero)) h = go (eqb c 255) (eqb (c % 16) 15) refl refl h
+  where
+    go : (x y : Bool) → eqb c 255 ≡ x → eqb (c % 16) 15 ≡ y → cond x 2 (cond y 1 0) < 2 → strip (15 ∷ 15 ∷ []) (c % 16 ∷ c / 16 ∷ []) ≡ none
+    go true y e f g = absurd (omega arith)
+    go false true e f g =
+        strip-none (eqb 15 (c % 16)) _ (strip-wrong 15 (c / 16) _ (λ z. eqb-false c 255 e (let k = eqb-true (c % 16) 15 f in omega arith)))
+    go false false e f g = strip-wrong 15 (c % 16) _ (λ z. eqb-false (c % 16) 15 f (sym z))
+base-fewer (Open before c) (suc (suc (suc k))) h = strip-none (eqb 15 (c % 16)) _ (strip-none (eqb 15 (c / 16)) _ refl)
+
+base-no-group : (m : Mark) → strip group (baseOf m) ≡ none
+base-no-group NoMark = refl
+base-no-group (Open before c) = strip-none (eqb 0 (c % 16)) _ (strip-none (eqb 0 (c / 16)) _ refl)
+
+base-no-group-more : (m : Mark) (n : ℕ) → strip group (n ∷ baseOf m) ≡ none
+base-no-group-more NoMark n = strip-none (eqb 0 n) _ refl
+base-no-group-more (Open before c) n = strip-none (eqb 0 n) _ (strip-none (eqb 0 (c % 16)) _ (strip-none (eqb 15 (c / 16)) _ refl))
+
+base-no-mark : (m : Mark) (n : ℕ) → detect (n ∷ baseOf m) ≡ not-yet
+base-no-mark NoMark n = refl
+base-no-mark (Open before c) n = ap (markIf (c % 16) n) (strip-none (eqb 0 (c / 16)) _ refl)
+
+fewer : {m : Mark} {f : ℕ} {t : List ℕ} (k : ℕ) → NoZero m f t → f < k → strip (replicate k 15) t ≡ none
+fewer {m} k zero-base h = base-fewer m k h
+fewer zero (zero-other n f g z q) h = absurd (not-suc-le-zero h)
+fewer (suc k) (zero-other n f g z q) h = strip-wrong 15 n _ (λ e. omega arith)
+fewer zero (zero-F f q) h = absurd (not-suc-le-zero h)
+fewer (suc k) (zero-F f q) h = fewer k q (le-of-suc-le-suc h)
+
+-- so there is no F F F F 0 0
+no-group-more : {m : Mark} {f : ℕ} {t : List ℕ} (n : ℕ) → NoZero m f t → strip group (n ∷ t) ≡ none
+no-group-more {m} n zero-base = base-no-group-more m n
+no-group-more n (zero-other x f {t} g z q) = strip-none (eqb 0 n) _ (go (eqb 0 x) refl)
+  where
+    go : (b : Bool) → eqb 0 x ≡ b → cond b (strip (replicate 4 15) t) none ≡ none
+    go true e = fewer 4 q (z (sym (eqb-true 0 x e)))
+    go false e = refl
+no-group-more n (zero-F f q) = strip-none (eqb 0 n) _ refl
+
+no-group : {m : Mark} {f : ℕ} {t : List ℕ} → NoZero m f t → strip group t ≡ none
+no-group {m} zero-base = base-no-group m
+no-group (zero-other x f g z q) = no-group-more x q
+no-group (zero-F f q) = no-group-more 15 q
+
+none-completed : {m : Mark} {f : ℕ} {t : List ℕ} (n : ℕ) → NoZero m f t → detect (n ∷ t) ≡ not-yet
+none-completed {m} n zero-base = base-no-mark m n
+none-completed n (zero-other x f g z q) = ap (markIf x n) (no-group q)
+none-completed n (zero-F f q) = ap (markIf 15 n) (no-group q)
+
+-- Nibbles that bring no mark.
+
+-- newest first, on a base
+data NoMarkIn (base : List ℕ) : List ℕ → Type 0 where
+  no-nibble : NoMarkIn base []
+  one-more : (n : ℕ) (v : List ℕ) → detect (n ∷ (v ++ base)) ≡ not-yet → NoMarkIn base v → NoMarkIn base (n ∷ v)
+
+run-lengthens : (p : Profile) (m : Mark) (base : List ℕ) {v : List ℕ} (w : List ℕ) → NoMarkIn base v
+    → run p (stateWith m base) (turned v w) ≡ run p (stateWith m (v ++ base)) w
+run-lengthens p m base w no-nibble = refl
+run-lengthens p m base w (one-more n v e s) =
+    run-lengthens p m base (n ∷ w) s ∙ ap (λ (d : Completed). run p (advance p m (n ∷ (v ++ base)) d .state) w) e
+
+-- the nibbles v with each 0 after four F replaced by 1
+record Replaced (m : Mark) (v : List ℕ) : Type 0 where
+  new : List ℕ
+  count : ℕ
+  agree : AgreeOnto (trailingFAt m) (baseOf m) count (v ++ baseOf m) (new ++ baseOf m)
+  no-zero : NoZero m count (new ++ baseOf m)
+  no-mark : NoMarkIn (baseOf m) new
+  small : Small new
+
+replace-one : (m : Mark) (n : ℕ) (v : List ℕ) → n < 16 → Replaced m v → Replaced m (n ∷ v)
+replace-one m n v h q = go (ltb n 15) (eqb n 0) (leb 4 (q .count)) refl refl refl
+  where
+    keep : n < 15 → (n ≡ 0 → q .count < 4) → Replaced m (n ∷ v)
+    keep l z =
+        record {
+          new = n ∷ q .new;
+          count = 0;
+          agree = onto-other n l (q .agree);
+          no-zero = zero-other n (q .count) l z (q .no-zero);
+          no-mark = one-more n (q .new) (none-completed n (q .no-zero)) (q .no-mark);
+          small = small-more h (q .small);
+        }
+
+    go : (x y z : Bool) → ltb n 15 ≡ x → eqb n 0 ≡ y → leb 4 (q .count) ≡ z → Replaced m (n ∷ v)
+    go false y z e f g =
+        let l = ltb-false n 15 e in
+        let k : 15 ≡ n = omega arith in
+        record {
+          new = n ∷ q .new;
+          count = suc (q .count);
+          agree =
+              subst (λ (x : ℕ). AgreeOnto (trailingFAt m) (baseOf m) (suc (q .count)) (x ∷ (v ++ baseOf m)) (x ∷ (q .new ++ baseOf m))) k
+              (onto-F (q .agree));
+          no-zero = subst (λ (x : ℕ). NoZero m (suc (q .count)) (x ∷ (q .new ++ baseOf m))) k (zero-F (q .count) (q .no-zero));
+          no-mark = one-more n (q .new) (none-completed n (q .no-zero)) (q .no-mark);
+          small = small-more h (q .small);
+        }
+    go true true true e f g =
+        record {
+          new = 1 ∷ q .new;
+          count = 0;
+          agree = onto-free (q .count) n 1 (leb-true 4 (q .count) g) (ltb-true n 15 e) (omega arith) (q .agree);
+          no-zero = zero-other 1 (q .count) (omega arith) (λ z. absurd (omega arith)) (q .no-zero);
+          no-mark = one-more 1 (q .new) (none-completed 1 (q .no-zero)) (q .no-mark);
+          small = small-more {n = 1} (omega arith) (q .small);
+        }
+    go true false z e f g = keep (ltb-true n 15 e) (λ k. absurd (eqb-false n 0 f k))
+    go true true false e f g = keep (ltb-true n 15 e) (λ k. leb-false 4 (q .count) g)
+
+replace : (m : Mark) {v : List ℕ} → Small v → Replaced m v
+replace m small-none =
+    record { new = []; count = trailingFAt m; agree = at-base; no-zero = zero-base; no-mark = no-nibble; small = small-none }
+replace m (small-more {n} {t = v} h s) = replace-one m n v h (replace m s)
+
+-- nibbles that bring no mark, and lead from the mark's code to an equivalent text
+record Leads (m : Mark) (v : List ℕ) : Type 0 where
+  new : List ℕ
+  no-mark : NoMarkIn (baseOf m) new
+  equivalent : Equivalent (stateWith m (v ++ baseOf m)) (stateWith m (new ++ baseOf m))
+  small : Small new
+
+still-none : {z : ℕ} {base : List ℕ} {o o₂ : Option (List ℕ)} (x y : ℕ) → Rests z base o o₂ → markIf x y o ≡ not-yet
+    → markIf x y o₂ ≡ not-yet
+still-none x y (one-rest o) e = e
+still-none x y (two-rests f q) e = absurd (let z : _≡_ {A = ℕ} 0 1 = cc in omega arith)
+
+-- the newest four nibbles stay
+leads : (m : Mark) {v : List ℕ} → Byte m → Small v → detect (v ++ baseOf m) ≡ not-yet → Leads m v
+leads m b small-none e = record { new = []; no-mark = no-nibble; equivalent = the-same _; small = small-none }
+leads m b (small-more {n = a} ha small-none) e =
+    record { new = a ∷ []; no-mark = one-more a [] e no-nibble; equivalent = the-same _; small = small-more ha small-none }
+leads m b (small-more {n = a} ha (small-more {n = c} hc small-none)) e =
+    record {
+      new = a ∷ c ∷ [];
+      no-mark = one-more a (c ∷ []) e (one-more c [] (base-no-mark m c) no-nibble);
+      equivalent = the-same _;
+      small = small-more ha (small-more hc small-none);
+    }
+leads m b (small-more {n = a} ha (small-more {n = c} hc (small-more {n = d} hd small-none))) e =
+    record {
+      new = a ∷ c ∷ d ∷ [];
+      no-mark =
+          one-more a (c ∷ d ∷ []) e
+          (one-more c (d ∷ []) (ap (markIf d c) (base-no-group m)) (one-more d [] (base-no-mark m d) no-nibble));
+      equivalent = the-same _;
+      small = small-more ha (small-more hc (small-more hd small-none));
+    }
+leads m b (small-more {n = a} ha (small-more {n = c} hc (small-more {n = d} hd (small-more {n = x} {t = u} hx s)))) e = go (replace m s)
+  where
+    go : Replaced m u → Leads m (a ∷ c ∷ d ∷ x ∷ u)
+    go q =
+        record {
+          new = a ∷ c ∷ d ∷ x ∷ q .new;
+          no-mark =
+              one-more a (c ∷ d ∷ x ∷ q .new) (still-none c a (rests-if (eqb 0 d) (rests-if (eqb 0 x) (rests-F 4 (q .agree)))) e)
+              (one-more c (d ∷ x ∷ q .new) (ap (markIf d c) (no-group-more x (q .no-zero)))
+              (one-more d (x ∷ q .new) (ap (markIf x d) (no-group (q .no-zero)))
+              (one-more x (q .new) (none-completed x (q .no-zero)) (q .no-mark))));
+          equivalent = texts-agree m _ _ b (above a 3 ha (above c 2 hc (above d 1 hd (above x 0 hx (below (q .count) (q .agree))))));
+          small = small-more ha (small-more hc (small-more hd (small-more hx (q .small))));
+        }
+
+-- To a mark with nothing after its code.
+
+-- a mark before it of the kind wanted, if any, then its own
+abbrev marksFor : LineKind → ℕ → List ℕ
+marksFor NotLine c = markOf c
+marksFor (LineOf k) c = markOf (cleanByte (Line k)) ++ markOf c
+
+abbrev nibblesTo : Mark → List ℕ
+nibblesTo NoMark = []
+nibblesTo (Open before c) = marksFor before c
+
+opened-at : (before : LineKind) (c : ℕ) (t : List ℕ) → stateWith (Open before (16 * (c / 16) + c % 16)) t ≡ stateWith (Open before c) t
+opened-at before c t = let e : 16 * (c / 16) + c % 16 ≡ c = omega arith in ap (λ (x : ℕ). stateWith (Open before x) t) e
+
+to-mark : (p : Profile) (m : Mark) → run p fresh (nibblesTo m) ≡ stateWith m (baseOf m)
+unfolding cleanByte readingOf meaningOf kindNumbered reservedOf
+to-mark p NoMark = refl
+to-mark p (Open NotLine c) = opened-at NotLine c (c % 16 ∷ c / 16 ∷ [])
+to-mark p (Open (LineOf BL) c) = opened-at (LineOf BL) c (c % 16 ∷ c / 16 ∷ [])
+to-mark p (Open (LineOf BK) c) = opened-at (LineOf BK) c (c % 16 ∷ c / 16 ∷ [])
+to-mark p (Open (LineOf VL) c) = opened-at (LineOf VL) c (c % 16 ∷ c / 16 ∷ [])
+to-mark p (Open (LineOf SOF) c) = opened-at (LineOf SOF) c (c % 16 ∷ c / 16 ∷ [])
+to-mark p (Open (LineOf EOF) c) = opened-at (LineOf EOF) c (c % 16 ∷ c / 16 ∷ [])
+
+pub small-append : {u w : List ℕ} → Small u → Small w → Small (u ++ w)
+small-append small-none t = t
+small-append (small-more h s) t = small-more h (small-append s t)
+
+mark-small : (c : ℕ) → c < 256 → Small (markOf c)
+mark-small c h =
+    let f : 15 < 16 = omega arith in
+    let z : 0 < 16 = omega arith in
+    small-more f (small-more f (small-more f (small-more f (small-more z (small-more z
+    (small-more {n = c / 16} (omega arith) (small-more {n = c % 16} (omega arith) small-none)))))))
+
+clean-small : (k : Kind) → cleanByte (Line k) < 256
+unfolding cleanByte
+clean-small BL = omega arith
+clean-small BK = omega arith
+clean-small VL = omega arith
+clean-small SOF = omega arith
+clean-small EOF = omega arith
+
+to-mark-small : (m : Mark) → Byte m → Small (nibblesTo m)
+to-mark-small NoMark h = small-none
+to-mark-small (Open NotLine c) h = mark-small c h
+to-mark-small (Open (LineOf k) c) h = small-append (mark-small _ (clean-small k)) (mark-small c h)
+
+small-turned : {v w : List ℕ} → Small v → Small w → Small (turned v w)
+small-turned small-none t = t
+small-turned (small-more h s) t = small-turned s (small-more h t)
+
+-- nibbles that lead a fresh reader to a state equivalent to s
+pub record Reachable (p : Profile) (s : State) : Type 0 where
+  pub nibbles : List ℕ
+  pub small : Small nibbles
+  pub equivalent : Equivalent s (run p fresh nibbles)
+
+pub reachable : (p : Profile) (m : Mark) {v : List ℕ} → Byte m → Small v → detect (v ++ baseOf m) ≡ not-yet
+    → Reachable p (stateWith m (v ++ baseOf m))
+reachable p m {v} b s e = go (leads m b s e)
+  where
+    go : Leads m v → Reachable p (stateWith m (v ++ baseOf m))
+    go q =
+        record {
+          nibbles = nibblesTo m ++ turned (q .new) [];
+          small = small-append (to-mark-small m b) (small-turned (q .small) small-none);
+          equivalent =
+              subst (λ (x : State). Equivalent (stateWith m (v ++ baseOf m)) x)
+              (sym
+              (run-append p fresh (nibblesTo m) (turned (q .new) [])
+              ∙ ap (λ (x : State). run p x (turned (q .new) [])) (to-mark p m)
+              ∙ run-lengthens p m (baseOf m) [] (q .no-mark)))
+              (q .equivalent);
+        }

@@ -1,0 +1,111 @@
+-- What an answer of a mark can be: a refusal 1 to 9, nothing, a gap, or a line whose body is as long as the profile's. So the answer and the
+-- lent buffer say all of it.
+use mathlib.Core.Path.{_≡_, refl, _∙_, ap}
+use mathlib.Core.Bool.{Bool, true, false, cond}
+use mathlib.Core.List.{List}
+use mathlib.Core.Option.{Option, none, some}
+use Prim.Native.Nat.{ℕ, _-_, _%_, _≤_}
+use native.Mathlib.Omega.{arith}
+use lib.ListN.{length, take, drop}
+use lib.Seq.{take-at}
+use Rattle.refusal.specs.Refusal.{damagedCode, reservedCode, unfinishedLine, wrongLength, badNumber, badBody, noEndOfLine, endWithoutLine, badGap}
+use Rattle.line_code.specs.declared.Kind.{Kind}
+use Rattle.line_code.specs.declared.Meaning.{Meaning}
+use Rattle.line_code.specs.declared.Meaning.the-variants.{EndOfLine, Line, ReservedEC, ReservedF1}
+use Rattle.line_code.specs.declared.Reading.{Reading}
+use Rattle.line_code.specs.declared.Reading.the-variants.{Clean, Repaired, Damaged}
+use Rattle.line_code.specs.declared.LineKind.{LineKind}
+use Rattle.line_code.specs.declared.LineKind.the-variants.{NotLine, LineOf}
+use Rattle.line_code.specs.LineCode.{readingOf}
+use Rattle.profile.specs.declared.Profile.{Profile}
+use Rattle.profile.specs.declared.Profile.the-variants.{VV5404, VV5300}
+use Rattle.profile.specs.Profile.{bodyLength}
+use Rattle.profile.specs.Layout.{rules, fits}
+use Rattle.stream.specs.declared.Mark.{Mark}
+use Rattle.stream.specs.declared.Mark.the-variants.{NoMark, Open}
+use Rattle.stream.specs.Answers.{Outcome, nothing, line, gap, refused, require, outcomeOf, answerFor, bufferAfter}
+use Rattle.mark_answer.specs.declared.Kept.{Kept}
+use Rattle.mark_answer.specs.Judge.{judgeLine, judgeGap, judgeEnd, judgeMeaning, judgeReading, judge}
+use Rattle.reader.specs.declared.Head.{Head}
+use Rattle.reader.specs.Reader.{isMark, slide, leaveKept, leaveBody, takeOutcome}
+use Rattle.profile.specs.LayoutLaws.{rules-length, fits-length}
+
+pub data Sound (p : Profile) : Outcome → Type 0 where
+  sound-nothing : Sound p nothing
+  sound-line : {k : Kind} {n : ℕ} {r : Bool} {body : List ℕ} → length body ≡ bodyLength p → Sound p (line k n r body)
+  sound-gap : {a b : ℕ} → Sound p (gap a b)
+  sound-refused : (n : ℕ) → 1 ≤ n → n ≤ 9 → Sound p (refused n)
+
+require-sound : {p : Profile} (t : Bool) (n : ℕ) (o : Outcome) → 1 ≤ n → n ≤ 9 → (t ≡ true → Sound p o) → Sound p (require t n o)
+unfolding require
+require-sound true n o g h f = f refl
+require-sound false n o g h f = sound-refused n g h
+
+line-sound : (p : Profile) (k : Kind) (r : Bool) (len : ℕ) (t : Kept) (body : List ℕ) (next : Reading) → Sound p (judgeLine p k r len t body next)
+line-sound p k r len t body next =
+    require-sound _ wrongLength _ (omega arith) (omega arith) λ _.
+    require-sound _ badNumber _ (omega arith) (omega arith) λ _.
+    require-sound (fits (rules p k) (take (bodyLength p) body)) badBody _ (omega arith) (omega arith) λ h.
+    require-sound _ noEndOfLine _ (omega arith) (omega arith) λ _.
+    sound-line (fits-length (rules p k) (take (bodyLength p) body) h ∙ rules-length p k)
+
+gap-sound : (p q : Profile) (k : Kind) (len : ℕ) (t : Kept) → Sound p (judgeGap q k len t)
+gap-sound p VV5404 k len t = require-sound _ badGap _ (omega arith) (omega arith) (λ _. sound-gap)
+gap-sound p VV5300 k len t = require-sound _ badGap _ (omega arith) (omega arith) (λ _. sound-gap)
+
+end-sound : (p : Profile) (before : LineKind) (len : ℕ) (t : Kept) → Sound p (judgeEnd p before len t)
+end-sound p NotLine len t = sound-refused endWithoutLine (omega arith) (omega arith)
+end-sound p (LineOf k) len t = gap-sound p p k len t
+
+meaning-sound : (p : Profile) (before : LineKind) (m : Meaning) (r : Bool) (len : ℕ) (t : Kept) (body : List ℕ) (next : Option ℕ)
+    → Sound p (judgeMeaning p before m r len t body next)
+meaning-sound p before EndOfLine r len t body next = end-sound p before len t
+meaning-sound p before (Line k) r len t body none = sound-refused unfinishedLine (omega arith) (omega arith)
+meaning-sound p before (Line k) r len t body (some next) = line-sound p k r len t body (readingOf next)
+meaning-sound p before ReservedEC r len t body next = sound-refused reservedCode (omega arith) (omega arith)
+meaning-sound p before ReservedF1 r len t body next = sound-refused reservedCode (omega arith) (omega arith)
+
+reading-sound : (p : Profile) (before : LineKind) (d : Reading) (len : ℕ) (t : Kept) (body : List ℕ) (next : Option ℕ)
+    → Sound p (judgeReading p before d len t body next)
+reading-sound p before (Clean m) len t body next = meaning-sound p before m false len t body next
+reading-sound p before (Repaired m) len t body next = meaning-sound p before m true len t body next
+reading-sound p before Damaged len t body next = sound-refused damagedCode (omega arith) (omega arith)
+
+-- whatever is kept
+pub judge-sound : (p : Profile) (m : Mark) (len : ℕ) (t : Kept) (body : List ℕ) (next : Option ℕ) → Sound p (judge p m len t body next)
+unfolding judge
+judge-sound p NoMark len t body next = sound-nothing
+judge-sound p (Open before code) len t body next = reading-sound p before (readingOf code) len t body next
+
+-- and so of the reader, in any state
+pub take-sound : (h : Head) (body : List ℕ) (n : ℕ) → Sound (h .profile) (takeOutcome h body n)
+unfolding takeOutcome
+take-sound h body n = go (isMark w)
+  where
+    w : ℕ
+    w = slide (h .window) n
+
+    go : (b : Bool) → Sound (h .profile) (cond b (judge (h .profile) (h .at) (h .count - 7) (leaveKept h) (leaveBody h body) (some (w % 256))) nothing)
+    go true = judge-sound (h .profile) (h .at) (h .count - 7) (leaveKept h) (leaveBody h body) (some (w % 256))
+    go false = sound-nothing
+
+-- the number of a refusal
+abbrev pub refusalOf : Outcome → ℕ
+refusalOf nothing = 0
+refusalOf (line k n r body) = 0
+refusalOf (gap a b) = 0
+refusalOf (refused n) = n
+
+pub at-most-nine : {p : Profile} {o : Outcome} → Sound p o → refusalOf o ≤ 9
+at-most-nine sound-nothing = omega arith
+at-most-nine (sound-line h) = omega arith
+at-most-nine sound-gap = omega arith
+at-most-nine (sound-refused n g h) = h
+
+-- an outcome is read back from the program's answer and the lent buffer
+pub told : {p : Profile} {o : Outcome} → Sound p o → (buffer : List ℕ) → outcomeOf p (answerFor o) (bufferAfter o buffer) ≡ o
+told sound-nothing buffer = refl
+told {p} (sound-line {k} {n} {r} {body} h) buffer =
+    ap {B = Outcome} (λ (w : List ℕ). line k n r w) (take-at body (drop (length body) buffer) (bodyLength p) h)
+told sound-gap buffer = refl
+told (sound-refused n g h) buffer = refl
