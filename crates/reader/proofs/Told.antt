@@ -1,5 +1,5 @@
--- An answer and the lent buffer tell the outcome: a line's body is the front of the reader's body, and after the call the front of the
--- buffer. Both hold because a line's body fits its rules, and so has the profile's length.
+-- An answer and a list tell the outcome: before a line is handed out the reader's body, after it the lent buffer, whose front is then
+-- the line's body. That body fits its rules, so it has the profile's length.
 use mathlib.Core.Path.{_≡_, refl, _∙_}
 use mathlib.Core.Bool.{Bool, true, false, _||_, cond}
 use mathlib.Core.List.{List}

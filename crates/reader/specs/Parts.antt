@@ -2,16 +2,15 @@
 use mathlib.Core.List.{List, _++_}
 use mathlib.Core.Option.{some}
 use Prim.Native.Nat.{ℕ, _-_}
-use lib.ListN.{take, drop}
+use lib.ListN.{length, take, drop}
 use Rattle.stream.specs.Answers.{Outcome}
 use Rattle.mark_answer.specs.Judge.{judge}
 use Rattle.reader.specs.declared.Head.{Head}
-use Rattle.reader.specs.declared.Reader.{Reader}
-use Rattle.reader.specs.Reader.{leaveKept}
+use Rattle.reader.specs.Reader.{Took, leaveKept, feedOf}
 
--- a reader from its two parts
-abbrev pub readerOf : Head → List ℕ → Reader
-readerOf h body = record { head = h; body = body }
+-- feeding a reader whose parts are these, with this buffer
+abbrev pub fedOf : Head → List ℕ → ℕ → List ℕ → Took
+fedOf h body n buffer = feedOf (record { head = h; body = body }) n (length buffer)
 
 -- what the open mark is answered when a mark with this code is complete, with the body as it then is
 abbrev pub completeOutcome : Head → List ℕ → ℕ → Outcome

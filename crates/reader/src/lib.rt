@@ -12,7 +12,7 @@ ghost use Rattle.profile.specs.Profile.{bodyLength};
 ghost use Rattle.stream.specs.declared.Mark.the-variants.{NoMark, Open};
 ghost use Rattle.stream.specs.Answers.{outcomeOf, answerFor, bufferAfter, refused};
 ghost use Rattle.reader.specs.Reader.{isMark, slide, bump, leaveKept, leaveBody, shifted, opened, aged, windowFits, passes, freshReader, newOf, takeHead, takeOutcome, feedOf, flushed, finishOf};
-ghost use Rattle.reader.specs.Parts.{readerOf, completeOutcome, copied};
+ghost use Rattle.reader.specs.Parts.{fedOf, completeOutcome, copied};
 use mark_answer::Kept;
 use profile::Numbered;
 use profile::Profile;
@@ -167,7 +167,7 @@ struct Stepped {
 
 // Feeding, with the body beside the rest of the state.
 fn step(h: Head, body: &mut [u8; 356], nibble: u8, buffer: &mut [u8]) -> Stepped
-    ensures { λ r. ⌜ (r .head ≡ feedOf (readerOf h (now (body .entry))) nibble (length (now (buffer .entry))) .reader .head) × (r .answer ≡ answerFor (feedOf (readerOf h (now (body .entry))) nibble (length (now (buffer .entry))) .outcome)) × (now (body .exit) ≡ feedOf (readerOf h (now (body .entry))) nibble (length (now (buffer .entry))) .reader .body) × (now (buffer .exit) ≡ bufferAfter (feedOf (readerOf h (now (body .entry))) nibble (length (now (buffer .entry))) .outcome) (now (buffer .entry))) ⌝ }
+    ensures { λ r. ⌜ (r .head ≡ fedOf h (now (body .entry)) nibble (now (buffer .entry)) .reader .head) × (r .answer ≡ answerFor (fedOf h (now (body .entry)) nibble (now (buffer .entry)) .outcome)) × (now (body .exit) ≡ fedOf h (now (body .entry)) nibble (now (buffer .entry)) .reader .body) × (now (buffer .exit) ≡ bufferAfter (fedOf h (now (body .entry)) nibble (now (buffer .entry)) .outcome) (now (buffer .entry))) ⌝ }
 {
     if h.passes() {
         if 15 < nibble {

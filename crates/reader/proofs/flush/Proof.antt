@@ -28,12 +28,12 @@ loop-less c = search needs
 loop-again : tie.Need-loop-again Inv-loop μ-loop
 loop-again c =
     let l = c .before .before .loop in
-    (omega arith, simp (c .shift .ensures) (sym (flushed-next (l .i) (l .g) (c .before .loop-test .taken)) ∙ l .inv .1))
+    (omega arith, simp (c .shift .ensures) (sym (flushed-next (l .i) (l .g) (omega arith)) ∙ l .inv .1))
 
 returns : tie.Need-returns Inv-loop μ-loop
 returns c =
     let l = c .before .loop in
-    sym (flushed-all (l .i) (l .g) (c .loop-test .left)) ∙ l .inv .1
+    sym (flushed-all (l .i) (l .g) (omega arith)) ∙ l .inv .1
 
 pub flush-spec : {M : Type 1} → statement M
 flush-spec =

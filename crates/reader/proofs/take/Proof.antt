@@ -23,24 +23,24 @@ same-length c = search needs
 
 returns : tie.Need-returns
 unfolding takeHead takeOutcome
-returns c = (
-  simp (← c .before .before .before .before .before .before .before .slide .ensures, ← c .before .before .before .before .before .before .is-mark .ensures, c .before .before .before .before .before .if1 .taken, c .before .before .complete .ensures .0),
-  simp (← c .before .before .before .before .before .before .before .slide .ensures, ← c .before .before .before .before .before .before .is-mark .ensures, c .before .before .before .before .before .if1 .taken, c .before .before .complete .ensures .1, c .before .before .before .before .before .before .before .before .leave-body .ensures),
-  c .before .before .before .before .before .before .before .before .leave-body .ensures,
-  simp (← c .before .before .before .before .before .before .before .slide .ensures, ← c .before .before .before .before .before .before .is-mark .ensures, c .before .before .before .before .before .if1 .taken, c .before .before .complete .ensures .2, c .before .before .before .before .before .before .before .before .leave-body .ensures),
-)
+returns c =
+    let s = c .before .before .before .before .before .before .before .slide .ensures in
+    let m = c .before .before .before .before .before .before .is-mark .ensures in
+    let t = c .before .before .before .before .before .if1 .taken in
+    let e = c .before .before .complete .ensures in
+    let b = c .before .before .before .before .before .before .before .before .leave-body .ensures in
+    (simp (← s, ← m, t, e .0), simp (← s, ← m, t, e .1, b), b, simp (← s, ← m, t, e .2, b))
 
 shift-requires : tie.Need-shift-requires
 shift-requires c κs = search needs
 
 returns-2 : tie.Need-returns-2
 unfolding takeHead takeOutcome
-returns-2 c = (
-  simp (← c .before .before .before .slide .ensures, ← c .before .before .is-mark .ensures, c .before .if1 .left, c .shift .ensures),
-  simp (← c .before .before .before .slide .ensures, ← c .before .before .is-mark .ensures, c .before .if1 .left),
-  c .before .before .before .before .leave-body .ensures,
-  simp (← c .before .before .before .slide .ensures, ← c .before .before .is-mark .ensures, c .before .if1 .left),
-)
+returns-2 c =
+    let s = c .before .before .before .slide .ensures in
+    let m = c .before .before .is-mark .ensures in
+    let t = c .before .if1 .left in
+    (simp (← s, ← m, t, c .shift .ensures), simp (← s, ← m, t), c .before .before .before .before .leave-body .ensures, simp (← s, ← m, t))
 
 pub take-spec : {M : Type 1} → statement M
 take-spec =

@@ -1,0 +1,5 @@
+pub mod Frame
+pub mod Places
+pub mod Calls
+pub mod Agree
+pub mod FrameLaws

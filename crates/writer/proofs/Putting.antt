@@ -1,0 +1,57 @@
+-- Bytes put one after another are put at once; and what is put at the front of a buffer.
+use mathlib.Core.Path.{_≡_, refl, sym, ap, subst, _∙_}
+use mathlib.Core.List.{List, [], _∷_, _++_}
+use Prim.Native.Nat.{ℕ, suc, _+_, _*_, _≤_, _<_}
+use native.Mathlib.Nat.{add-zero, add-suc, suc-add, zero-add}
+use native.Mathlib.Numerals.{add-one}
+use native.Mathlib.Omega.{arith}
+use lib.ListN.{length, getD, set, take, drop, replicate, length-append, replicate-append-replicate}
+use lib.Seq.{sets, sets-eq, take-suc, take-all, take-at}
+use Rattle.stream.specs.Written.{nibbles}
+use Rattle.writer.specs.WriterLaws.{nibbles-length, nibbles-append}
+use Rattle.writer.specs.Parts.{Put}
+
+sets-append : (u v b : List ℕ) (i : ℕ) → sets (sets b i u) (i + length u) v ≡ sets b i (u ++ v)
+sets-append [] v b i = ap (λ (k : ℕ). sets b k v) (add-zero i)
+sets-append (a ∷ u) v b i =
+    ap (λ (k : ℕ). sets (sets (set b i a) (suc i) u) k v) (add-suc i (length u) ∙ sym (suc-add i (length u)))
+    ∙ sets-append u v (set b i a) (suc i)
+
+pub put-none : (b : List ℕ) (at : ℕ) → Put [] b at at b
+put-none b at = record { place = omega arith; kept = refl; stored = refl }
+
+module _ {b c d : List ℕ} {at m n : ℕ} where
+  pub put-then : {u v : List ℕ} → Put u b at m c → Put v c m n d → Put (u ++ v) b at n d
+  put-then {u} {v} p q =
+      let e : m ≡ at + length (nibbles u) = omega (arith, nibbles-length u) in
+      record {
+        place = omega (arith, length-append u v);
+        kept = q .kept ∙ p .kept;
+        stored =
+            q .stored
+            ∙ ap (λ (l : List ℕ). sets l m (nibbles v)) (p .stored)
+            ∙ ap (λ (k : ℕ). sets (sets b at (nibbles u)) k (nibbles v)) e
+            ∙ sets-append (nibbles u) (nibbles v) b at
+            ∙ ap (sets b at) (sym (nibbles-append u v));
+      }
+
+  pub put-next : (bytes : List ℕ) (i : ℕ) → i < length bytes → Put (take i bytes) b at m c → Put (getD bytes i 0 ∷ []) c m n d → Put (take (i + 1) bytes) b at n d
+  put-next bytes i h p q =
+      subst (λ (u : List ℕ). Put u b at n d) (sym (ap (λ (k : ℕ). take k bytes) (add-one i) ∙ take-suc bytes i 0 h)) (put-then p q)
+
+  pub put-again : (x i : ℕ) → Put (replicate i x) b at m c → Put (x ∷ []) c m n d → Put (replicate (i + 1) x) b at n d
+  put-again x i p q = subst (λ (u : List ℕ). Put u b at n d) (replicate-append-replicate i 1 x) (put-then p q)
+
+pub put-all : {b d : List ℕ} {at n : ℕ} (bytes : List ℕ) (i : ℕ) → length bytes ≤ i → Put (take i bytes) b at n d → Put bytes b at n d
+put-all {b} {d} {at} {n} bytes i h = subst (λ (u : List ℕ). Put u b at n d) (take-all i bytes h)
+
+-- bytes put at the front of a buffer that has room for them
+module _ {bytes b d : List ℕ} {n : ℕ} (p : Put bytes b 0 n d) (room : 2 * length bytes ≤ length b) where
+  pub put-front : d ≡ nibbles bytes ++ drop (length (nibbles bytes)) b
+  put-front =
+      p .stored
+      ∙ sets-eq (nibbles bytes) b 0 (omega (arith, nibbles-length bytes))
+      ∙ ap (λ (k : ℕ). nibbles bytes ++ drop k b) (zero-add (length (nibbles bytes)))
+
+  pub take-front : take n d ≡ nibbles bytes
+  take-front = ap (take n) put-front ∙ take-at (nibbles bytes) _ n (omega (arith, nibbles-length bytes))

@@ -1,0 +1,22 @@
+use borrow.Author.Needs.{needs}
+use Rattle.writer.proofs.has_bad_byte.Statement.{statement}
+use Rattle.writer.proofs.has_bad_byte.Tie as tie
+
+body-fits-requires : tie.Need-body-fits-requires
+body-fits-requires c κs = search needs
+
+gap-fits-requires : tie.Need-gap-fits-requires
+gap-fits-requires c κs = search needs
+
+returns : tie.Need-returns
+returns c = simp (← c .before .before .before .body-fits .ensures, c .before .before .if1 .taken, ← c .before .gap-fits .ensures, c .if2 .taken)
+
+returns-2 : tie.Need-returns-2
+returns-2 c = simp (← c .before .before .before .body-fits .ensures, c .before .before .if1 .taken, ← c .before .gap-fits .ensures, c .if2 .left)
+
+returns-3 : tie.Need-returns-3
+returns-3 c = simp (← c .before .body-fits .ensures, c .if1 .left)
+
+pub has-bad-byte-spec : {M : Type 1} → statement M
+has-bad-byte-spec =
+    tie.close (tie.spec body-fits-requires gap-fits-requires returns returns-2 returns-3)

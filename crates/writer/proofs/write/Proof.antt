@@ -1,0 +1,177 @@
+use mathlib.Core.Path.{_≡_, sym, _∙_}
+use mathlib.Core.Bool.{true}
+use Prim.Native.Nat.{ℕ, _≤_}
+use native.Mathlib.Omega.{arith}
+use borrow.Author.Tests.{not-true, not-false}
+use lib.ListN.{length}
+use Rattle.line_number.specs.declared.Encoded.the-variants.{Bytes}
+use Rattle.line_number.specs.LineNumber.{encodeOf, greatest}
+use Rattle.profile.specs.declared.Profile.{Profile}
+use Rattle.profile.specs.Profile.{bodyLength}
+use Rattle.profile.specs.LayoutLaws.{body-small}
+use Rattle.stream.specs.Written.{Sent, Writable}
+use Rattle.writer.specs.Writer.{Output, writeOf}
+use Rattle.writer.specs.WriterLaws.{LineAnswer, number-too-large, wrong-body-length, byte-not-allowed, too-many-nulls, no-room, line, sent, bad-profile, bad-kind, of-line, answer-only, written-length, bytesFit, writable}
+use Rattle.writer.proofs.Answering.{encoded-small, encoded-not, refuses, writes}
+use borrow.Author.Needs.{needs}
+use Rattle.writer.proofs.write.Statement.{statement}
+use Rattle.writer.proofs.write.Tie as tie
+
+-- once profile and kind are known: them, what is given, the room, and what an answer to a line comes to
+abbrev profileAt : tie.After-known-told2 → Profile
+profileAt c = c .before .before .before .before .before .p .given .0 .0
+
+abbrev sentAt : tie.After-known-told2 → Sent
+sentAt c =
+    let a = c .before .before .before .before .before .before .before .before .before .before .args in
+    sent (c .before .k .given .0 .0) (a .number) (a .body .now) (a .first) (a .second) (a .nulls)
+
+abbrev roomAt : tie.After-known-told2 → ℕ
+roomAt c = length (c .before .before .before .before .before .before .before .before .before .before .args .buffer .now)
+
+abbrev answerAt : tie.After-known-told2 → Output
+answerAt c =
+    let a = c .before .before .before .before .before .before .before .before .before .before .args in
+    writeOf (a .profile) (a .kind) (a .number) (a .body .now) (a .first) (a .second) (a .nulls) (roomAt c)
+
+answers : (c : tie.After-known-told2) (o : Output) → LineAnswer (profileAt c) (sentAt c) (roomAt c) o → answerAt c ≡ o
+answers c o l =
+    answer-only _ _ _ _ _ _ _ _ o
+    (of-line (profileAt c) (sentAt c .kind) (sym (c .before .before .before .before .before .before .before .numbered .ensures) ∙ c .before .before .before .before .before .p .given .1) (sym (c .before .before .before .numbered2 .ensures) ∙ c .before .k .given .1) l)
+
+-- once the number's bytes are known
+abbrev Encodes : tie.After-known-told3 → Type 0
+Encodes c = encodeOf (sentAt (c .before .before .before .before) .number) ≡ Bytes (c .before .high .given .0 .0) (c .before .high .given .0 .1 .0)
+
+encodes : (c : tie.After-known-told3) → Encodes c
+encodes c = sym (c .before .before .before .encode .ensures) ∙ c .before .high .given .1
+
+small : (c : tie.After-known-told3) → sentAt (c .before .before .before .before) .number ≤ greatest
+small c = encoded-small _ _ _ (encodes c)
+
+length-right : (c : tie.Else1) → length (sentAt (c .before .before .before .before .before .before) .body) ≡ bodyLength (profileAt (c .before .before .before .before .before .before))
+length-right c = c .if1 .left ∙ c .before .body-length .ensures
+
+bytes-fit : (c : tie.Else2) → bytesFit (profileAt (c .before .before .before .before .before .before .before .before)) (sentAt (c .before .before .before .before .before .before .before .before)) ≡ true
+bytes-fit c = not-false _ (sym (c .before .has-bad-byte .ensures) ∙ c .if2 .left)
+
+may : (c : tie.Else3) → Writable (profileAt (c .before .before .before .before .before .before .before .before .before)) (sentAt (c .before .before .before .before .before .before .before .before .before))
+may c = writable _ _ (small (c .before .before .before .before .before)) (bytes-fit (c .before)) (c .if3 .left)
+
+numbered-requires : tie.Need-numbered-requires
+numbered-requires c κs = search needs
+
+enum-known-p : tie.Need-enum-known-p
+enum-known-p c = search needs
+
+enum-told : tie.Need-enum-told
+enum-told c = search needs
+
+returns : tie.Need-returns
+returns c = refuses _ _ _ (answer-only _ _ _ _ _ _ _ _ _ (bad-profile (sym (c .before .before .numbered .ensures) ∙ c .enum-told .given .1)))
+
+numbered-requires-2 : tie.Need-numbered-requires-2
+numbered-requires-2 c κs = search needs
+
+enum-known-k : tie.Need-enum-known-k
+enum-known-k c = search needs
+
+enum-told-2 : tie.Need-enum-told-2
+enum-told-2 c = search needs
+
+returns-2 : tie.Need-returns-2
+returns-2 c =
+    refuses _ _ _
+    (answer-only _ _ _ _ _ _ _ _ _
+    (bad-kind (c .before .before .before .before .p .given .0 .0) (sym (c .before .before .before .before .before .before .numbered .ensures) ∙ c .before .before .before .before .p .given .1) (sym (c .before .before .numbered2 .ensures) ∙ c .enum-told2 .given .1)))
+
+encode-requires : tie.Need-encode-requires
+encode-requires c κs = search needs
+
+enum-known-high : tie.Need-enum-known-high
+enum-known-high c = search needs
+
+enum-told-3 : tie.Need-enum-told-3
+enum-told-3 c = search needs
+
+returns-3 : tie.Need-returns-3
+returns-3 c = refuses _ _ _ (answers (c .before .before .before) _ (number-too-large (encoded-not _ (sym (c .before .before .encode .ensures) ∙ c .enum-told3 .given .1))))
+
+body-length-requires : tie.Need-body-length-requires
+body-length-requires c κs = search needs
+
+returns-4 : tie.Need-returns-4
+returns-4 c = refuses _ _ _ (answers (c .before .before .before .before .before .before) _ (wrong-body-length (small (c .before .before)) (λ e. c .if1 .taken (e ∙ sym (c .before .body-length .ensures)))))
+
+has-bad-byte-requires : tie.Need-has-bad-byte-requires
+has-bad-byte-requires c κs = search needs
+
+returns-5 : tie.Need-returns-5
+returns-5 c =
+    refuses _ _ _
+    (answers (c .before .before .before .before .before .before .before .before) _
+    (byte-not-allowed (small (c .before .before .before .before)) (length-right (c .before .before)) (not-true _ (sym (c .before .has-bad-byte .ensures) ∙ c .if2 .taken))))
+
+returns-6 : tie.Need-returns-6
+returns-6 c =
+    refuses _ _ _
+    (answers (c .before .before .before .before .before .before .before .before .before) _ (too-many-nulls (small (c .before .before .before .before .before)) (length-right (c .before .before .before)) (bytes-fit (c .before)) (c .if3 .taken)))
+
+mul-if4 : tie.Need-mul-if4
+mul-if4 c = search needs
+
+add-if4 : tie.Need-add-if4
+add-if4 c = omega (arith, body-small (profileAt (c .before .before .before .before .before .before .before .before .before)))
+
+mul-if4-2 : tie.Need-mul-if4-2
+mul-if4-2 c = search needs
+
+add-if4-2 : tie.Need-add-if4-2
+add-if4-2 c = omega (arith, body-small (profileAt (c .before .before .before .before .before .before .before .before .before)))
+
+returns-7 : tie.Need-returns-7
+returns-7 c =
+    let r = length-right (c .before .before .before .before) in
+    refuses _ _ _ (answers (c .before .before .before .before .before .before .before .before .before .before) _ (no-room (may (c .before)) (omega arith)))
+
+put-line-requires : tie.Need-put-line-requires
+put-line-requires c κs = search needs
+
+same-length : tie.Need-same-length
+same-length c = search needs
+
+returns-8 : tie.Need-returns-8
+returns-8 c =
+    let r = length-right (c .before .before .before .before .before .before .before .before) in
+    let h = c .before .before .before .before .before .before .before .before .before .before .before .before .before .before in
+    writes _ (sentAt h) _ _ _ _ _ (encodes (c .before .before .before .before .before .before .before .before .before .before)) (answers h _ (line (may (c .before .before .before .before .before)) (omega arith))) (omega (arith, written-length (profileAt h) (sentAt h) r)) (c .before .before .put-line .ensures)
+
+pub write-spec : {M : Type 1} → statement M
+write-spec =
+    tie.close
+    (tie.spec
+    numbered-requires
+    enum-known-p
+    enum-told
+    returns
+    numbered-requires-2
+    enum-known-k
+    enum-told-2
+    returns-2
+    encode-requires
+    enum-known-high
+    enum-told-3
+    returns-3
+    body-length-requires
+    returns-4
+    has-bad-byte-requires
+    returns-5
+    returns-6
+    mul-if4
+    add-if4
+    mul-if4-2
+    add-if4-2
+    returns-7
+    put-line-requires
+    same-length
+    returns-8)
