@@ -5,6 +5,7 @@ use Prim.Native.Nat.{ℕ, _+_, _*_}
 use lib.Dec.{eqb, leb}
 use lib.ListN.{length, take, drop}
 use Rattle.refusal.specs.Refusal.{badState, noRoom, badKind, numberTooLarge, wrongBodyLength, byteNotAllowed, tooManyNulls}
+use Rattle.line_code.specs.declared.Kind.{Kind}
 use Rattle.line_code.specs.declared.LineKind.{LineKind}
 use Rattle.line_code.specs.declared.LineKind.the-variants.{NotLine, LineOf}
 use Rattle.line_code.specs.LineCode.{kindNumbered}
@@ -46,19 +47,26 @@ around = 24
 abbrev pub roomFor : Profile → ℕ → ℕ
 roomFor p k = around + 2 * bodyLength p + 2 * k
 
+-- every byte of the body and of the gap is allowed
+abbrev pub bytesFit : Profile → Sent → Bool
+bytesFit p s = fits (rules p (s .kind)) (s .body) && gapFits p (s .kind) (s .gap-one) (s .gap-two)
+
 -- 14, 15, 16, 17, 12, or the line: of a profile and what it is given
 abbrev pub writeLine : Profile → Sent → ℕ → Output
 writeLine p s room =
     require (leb (s .number) greatest) numberTooLarge
     (require (eqb (length (s .body)) (bodyLength p)) wrongBodyLength
-    (require (fits (rules p (s .kind)) (s .body) && gapFits p (s .kind) (s .gap-one) (s .gap-two)) byteNotAllowed
+    (require (bytesFit p s) byteNotAllowed
     (require (leb (s .nulls) mostNulls) tooManyNulls (require (leb (roomFor p (s .nulls)) room) noRoom (nibbles (written s))))))
+
+-- what is given, as one record
+abbrev pub sent : Kind → ℕ → List ℕ → ℕ → ℕ → ℕ → Sent
+sent k number body a b nulls = record { kind = k; number = number; body = body; gap-one = a; gap-two = b; nulls = nulls }
 
 -- 13, or by the kind
 abbrev pub writeKind : Profile → LineKind → ℕ → List ℕ → ℕ → ℕ → ℕ → ℕ → Output
 writeKind p NotLine number body a b nulls room = refused badKind
-writeKind p (LineOf k) number body a b nulls room =
-    writeLine p (record { kind = k; number = number; body = body; gap-one = a; gap-two = b; nulls = nulls }) room
+writeKind p (LineOf k) number body a b nulls room = writeLine p (sent k number body a b nulls) room
 
 -- 11, or by the profile
 abbrev pub writeProfile : Numbered → ℕ → ℕ → List ℕ → ℕ → ℕ → ℕ → ℕ → Output

@@ -1,6 +1,6 @@
 -- Laws of the writer: how long a line is as written, and exactly when each answer comes.
 use mathlib.Core.Path.{_≡_, refl, sym, ap, subst, _∙_}
-use mathlib.Core.Bool.{Bool, true, false, _&&_}
+use mathlib.Core.Bool.{Bool, true, false}
 use mathlib.Core.List.{List, [], _∷_, _++_}
 use mathlib.Core.Logic.{_↔_}
 use Prim.Native.Nat.{ℕ, _+_, _*_, _/_, _%_, _≤_, _<_}
@@ -20,11 +20,11 @@ use Rattle.profile.specs.declared.Profile.the-variants.{VV5404, VV5300}
 use Rattle.profile.specs.declared.Numbered.{Numbered}
 use Rattle.profile.specs.declared.Numbered.the-variants as numbered
 use Rattle.profile.specs.Profile.{profileNumber, profileNumbered, bodyLength, nullByte}
-use Rattle.profile.specs.Layout.{rules, fits, gapFits}
+use Rattle.profile.specs.Layout.{rules, fits}
 use Rattle.profile.specs.LayoutLaws.{rules-length, fits-length}
 use Rattle.stream.specs.Written as stream
 use Rattle.stream.specs.Written.{Sent, Writable, mostNulls, endMark, tail, written}
-use Rattle.writer.specs.Writer.{Output, nibbles, refused, require, roomFor, writeLine, writeKind, writeProfile, writeOf}
+use Rattle.writer.specs.Writer.{Output, nibbles, refused, require, roomFor, bytesFit, writeLine, sent, writeKind, writeProfile, writeOf}
 
 -- Lengths.
 
@@ -45,16 +45,12 @@ written-length p s h =
 pub writable-length : (p : Profile) (s : Sent) → Writable p s → length (s .body) ≡ bodyLength p
 writable-length p s w = fits-length (rules p (s .kind)) (s .body) (w .body-fits) ∙ rules-length p (s .kind)
 
--- every byte is allowed
-abbrev pub bytesFit : Profile → Sent → Bool
-bytesFit p s = fits (rules p (s .kind)) (s .body) && gapFits p (s .kind) (s .gap-one) (s .gap-two)
-
 pub writable : (p : Profile) (s : Sent) → s .number ≤ greatest → bytesFit p s ≡ true → s .nulls ≤ mostNulls → Writable p s
 writable p s h f n =
     let body = fits (rules p (s .kind)) (s .body) in
     record { number-small = h; body-fits = and-left body _ f; gap-fits = and-right body _ f; nulls-few = n }
 
--- Answers: the table's, in the writer's order.
+-- Answers: what the table gives, each exactly when named, in the writer's order.
 
 -- to a line of a known profile and kind
 pub data LineAnswer (p : Profile) (s : Sent) (room : ℕ) : Output → Type 0 where
@@ -94,10 +90,6 @@ line-answer p s room =
   where
     A : Output → Type 0
     A = LineAnswer p s room
-
--- what a caller gives, as one record
-abbrev pub sent : Kind → ℕ → List ℕ → ℕ → ℕ → ℕ → Sent
-sent k number body a b nulls = record { kind = k; number = number; body = body; gap-one = a; gap-two = b; nulls = nulls }
 
 -- to any call
 pub data Answer (profile kind number : ℕ) (body : List ℕ) (a b nulls room : ℕ) : Output → Type 0 where

@@ -33,7 +33,7 @@ pub const MOST_NULLS: u32 = 255;
 // The nibbles around a body: two marks of eight, the number's two bytes and the gap's.
 const AROUND: usize = 24;
 
-// Writes a line's nibbles to the front of the buffer.
+// Writes a line's nibbles to the front of the buffer; first and second are the gap bytes.
 pub fn write(
     profile: u8,
     kind: u8,

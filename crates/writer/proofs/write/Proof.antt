@@ -10,8 +10,8 @@ use Rattle.profile.specs.declared.Profile.{Profile}
 use Rattle.profile.specs.Profile.{bodyLength}
 use Rattle.profile.specs.LayoutLaws.{body-small}
 use Rattle.stream.specs.Written.{Sent, Writable}
-use Rattle.writer.specs.Writer.{Output, writeOf}
-use Rattle.writer.specs.WriterLaws.{LineAnswer, number-too-large, wrong-body-length, byte-not-allowed, too-many-nulls, no-room, line, sent, bad-profile, bad-kind, of-line, answer-only, written-length, bytesFit, writable}
+use Rattle.writer.specs.Writer.{Output, bytesFit, sent, writeOf}
+use Rattle.writer.specs.WriterLaws.{LineAnswer, number-too-large, wrong-body-length, byte-not-allowed, too-many-nulls, no-room, line, bad-profile, bad-kind, of-line, answer-only, written-length, writable}
 use Rattle.writer.proofs.Answering.{encoded-small, encoded-not, refuses, writes}
 use borrow.Author.Needs.{needs}
 use Rattle.writer.proofs.write.Statement.{statement}
@@ -49,14 +49,15 @@ encodes c = sym (c .before .before .before .encode .ensures) ∙ c .before .high
 small : (c : tie.After-known-told3) → sentAt (c .before .before .before .before) .number ≤ greatest
 small c = encoded-small _ _ _ (encodes c)
 
+-- once the tests up to 15, 16 and 17 are passed
 length-right : (c : tie.Else1) → length (sentAt (c .before .before .before .before .before .before) .body) ≡ bodyLength (profileAt (c .before .before .before .before .before .before))
 length-right c = c .if1 .left ∙ c .before .body-length .ensures
 
 bytes-fit : (c : tie.Else2) → bytesFit (profileAt (c .before .before .before .before .before .before .before .before)) (sentAt (c .before .before .before .before .before .before .before .before)) ≡ true
 bytes-fit c = not-false _ (sym (c .before .has-bad-byte .ensures) ∙ c .if2 .left)
 
-may : (c : tie.Else3) → Writable (profileAt (c .before .before .before .before .before .before .before .before .before)) (sentAt (c .before .before .before .before .before .before .before .before .before))
-may c = writable _ _ (small (c .before .before .before .before .before)) (bytes-fit (c .before)) (c .if3 .left)
+may-be-written : (c : tie.Else3) → Writable (profileAt (c .before .before .before .before .before .before .before .before .before)) (sentAt (c .before .before .before .before .before .before .before .before .before))
+may-be-written c = writable _ _ (small (c .before .before .before .before .before)) (bytes-fit (c .before)) (c .if3 .left)
 
 numbered-requires : tie.Need-numbered-requires
 numbered-requires c κs = search needs
@@ -132,7 +133,7 @@ add-if4-2 c = omega (arith, body-small (profileAt (c .before .before .before .be
 returns-7 : tie.Need-returns-7
 returns-7 c =
     let r = length-right (c .before .before .before .before) in
-    refuses _ _ _ (answers (c .before .before .before .before .before .before .before .before .before .before) _ (no-room (may (c .before)) (omega arith)))
+    refuses _ _ _ (answers (c .before .before .before .before .before .before .before .before .before .before) _ (no-room (may-be-written (c .before)) (omega arith)))
 
 put-line-requires : tie.Need-put-line-requires
 put-line-requires c κs = search needs
@@ -144,7 +145,7 @@ returns-8 : tie.Need-returns-8
 returns-8 c =
     let r = length-right (c .before .before .before .before .before .before .before .before) in
     let h = c .before .before .before .before .before .before .before .before .before .before .before .before .before .before in
-    writes _ (sentAt h) _ _ _ _ _ (encodes (c .before .before .before .before .before .before .before .before .before .before)) (answers h _ (line (may (c .before .before .before .before .before)) (omega arith))) (omega (arith, written-length (profileAt h) (sentAt h) r)) (c .before .before .put-line .ensures)
+    writes _ (sentAt h) _ _ _ _ _ (encodes (c .before .before .before .before .before .before .before .before .before .before)) (answers h _ (line (may-be-written (c .before .before .before .before .before)) (omega arith))) (omega (arith, written-length (profileAt h) (sentAt h) r)) (c .before .before .put-line .ensures)
 
 pub write-spec : {M : Type 1} → statement M
 write-spec =
