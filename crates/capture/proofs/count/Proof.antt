@@ -1,0 +1,57 @@
+use borrow.Author.Needs.{needs}
+use Rattle.capture.specs.Listed.{counted}
+use Rattle.capture.proofs.count.Statement.{statement}
+use Rattle.capture.proofs.count.Tie as tie
+
+enum-told : tie.Need-enum-told
+enum-told c = search needs
+
+enum-told-2 : tie.Need-enum-told-2
+enum-told-2 c = search needs
+
+one-more-requires : tie.Need-one-more-requires
+one-more-requires c κs = search needs
+
+enum-told-3 : tie.Need-enum-told-3
+enum-told-3 c = search needs
+
+one-more-requires-2 : tie.Need-one-more-requires-2
+one-more-requires-2 c κs = search needs
+
+enum-told-4 : tie.Need-enum-told-4
+enum-told-4 c = search needs
+
+one-more-requires-3 : tie.Need-one-more-requires-3
+one-more-requires-3 c κs = search needs
+
+returns : tie.Need-returns
+unfolding counted
+returns c = simp (c .enum-told .given .1)
+
+returns-2 : tie.Need-returns-2
+unfolding counted
+returns-2 c = simp (c .before .enum-told2 .given .1, c .one-more .ensures)
+
+returns-3 : tie.Need-returns-3
+unfolding counted
+returns-3 c = simp (c .before .enum-told3 .given .1, c .one-more2 .ensures)
+
+returns-4 : tie.Need-returns-4
+unfolding counted
+returns-4 c = simp (c .before .enum-told4 .given .1, c .one-more3 .ensures)
+
+pub count-spec : {M : Type 1} → statement M
+count-spec =
+    tie.close
+    (tie.spec
+    enum-told
+    enum-told-2
+    one-more-requires
+    enum-told-3
+    one-more-requires-2
+    enum-told-4
+    one-more-requires-3
+    returns
+    returns-2
+    returns-3
+    returns-4)

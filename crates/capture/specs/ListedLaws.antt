@@ -1,0 +1,27 @@
+-- How much of a piece is taken.
+use mathlib.Core.Bool.{Bool, true, false, cond}
+use mathlib.Core.List.{List, [], _∷_}
+use Prim.Native.Nat.{ℕ, suc, _-_, _*_, _<_, _≤_}
+use native.Mathlib.Omega.{arith}
+use lib.Dec.{ltb}
+use lib.ListN.{length}
+use borrow.Author.Tests.{le-ltb}
+use Rattle.stream.specs.Written.{nibbles}
+use Rattle.listing.specs.Rows.{rowRoom}
+use Rattle.capture.specs.declared.Lister.{Lister}
+use Rattle.capture.specs.Listed.{listAfter, listText, takenOf}
+
+-- no more than there are
+pub taken-within : (l : Lister) (room : ℕ) (bs : List ℕ) → takenOf l room bs ≤ length bs
+taken-within l room [] = omega arith
+taken-within l room (b ∷ bs) =
+    either (ltb room (2 * rowRoom)) (taken-within (listAfter l (nibbles (b ∷ []))) (room - length (listText l (nibbles (b ∷ [])))) bs)
+  where
+    either : (full : Bool) {n : ℕ} → n ≤ length bs → cond full 0 (suc n) ≤ suc (length bs)
+    either true h = omega arith
+    either false h = omega arith
+
+-- at least one, of a buffer with room for two rows
+pub taken-some : (l : Lister) (room : ℕ) (bs : List ℕ) → 2 * rowRoom ≤ room → 0 < length bs → 0 < takenOf l room bs
+taken-some l room [] h some = omega arith
+taken-some l room (b ∷ bs) h some = rw (le-ltb room (2 * rowRoom) h) (omega arith)

@@ -1,0 +1,27 @@
+use mathlib.Core.Path.{refl}
+use borrow.Author.Tests.{lt-ltb, le-ltb}
+use borrow.Author.Needs.{needs}
+use Rattle.listing.specs.Rows.{ifRoom}
+use Rattle.listing.specs.PutLaws.{on-front}
+use Rattle.listing.proofs.header.Statement.{statement}
+use Rattle.listing.proofs.header.Tie as tie
+
+returns : tie.Need-returns
+unfolding ifRoom
+returns c = simp (lt-ltb _ _ (c .if1 .taken)) (refl, refl)
+
+slice-aggregate-put : tie.Need-slice-aggregate-put
+slice-aggregate-put c = search needs
+
+put-requires : tie.Need-put-requires
+put-requires c κs = search needs
+
+same-length : tie.Need-same-length
+same-length c = search needs
+
+returns-2 : tie.Need-returns-2
+unfolding ifRoom
+returns-2 c = simp (le-ltb _ _ (c .before .before .before .before .before .if1 .left)) (on-front (c .before .before .put .ensures))
+
+pub header-spec : {M : Type 1} → statement M
+header-spec = tie.close (tie.spec returns slice-aggregate-put put-requires same-length returns-2)
