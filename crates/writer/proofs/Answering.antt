@@ -15,7 +15,7 @@ use Rattle.profile.specs.Profile.{nullByte}
 use Rattle.stream.specs.Written as stream
 use Rattle.stream.specs.Written.{Sent, written, startMark}
 use Rattle.writer.specs.declared.Written.the-variants as answer
-use Rattle.writer.specs.Writer.{Output, nibbles, refused, outputOf, bufferAfter}
+use Rattle.writer.specs.Writer.{Output, nibbles, refused, outputOf, answerFor, bufferAfter}
 use Rattle.writer.specs.WriterLaws.{nibbles-append, nibbles-length}
 use Rattle.writer.specs.Parts.{Put, markBytes, lineBytes}
 use Rattle.writer.proofs.Putting.{put-front, take-front}
@@ -45,8 +45,8 @@ encoded-not n e = leb-false n greatest (not-known (leb n greatest) _ _ e)
 
 -- Answers.
 
-pub refuses : (o : Output) (n : ℕ) (b : List ℕ) → o ≡ refused n → (outputOf (answer.Refused n) b ≡ o) × (b ≡ bufferAfter o b)
-refuses o n b e = (sym e, ap (λ (x : Output). bufferAfter x b) (sym e))
+pub refuses : (o : Output) (n : ℕ) (b : List ℕ) → o ≡ refused n → (outputOf (answer.Refused n) b ≡ o) × (b ≡ bufferAfter o b) × (answer.Refused n ≡ answerFor o)
+refuses o n b e = (sym e, ap (λ (x : Output). bufferAfter x b) (sym e), ap answerFor (sym e))
 
 -- a line's bytes, as it is written
 line-nibbles : (s : Sent) (high low : ℕ) → encodeOf (s .number) ≡ Bytes high low
@@ -57,15 +57,16 @@ line-nibbles s high low e =
     (nibbles-append (s .body) (markBytes (cleanByte EndOfLine) ++ (s .gap-one ∷ s .gap-two ∷ replicate (s .nulls) nullByte))))
 
 front : (o : Output) (w bytes b d : List ℕ) (n : ℕ) → o ≡ nibbles w → stream.nibbles bytes ≡ w → length w ≤ length b → Put bytes b 0 n d
-    → (outputOf (answer.Nibbles n) d ≡ o) × (d ≡ bufferAfter o b)
+    → (outputOf (answer.Nibbles n) d ≡ o) × (d ≡ bufferAfter o b) × (answer.Nibbles n ≡ answerFor o)
 front o w bytes b d n e f room p =
     let r : 2 * length bytes ≤ length b = omega (arith, nibbles-length bytes, ap length f) in (
       ap nibbles (take-front p r ∙ f) ∙ sym e,
       put-front p r ∙ ap (λ (u : List ℕ). u ++ drop (length u) b) f ∙ ap (λ (x : Output). bufferAfter x b) (sym e),
+      ap (λ (k : ℕ). answer.Nibbles k) (omega (arith, p .place, nibbles-length bytes, ap length f)) ∙ ap answerFor (sym e),
     )
 
 pub writes : (o : Output) (s : Sent) (high low : ℕ) (b d : List ℕ) (n : ℕ) → encodeOf (s .number) ≡ Bytes high low
     → o ≡ nibbles (written s) → length (written s) ≤ length b
     → Put (lineBytes (s .kind) high low (s .body) (s .gap-one) (s .gap-two) (s .nulls)) b 0 n d
-    → (outputOf (answer.Nibbles n) d ≡ o) × (d ≡ bufferAfter o b)
+    → (outputOf (answer.Nibbles n) d ≡ o) × (d ≡ bufferAfter o b) × (answer.Nibbles n ≡ answerFor o)
 writes o s high low b d n e f room p = front o (written s) _ b d n f (line-nibbles s high low e) room p

@@ -29,6 +29,11 @@ abbrev pub outputOf : Written → List ℕ → Output
 outputOf (answer.Nibbles n) buffer = nibbles (take n buffer)
 outputOf (answer.Refused n) buffer = refused n
 
+-- the program's answer that says this
+abbrev pub answerFor : Output → Written
+answerFor (nibbles w) = answer.Nibbles (length w)
+answerFor (refused n) = answer.Refused n
+
 -- the lent buffer afterwards: the line at its front, and the rest as it was
 abbrev pub bufferAfter : Output → List ℕ → List ℕ
 bufferAfter (nibbles w) buffer = w ++ drop (length w) buffer

@@ -12,7 +12,7 @@ ghost use Prim.Native.Nat.{_+_, _*_, _≤_};
 ghost use lib.ListN.{length, replicate};
 ghost use Rattle.profile.specs.Profile.{nullByte};
 ghost use Rattle.profile.specs.Layout.{rules, fits, gapFits};
-ghost use Rattle.writer.specs.Writer.{outputOf, bufferAfter, around, writeOf};
+ghost use Rattle.writer.specs.Writer.{outputOf, answerFor, bufferAfter, around, writeOf};
 ghost use Rattle.writer.specs.Parts.{Room, Put, markBytes, lineBytes};
 use line_code::Kind;
 use line_code::LineKind;
@@ -44,7 +44,7 @@ pub fn write(
     nulls: u32,
     buffer: &mut [u8],
 ) -> Written
-    ensures { λ r. ⌜ (outputOf r (now (buffer .exit)) ≡ writeOf profile kind number (now (body .entry)) first second nulls (length (now (buffer .entry)))) × (now (buffer .exit) ≡ bufferAfter (writeOf profile kind number (now (body .entry)) first second nulls (length (now (buffer .entry)))) (now (buffer .entry))) ⌝ }
+    ensures { λ r. ⌜ (outputOf r (now (buffer .exit)) ≡ writeOf profile kind number (now (body .entry)) first second nulls (length (now (buffer .entry)))) × (now (buffer .exit) ≡ bufferAfter (writeOf profile kind number (now (body .entry)) first second nulls (length (now (buffer .entry)))) (now (buffer .entry))) × (r ≡ answerFor (writeOf profile kind number (now (body .entry)) first second nulls (length (now (buffer .entry))))) ⌝ }
 {
     let Numbered::Profile(p) = Profile::numbered(profile) else {
         return Written::Refused(refusal::BAD_STATE);

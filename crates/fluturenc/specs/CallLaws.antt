@@ -1,0 +1,222 @@
+-- Laws of the exported calls: a state holds a reader from its opening on, and each call does to it what the reader's own call does; a
+-- judge's number stands for the judge; and an answer's number tells its parts.
+use mathlib.Core.Path.{_≡_, refl, sym, ap, subst, _∙_}
+use mathlib.Core.Bool.{Bool, true, false, cond}
+use mathlib.Core.List.{List, [], _∷_}
+use Prim.Native.Nat.{ℕ, _+_, _-_, _/_, _%_, _≤_, _<_}
+use native.Mathlib.Omega.{arith}
+use borrow.Author.Tests.{ltb-true, ltb-false, leb-true, eqb-true, lt-ltb, le-ltb, le-leb, lt-leb, ne-eqb}
+use lib.Dec.{eqb, leb, ltb}
+use lib.ListN.{length, length-replicate}
+use Rattle.bits.specs.Every.{and-left, and-right}
+use Rattle.refusal.specs.Refusal.{notANibble, noRoom}
+use Rattle.line_code.specs.declared.Kind.{Kind}
+use Rattle.line_code.specs.declared.Kind.the-variants.{BL, BK, VL, SOF, EOF}
+use Rattle.line_code.specs.LineCode.{kindNumber}
+use Rattle.profile.specs.declared.Profile.{Profile}
+use Rattle.profile.specs.declared.Profile.the-variants.{VV5404, VV5300}
+use Rattle.profile.specs.Profile.{profileNumber, profileNumbered, bodyLength, longest}
+use Rattle.stream.specs.declared.LineFacts.{LineFacts}
+use Rattle.stream.specs.declared.Answer.the-variants as answers
+use Rattle.stream.specs.Answers.{refused, answerFor}
+use Rattle.mark_answer.specs.Kept.{topPlace, bodyAt}
+use Rattle.reader.specs.declared.Reader.{Reader}
+use Rattle.reader.specs.Reader.{Took, passes, freshReader, feedOf, finishOf, leaveBody}
+use Rattle.refinement.specs.Passes.{passes-test, Feeding, feed-state, feed-nibble, feed-room, feed-taken, feeding, Finishing, finish-state, finish-taken, finishing, Ok, fresh-ok, feed-ok, finish-ok}
+use Rattle.refinement.specs.Stored.{length-body}
+use Rattle.frame.specs.declared.Borders.the-variants.{Unsettled, On, Off}
+use Rattle.frame.specs.declared.Judge.{Judge}
+use Rattle.frame.specs.declared.Judge.the-variants.{Waiting, Due}
+use Rattle.frame.specs.Frame.{judgeOf}
+use Rattle.frame.specs.Frame as frame
+use Rattle.fluturenc.specs.State.{stateLength, bitOf, stored, holdsReader, readerIn}
+use Rattle.fluturenc.specs.Calls.{Ran, Called, FeedCalled, answerNumber, isNothing, oneMore, runOf, openCall, feedCall, feedRan, feedRefused, finishCall, judgeNumber, judgeNumbered, verdictNumber, judgeCall}
+use Rattle.fluturenc.specs.StateLaws.{reader-back, stored-length, stored-holds}
+
+-- Readers that calls reach: the code is a byte, the test passes, and the body has its length.
+
+pub record Whole (r : Reader) : Type 0 where
+  pub ok : Ok (r .head)
+  pub full : length (r .body) ≡ longest
+
+fresh-whole : (p : Profile) → Whole (freshReader p)
+fresh-whole p = record { ok = fresh-ok p; full = length-replicate {A = ℕ} longest 0 }
+
+leave-full : (r : Reader) → length (leaveBody (r .head) (r .body)) ≡ length (r .body)
+unfolding leaveBody
+leave-full r =
+    let h = r .head in
+    go (leb 8 (h .count)) (bodyAt (h .count - 8) (h .window / topPlace) (r .body)) (length-body (h .count - 8) (h .window / topPlace) (r .body))
+  where
+    go : (b : Bool) (w : List ℕ) → length w ≡ length (r .body) → length (cond b w (r .body)) ≡ length (r .body)
+    go true w e = e
+    go false w e = refl
+
+feed-whole : (r : Reader) (n room : ℕ) → Whole r → Whole (feedOf r n room .reader)
+feed-whole r n room h = record { ok = feed-ok r n room (h .ok); full = go (feeding r n room) }
+  where
+    go : {t : Took} → Feeding r n room t → length (t .reader .body) ≡ longest
+    go (feed-state e) = h .full
+    go (feed-nibble e) = h .full
+    go (feed-room e) = h .full
+    go (feed-taken l) = leave-full r ∙ h .full
+
+finish-whole : (r : Reader) → Whole r → Whole (finishOf r .reader)
+finish-whole r h = record { ok = finish-ok r (h .ok); full = go (finishing r) }
+  where
+    go : {t : Took} → Finishing r t → length (t .reader .body) ≡ longest
+    go (finish-state e) = h .full
+    go finish-taken = length-replicate {A = ℕ} longest 0
+
+run-whole : (w : List ℕ) (r : Reader) (room : ℕ) → Whole r → Whole (runOf r w room .reader)
+run-whole [] r room h = h
+run-whole (n ∷ w) r room h =
+    let fed = feed-whole r n room h in
+    go (leb n 15) (isNothing (answerFor (feedOf r n room .outcome))) (runOf (feedOf r n room .reader) w room) (feedOf r n room) (run-whole w _ room fed) fed
+  where
+    go : (a b : Bool) (x : Ran) (t : Took) → Whole (x .reader) → Whole (t .reader)
+        → Whole
+        (cond a (cond b (oneMore x) (record { reader = t .reader; taken = 1; outcome = t .outcome }))
+        (record { reader = r; taken = 0; outcome = refused notANibble }) .reader)
+    go true true x t f g = f
+    go true false x t f g = g
+    go false b x t f g = h
+
+-- Calls on a state.
+
+-- a state that holds a reader, and may be given to any call
+pub record Holds (s : List ℕ) (r : Reader) : Type 0 where
+  pub whole : Whole r
+  pub room : stateLength ≤ length s
+  pub held : holdsReader s ≡ true
+  pub read : readerIn s ≡ r
+
+stored-held : (r : Reader) (s : List ℕ) → Whole r → stateLength ≤ length s → Holds (stored r s) r
+stored-held r s w h =
+    record {
+      whole = w;
+      room = omega (arith, stored-length r s (w .full) h);
+      held = stored-holds r s (w .full) h (passes-test (r .head) (w .ok .test));
+      read = reader-back r s (w .full);
+    }
+
+open-call : (p : Profile) (s : List ℕ) → stateLength ≤ length s → openCall (profileNumber p) s ≡ record { answer = 0; state = stored (freshReader p) s }
+unfolding openCall profileNumbered
+open-call VV5404 s h = simp (le-leb stateLength (length s) h)
+open-call VV5300 s h = simp (le-leb stateLength (length s) h)
+
+-- what a call does to a state that holds a reader
+
+module _ (s : List ℕ) (r : Reader) (held : holdsReader s ≡ true) (read : readerIn s ≡ r) where
+  pub finish-call : finishCall s ≡ record { answer = answerNumber (answerFor (finishOf r .outcome)); state = stored (finishOf r .reader) s }
+  unfolding finishCall
+  finish-call =
+      simp held (ap (λ (x : Reader). record { answer = answerNumber (answerFor (finishOf x .outcome)); state = stored (finishOf x .reader) s }) read)
+
+  pub feed-call : (w line : List ℕ) → bodyLength (r .head .profile) ≤ length line → feedCall s w line ≡ feedRan (runOf r w (length line)) s line
+  unfolding feedCall
+  feed-call w line l =
+      simp (held, le-leb _ _ (subst (λ (x : Reader). bodyLength (x .head .profile) ≤ length line) (sym read) l))
+      (ap (λ (x : Reader). feedRan (runOf x w (length line)) s line) read)
+
+  pub feed-short : (w line : List ℕ) → length line < bodyLength (r .head .profile) → feedCall s w line ≡ feedRefused noRoom s line
+  unfolding feedCall
+  feed-short w line l = simp (held, lt-leb _ _ (subst (λ (x : Reader). length line < bodyLength (x .head .profile)) (sym read) l))
+
+-- opening leaves a fresh reader
+pub opens : (p : Profile) (s : List ℕ) → stateLength ≤ length s
+    → (openCall (profileNumber p) s .answer ≡ 0) × Holds (openCall (profileNumber p) s .state) (freshReader p)
+opens p s h =
+    subst (λ (c : Called). (c .answer ≡ 0) × Holds (c .state) (freshReader p)) (sym (open-call p s h)) (refl, stored-held (freshReader p) s (fresh-whole p) h)
+
+-- feeding answers and leaves what the reader's run does
+pub feeds : (s w line : List ℕ) (r : Reader) → Holds s r → bodyLength (r .head .profile) ≤ length line
+    → (feedCall s w line ≡ feedRan (runOf r w (length line)) s line) × Holds (feedCall s w line .state) (runOf r w (length line) .reader)
+feeds s w line r h l = (fed, subst (λ (c : FeedCalled). Holds (c .state) (runOf r w (length line) .reader)) (sym fed) (stored-held _ s (run-whole w r (length line) (h .whole)) (h .room)))
+  where
+    fed : feedCall s w line ≡ feedRan (runOf r w (length line)) s line
+    fed = feed-call s r (h .held) (h .read) w line l
+
+-- finish answers and leaves what the reader's finish does
+pub finishes : (s : List ℕ) (r : Reader) → Holds s r
+    → (finishCall s .answer ≡ answerNumber (answerFor (finishOf r .outcome))) × Holds (finishCall s .state) (finishOf r .reader)
+finishes s r h =
+    let done = finish-call s r (h .held) (h .read) in
+    (ap (λ (c : Called). c .answer) done, subst (λ (c : Called). Holds (c .state) (finishOf r .reader)) (sym done) (stored-held (finishOf r .reader) s (finish-whole r (h .whole)) (h .room)))
+
+-- Judges as numbers.
+
+within-high : (from to n : ℕ) → frame.within from to n ≡ true → n ≤ to
+within-high from to n h = leb-true n to (and-right (leb from n) _ h)
+
+within-low : (from to n : ℕ) → frame.within from to n ≡ true → from ≤ n
+within-low from to n h = leb-true from n (and-left _ _ h)
+
+judge-small : (j : Judge) → frame.passes j ≡ true → judgeNumber j < 0x30000
+judge-small Waiting h = omega arith
+judge-small (Due place Unsettled) h = omega (arith, within-high 1 10 place h)
+judge-small (Due place On) h = omega (arith, within-high 11 303 place h)
+judge-small (Due place Off) h = omega (arith, within-high 11 303 place h)
+
+pub judge-back : (j : Judge) → frame.passes j ≡ true → judgeNumbered (judgeNumber j) ≡ j
+unfolding judgeNumbered
+judge-back Waiting h = refl
+judge-back (Due place Unsettled) h =
+    let high = within-high 1 10 place h in
+    let low = within-low 1 10 place h in
+    simp (ne-eqb place 0 (λ e. omega arith), lt-ltb place 0x10000 (omega arith)) (ap (λ (k : ℕ). Due k Unsettled) (omega arith))
+judge-back (Due place On) h =
+    let high = within-high 11 303 place h in
+    simp (ne-eqb (0x10000 + place) 0 (λ e. omega arith), le-ltb (0x10000 + place) 0x10000 (omega arith), lt-ltb (0x10000 + place) 0x20000 (omega arith))
+    (ap (λ (k : ℕ). Due k On) (omega arith))
+judge-back (Due place Off) h =
+    let high = within-high 11 303 place h in
+    simp (ne-eqb (0x20000 + place) 0 (λ e. omega arith), le-ltb (0x20000 + place) 0x10000 (omega arith), le-ltb (0x20000 + place) 0x20000 (omega arith))
+    (ap (λ (k : ℕ). Due k Off) (omega arith))
+
+-- so a judge that its own call leaves as it was has the same number, whatever the number
+pub number-back : (n : ℕ) → n < 0x30000 → judgeNumber (judgeNumbered n) ≡ n
+unfolding judgeNumbered
+number-back n h = go (eqb n 0) (ltb n 0x10000) (ltb n 0x20000) refl refl refl
+  where
+    go : (a b c : Bool) → eqb n 0 ≡ a → ltb n 0x10000 ≡ b → ltb n 0x20000 ≡ c
+        → judgeNumber (cond a Waiting (Due (n % 0x10000) (cond b Unsettled (cond c On Off)))) ≡ n
+    go true b c e f g = sym (eqb-true n 0 e)
+    go false true c e f g = let l = ltb-true n 0x10000 f in omega arith
+    go false false true e f g =
+        let l = ltb-false n 0x10000 f in
+        let m = ltb-true n 0x20000 g in
+        omega arith
+    go false false false e f g = let l = ltb-false n 0x20000 g in omega arith
+
+-- judging by number is judging
+pub judges : (j : Judge) (kind number : ℕ) → frame.passes j ≡ true
+    → judgeCall (judgeNumber j) kind number
+    ≡ record { answer = verdictNumber (judgeOf j kind number .verdict); judge = judgeNumber (judgeOf j kind number .judge) }
+unfolding judgeCall
+judges j kind number h = simp (lt-ltb (judgeNumber j) 0x30000 (judge-small j h), judge-back j h)
+
+-- Answers as numbers.
+
+kind-small : (k : Kind) → kindNumber k ≤ 5
+kind-small BL = omega arith
+kind-small BK = omega arith
+kind-small VL = omega arith
+kind-small SOF = omega arith
+kind-small EOF = omega arith
+
+bit-small : (b : Bool) → bitOf b ≤ 1
+bit-small true = omega arith
+bit-small false = omega arith
+
+pub line-told : (f : LineFacts) → f .number < 0x10000
+    → (answerNumber (answers.Line f) / 0x1000000 ≡ 1) × (answerNumber (answers.Line f) / 0x80000 % 2 ≡ bitOf (f .repaired))
+    × (answerNumber (answers.Line f) / 0x10000 % 8 ≡ kindNumber (f .kind)) × (answerNumber (answers.Line f) % 0x10000 ≡ f .number)
+line-told f h =
+    let k = kind-small (f .kind) in
+    let b = bit-small (f .repaired) in
+    (omega arith, omega arith, omega arith, omega arith)
+
+pub gap-told : (a b : ℕ) → a < 0x100 → b < 0x100
+    → (answerNumber (answers.Gap a b) / 0x1000000 ≡ 2) × (answerNumber (answers.Gap a b) / 0x100 % 0x100 ≡ a) × (answerNumber (answers.Gap a b) % 0x100 ≡ b)
+gap-told a b h g = (omega arith, omega arith, omega arith)

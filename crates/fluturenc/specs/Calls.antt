@@ -1,0 +1,153 @@
+-- What each exported call answers, and what it leaves in the buffers that it was lent.
+use mathlib.Core.Bool.{Bool, true, false, cond}
+use mathlib.Core.List.{List, [], _∷_}
+use Prim.Native.Nat.{ℕ, suc, _+_, _*_, _%_}
+use lib.Dec.{eqb, leb, ltb}
+use lib.ListN.{length}
+use Rattle.refusal.specs.Refusal.{notANibble, badState, noRoom}
+use Rattle.line_code.specs.LineCode.{kindNumber}
+use Rattle.profile.specs.declared.Numbered.{Numbered}
+use Rattle.profile.specs.declared.Numbered.the-variants as numbered
+use Rattle.profile.specs.Profile.{profileNumbered, bodyLength}
+use Rattle.stream.specs.declared.Answer.{Answer}
+use Rattle.stream.specs.declared.Answer.the-variants as answers
+use Rattle.stream.specs.Answers.{Outcome, nothing, refused, answerFor, bufferAfter}
+use Rattle.reader.specs.declared.Reader.{Reader}
+use Rattle.reader.specs.Reader.{freshReader, feedOf, finishOf}
+use Rattle.writer.specs.Writer as writer
+use Rattle.writer.specs.Writer.{Output}
+use Rattle.frame.specs.declared.Borders.{Borders}
+use Rattle.frame.specs.declared.Borders.the-variants.{Unsettled, On, Off}
+use Rattle.frame.specs.declared.Judge.{Judge}
+use Rattle.frame.specs.declared.Judge.the-variants as judge
+use Rattle.frame.specs.declared.Verdict.{Verdict}
+use Rattle.frame.specs.declared.Verdict.the-variants as verdict
+use Rattle.frame.specs.Frame.{judgeOf}
+use Rattle.fluturenc.specs.State.{stateLength, bitOf, stored, holdsReader, readerIn}
+
+-- Answers as numbers.
+
+abbrev pub answerNumber : Answer → ℕ
+answerNumber answers.Nothing = 0
+answerNumber (answers.Line f) = 0x1000000 + 0x80000 * bitOf (f .repaired) + 0x10000 * kindNumber (f .kind) + f .number
+answerNumber (answers.Gap a b) = 0x2000000 + 0x100 * a + b
+answerNumber (answers.Refused n) = n
+
+abbrev pub isNothing : Answer → Bool
+isNothing answers.Nothing = true
+isNothing (answers.Line f) = false
+isNothing (answers.Gap a b) = false
+isNothing (answers.Refused n) = false
+
+-- A call on a reader's state.
+
+-- its answer, and the state afterwards
+pub record Called : Type 0 where
+  pub answer : ℕ
+  pub state : List ℕ
+
+abbrev pub openFor : Numbered → List ℕ → Called
+openFor numbered.NoProfile s = record { answer = badState; state = s }
+openFor (numbered.Profile p) s =
+    cond (leb stateLength (length s)) (record { answer = 0; state = stored (freshReader p) s }) (record { answer = noRoom; state = s })
+
+-- 11, 12, or a fresh reader
+unfoldable pub openCall : ℕ → List ℕ → Called
+openCall profile s = openFor (profileNumbered profile) s
+
+-- 11, or what finish answers, and the reader that it leaves
+unfoldable pub finishCall : List ℕ → Called
+finishCall s =
+    cond (holdsReader s)
+    (record { answer = answerNumber (answerFor (finishOf (readerIn s) .outcome)); state = stored (finishOf (readerIn s) .reader) s })
+    (record { answer = badState; state = s })
+
+-- Feeding.
+
+-- a reader after some nibbles, how many were taken, and what the last one taken brought
+pub record Ran : Type 0 where
+  pub reader : Reader
+  pub taken : ℕ
+  pub outcome : Outcome
+
+-- after one nibble more in front
+abbrev pub oneMore : Ran → Ran
+oneMore t = record { reader = t .reader; taken = suc (t .taken); outcome = t .outcome }
+
+-- nibbles fed one by one, with a line buffer of so many bytes, until one brings an answer or is above 15
+abbrev pub runOf : Reader → List ℕ → ℕ → Ran
+runOf r [] room = record { reader = r; taken = 0; outcome = nothing }
+runOf r (n ∷ w) room =
+    cond (leb n 15)
+    (cond (isNothing (answerFor (feedOf r n room .outcome)))
+    (oneMore (runOf (feedOf r n room .reader) w room))
+    (record { reader = feedOf r n room .reader; taken = 1; outcome = feedOf r n room .outcome }))
+    (record { reader = r; taken = 0; outcome = refused notANibble })
+
+pub record FeedCalled : Type 0 where
+  pub answer : ℕ
+  pub taken : ℕ
+  pub state : List ℕ
+  pub line : List ℕ
+
+abbrev pub feedRan : Ran → List ℕ → List ℕ → FeedCalled
+feedRan t s line =
+    record { answer = answerNumber (answerFor (t .outcome)); taken = t .taken; state = stored (t .reader) s; line = bufferAfter (t .outcome) line }
+
+abbrev pub feedRefused : ℕ → List ℕ → List ℕ → FeedCalled
+feedRefused n s line = record { answer = n; taken = 0; state = s; line = line }
+
+-- 11, 12, or what the run answers: of the state, the nibbles and the line buffer
+unfoldable pub feedCall : List ℕ → List ℕ → List ℕ → FeedCalled
+feedCall s w line =
+    cond (holdsReader s)
+    (cond (leb (bodyLength (readerIn s .head .profile)) (length line)) (feedRan (runOf (readerIn s) w (length line)) s line) (feedRefused noRoom s line))
+    (feedRefused badState s line)
+
+-- Writing: 0 or the refusal, how many nibbles, and the buffer afterwards.
+
+abbrev pub writtenNumber : Output → ℕ
+writtenNumber (writer.nibbles w) = 0
+writtenNumber (writer.refused n) = n
+
+abbrev pub writtenCount : Output → ℕ
+writtenCount (writer.nibbles w) = length w
+writtenCount (writer.refused n) = 0
+
+abbrev pub writtenTo : Output → List ℕ → List ℕ
+writtenTo = writer.bufferAfter
+
+-- Judging.
+
+-- a judge as a number: 0 while it waits, else the place that is due, 2^16 more once borders are on, and 2^17 more once they are off
+abbrev pub judgeNumber : Judge → ℕ
+judgeNumber judge.Waiting = 0
+judgeNumber (judge.Due place Unsettled) = place
+judgeNumber (judge.Due place On) = 0x10000 + place
+judgeNumber (judge.Due place Off) = 0x20000 + place
+
+abbrev pub bordersNumbered : ℕ → Borders
+bordersNumbered n = cond (ltb n 0x10000) Unsettled (cond (ltb n 0x20000) On Off)
+
+unfoldable pub judgeNumbered : ℕ → Judge
+judgeNumbered n = cond (eqb n 0) judge.Waiting (judge.Due (n % 0x10000) (bordersNumbered n))
+
+abbrev pub verdictNumber : Verdict → ℕ
+verdictNumber verdict.Waiting = 0
+verdictNumber verdict.Going = 1
+verdictNumber verdict.Complete = 2
+verdictNumber (verdict.Refused n) = n
+
+pub record JudgeCalled : Type 0 where
+  pub answer : ℕ
+  pub judge : ℕ
+
+-- 11 for a number that is no judge's, or what the judge answers, and the judge that it leaves
+unfoldable pub judgeCall : ℕ → ℕ → ℕ → JudgeCalled
+judgeCall n kind number =
+    cond (ltb n 0x30000)
+    (record {
+      answer = verdictNumber (judgeOf (judgeNumbered n) kind number .verdict);
+      judge = judgeNumber (judgeOf (judgeNumbered n) kind number .judge);
+    })
+    (record { answer = badState; judge = n })

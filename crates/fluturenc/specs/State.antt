@@ -1,0 +1,100 @@
+-- A reader's state as bytes of a lent buffer, in this order: the profile's number; the kind number of the mark before the open mark (0: no
+-- line kind; 6: no mark is open); the open mark's code; the count and the window, four bytes each, the highest first; the two bytes kept;
+-- whether a stray nibble is noted; and the body.
+use mathlib.Core.Bool.{Bool, true, false, _&&_, cond}
+use mathlib.Core.List.{List, [], _∷_, _++_}
+use Prim.Native.Nat.{ℕ, _+_, _*_, _/_, _%_}
+use lib.Dec.{eqb, leb}
+use lib.ListN.{length, getD, take, drop}
+use Rattle.line_code.specs.declared.LineKind.{LineKind}
+use Rattle.line_code.specs.declared.LineKind.the-variants.{NotLine, LineOf}
+use Rattle.line_code.specs.LineCode.{kindNumber, kindNumbered}
+use Rattle.profile.specs.declared.Profile.{Profile}
+use Rattle.profile.specs.declared.Profile.the-variants.{VV5404, VV5300}
+use Rattle.profile.specs.Profile.{profileNumber, longest}
+use Rattle.stream.specs.declared.Mark.{Mark}
+use Rattle.stream.specs.declared.Mark.the-variants.{NoMark, Open}
+use Rattle.reader.specs.declared.Head.{Head}
+use Rattle.reader.specs.declared.Reader.{Reader}
+use Rattle.reader.specs.Reader.{passes}
+
+-- the bytes of all but the body, and of a whole state
+abbrev pub headLength : ℕ
+headLength = 14
+
+abbrev pub stateLength : ℕ
+stateLength = headLength + longest
+
+-- A reader as bytes.
+
+-- a kind number, 0 for no line kind
+abbrev pub lineKindNumber : LineKind → ℕ
+lineKindNumber NotLine = 0
+lineKindNumber (LineOf k) = kindNumber k
+
+-- in place of a kind number: no mark is open
+abbrev pub noMark : ℕ
+noMark = 6
+
+abbrev pub markNumber : Mark → ℕ
+markNumber NoMark = noMark
+markNumber (Open before code) = lineKindNumber before
+
+abbrev pub codeOf : Mark → ℕ
+codeOf NoMark = 0
+codeOf (Open before code) = code
+
+abbrev pub bitOf : Bool → ℕ
+bitOf true = 1
+bitOf false = 0
+
+-- a number's four bytes, the highest first, in front of others
+abbrev pub fourBytes : ℕ → List ℕ → List ℕ
+fourBytes n w = n / 0x1000000 ∷ n / 0x10000 % 256 ∷ n / 0x100 % 256 ∷ n % 256 ∷ w
+
+unfoldable pub headBytes : Head → List ℕ
+headBytes h =
+    profileNumber (h .profile)
+    ∷ markNumber (h .at)
+    ∷ codeOf (h .at)
+    ∷ fourBytes (h .count) (fourBytes (h .window) (h .kept .first ∷ h .kept .second ∷ bitOf (h .kept .stray) ∷ []))
+
+-- a buffer with a reader's state at its front, and the rest as it was
+unfoldable pub stored : Reader → List ℕ → List ℕ
+stored r s = headBytes (r .head) ++ (r .body ++ drop stateLength s)
+
+-- The reader that bytes hold.
+
+abbrev pub profileOf : ℕ → Profile
+profileOf n = cond (eqb n 0) VV5404 VV5300
+
+abbrev pub markNumbered : ℕ → ℕ → Mark
+markNumbered n code = cond (eqb n noMark) NoMark (Open (kindNumbered n) code)
+
+-- a number from its four bytes
+abbrev pub numberOf : ℕ → ℕ → ℕ → ℕ → ℕ
+numberOf a b c d = 0x1000000 * a + 0x10000 * b + 0x100 * c + d
+
+unfoldable pub headIn : List ℕ → Head
+headIn s =
+    record {
+      profile = profileOf (getD s 0 0);
+      at = markNumbered (getD s 1 0) (getD s 2 0);
+      count = numberOf (getD s 3 0) (getD s 4 0) (getD s 5 0) (getD s 6 0);
+      window = numberOf (getD s 7 0) (getD s 8 0) (getD s 9 0) (getD s 10 0);
+      kept = record { first = getD s 11 0; second = getD s 12 0; stray = eqb (getD s 13 0) 1 };
+    }
+
+abbrev pub bodyIn : List ℕ → List ℕ
+bodyIn s = take longest (drop headLength s)
+
+abbrev pub readerIn : List ℕ → Reader
+readerIn s = record { head = headIn s; body = bodyIn s }
+
+-- these are numbers of a profile, of an open mark and of a bool
+unfoldable pub tagged : ℕ → ℕ → ℕ → Bool
+tagged profile mark stray = leb profile 1 && (leb mark noMark && leb stray 1)
+
+-- the bytes hold a reader, and it passes its own test
+unfoldable pub holdsReader : List ℕ → Bool
+holdsReader s = leb stateLength (length s) && (tagged (getD s 0 0) (getD s 1 0) (getD s 13 0) && passes (headIn s))

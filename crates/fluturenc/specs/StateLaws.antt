@@ -1,0 +1,106 @@
+-- Laws of a reader's state in bytes: it is read back as it was stored.
+use mathlib.Core.Path.{_≡_, refl, ap, _∙_}
+use mathlib.Core.Bool.{Bool, true, false}
+use mathlib.Core.List.{List, _++_}
+use Prim.Native.Nat.{ℕ, _+_, _/_, _%_, _≤_}
+use native.Mathlib.Omega.{arith}
+use borrow.Author.Tests.{leb-true, le-leb}
+use lib.Dec.{eqb, leb}
+use lib.ListN.{length, getD, take, drop, length-append, length-drop}
+use lib.Seq.{take-at}
+use Rattle.bits.specs.Every.{and-left, and-both}
+use Rattle.line_code.specs.declared.Kind.the-variants.{BL, BK, VL, SOF, EOF}
+use Rattle.line_code.specs.declared.LineKind.{LineKind}
+use Rattle.line_code.specs.declared.LineKind.the-variants.{NotLine, LineOf}
+use Rattle.line_code.specs.LineCode.{kindNumbered}
+use Rattle.profile.specs.declared.Profile.{Profile}
+use Rattle.profile.specs.declared.Profile.the-variants.{VV5404, VV5300}
+use Rattle.profile.specs.Profile.{profileNumber, longest}
+use Rattle.stream.specs.declared.Mark.{Mark}
+use Rattle.stream.specs.declared.Mark.the-variants.{NoMark, Open}
+use Rattle.reader.specs.declared.Head.{Head}
+use Rattle.reader.specs.declared.Reader.{Reader}
+use Rattle.reader.specs.Reader.{passes}
+use Rattle.fluturenc.specs.State.{stateLength, lineKindNumber, markNumber, codeOf, bitOf, headBytes, stored, profileOf, markNumbered, numberOf, headIn, readerIn, tagged, holdsReader}
+
+pub holds-length : (s : List ℕ) → holdsReader s ≡ true → stateLength ≤ length s
+unfolding holdsReader
+holds-length s h = leb-true stateLength (length s) (and-left _ _ h)
+
+-- Each part is read back.
+
+profile-back : (p : Profile) → profileOf (profileNumber p) ≡ p
+profile-back VV5404 = refl
+profile-back VV5300 = refl
+
+kind-back : (k : LineKind) → kindNumbered (lineKindNumber k) ≡ k
+unfolding kindNumbered
+kind-back NotLine = refl
+kind-back (LineOf BL) = refl
+kind-back (LineOf BK) = refl
+kind-back (LineOf VL) = refl
+kind-back (LineOf SOF) = refl
+kind-back (LineOf EOF) = refl
+
+open-back : (before : LineKind) (code : ℕ) → markNumbered (lineKindNumber before) code ≡ Open (kindNumbered (lineKindNumber before)) code
+open-back NotLine code = refl
+open-back (LineOf BL) code = refl
+open-back (LineOf BK) code = refl
+open-back (LineOf VL) code = refl
+open-back (LineOf SOF) code = refl
+open-back (LineOf EOF) code = refl
+
+mark-back : (m : Mark) → markNumbered (markNumber m) (codeOf m) ≡ m
+mark-back NoMark = refl
+mark-back (Open before code) = open-back before code ∙ ap (λ (k : LineKind). Open k code) (kind-back before)
+
+number-back : (n : ℕ) → numberOf (n / 0x1000000) (n / 0x10000 % 256) (n / 0x100 % 256) (n % 256) ≡ n
+number-back n = omega arith
+
+bit-back : (b : Bool) → eqb (bitOf b) 1 ≡ b
+bit-back true = refl
+bit-back false = refl
+
+head-back : (h : Head) (w : List ℕ) → headIn (headBytes h ++ w) ≡ h
+unfolding headIn headBytes
+head-back h w =
+    simp (profile-back (h .profile), mark-back (h .at), number-back (h .count), number-back (h .window), bit-back (h .kept .stray))
+
+mark-tag : (m : Mark) → leb (markNumber m) 6 ≡ true
+mark-tag NoMark = refl
+mark-tag (Open NotLine code) = refl
+mark-tag (Open (LineOf BL) code) = refl
+mark-tag (Open (LineOf BK) code) = refl
+mark-tag (Open (LineOf VL) code) = refl
+mark-tag (Open (LineOf SOF) code) = refl
+mark-tag (Open (LineOf EOF) code) = refl
+
+profile-tag : (p : Profile) → leb (profileNumber p) 1 ≡ true
+profile-tag VV5404 = refl
+profile-tag VV5300 = refl
+
+bit-tag : (b : Bool) → leb (bitOf b) 1 ≡ true
+bit-tag true = refl
+bit-tag false = refl
+
+-- A stored reader is read back.
+
+module _ (r : Reader) (s : List ℕ) (full : length (r .body) ≡ longest) where
+  pub reader-back : readerIn (stored r s) ≡ r
+  unfolding stored headBytes
+  reader-back =
+      ap (λ (h : Head). record { head = h; body = take longest (r .body ++ drop stateLength s) }) (head-back (r .head) (r .body ++ drop stateLength s))
+      ∙ ap (λ (b : List ℕ). record { head = r .head; body = b }) (take-at (r .body) (drop stateLength s) longest full)
+
+  pub stored-length : stateLength ≤ length s → length (stored r s) ≡ length s
+  unfolding stored headBytes
+  stored-length h = simp (length-append, full) (omega (arith, length-drop stateLength s))
+
+  stored-tagged : tagged (getD (stored r s) 0 0) (getD (stored r s) 1 0) (getD (stored r s) 13 0) ≡ true
+  unfolding stored headBytes tagged
+  stored-tagged = simp (profile-tag (r .head .profile), mark-tag (r .head .at), bit-tag (r .head .kept .stray))
+
+  pub stored-holds : stateLength ≤ length s → passes (r .head) ≡ true → holdsReader (stored r s) ≡ true
+  unfolding holdsReader
+  stored-holds h p =
+      and-both (leb stateLength (length (stored r s))) _ (le-leb stateLength (length (stored r s)) (omega (arith, stored-length h))) (and-both (tagged (getD (stored r s) 0 0) (getD (stored r s) 1 0) (getD (stored r s) 13 0)) _ stored-tagged (ap (λ (x : Reader). passes (x .head)) reader-back ∙ p))

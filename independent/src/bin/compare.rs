@@ -1,0 +1,414 @@
+//! Runs the proved code and the independent version on the same inputs and compares all that they give back, call by call:
+//! compare [NIBBLES [SEED]]. Shows the first difference and exits 1, if there is one.
+
+use independent::judge::{Judge, Verdict};
+use independent::layout::Profile;
+use independent::proved;
+use independent::random::Random;
+use independent::reader::{Answer, Reader};
+use independent::streams::{self, Line, Sort, SORTS};
+use independent::writer;
+use std::fmt::Debug;
+use std::process::exit;
+
+const LONGEST: usize = 356;
+
+/// What was compared.
+#[derive(Default)]
+struct Count {
+    nibbles: usize,
+    answers: usize,
+    lines: usize,
+    gaps: usize,
+    refusals: [usize; 20],
+    written: usize,
+    judged: usize,
+}
+
+impl Count {
+    fn answer(&mut self, answer: &Option<Answer>) {
+        match answer {
+            None => return,
+            Some(Answer::Line { .. }) => self.lines += 1,
+            Some(Answer::Gap(..)) => self.gaps += 1,
+            Some(Answer::Refused(n)) => self.refusals[*n as usize] += 1,
+        }
+        self.answers += 1;
+    }
+}
+
+/// The first difference ends the run.
+fn same<T: PartialEq + Debug>(what: &str, context: &dyn Debug, proved: T, plain: T) {
+    if proved != plain {
+        println!("difference in {what}\nproved      {proved:?}\nindependent {plain:?}\nat          {context:?}");
+        exit(1);
+    }
+}
+
+/// Both readers of one profile. The proved one's state lies within a larger buffer and moves about.
+struct Pair {
+    proved: Vec<u8>,
+    plain: Reader,
+}
+
+/// Bytes beyond the state, which no call may touch.
+const BEYOND: [u8; 3] = [0xA5, 0x00, 0xFF];
+
+impl Pair {
+    fn new(profile: Profile) -> Pair {
+        let mut state = vec![0xC3; proved::state_length()];
+        state.extend(BEYOND);
+        same("open", &profile, proved::open(streams::profile_number(profile), &mut state), 0);
+        Pair { proved: state, plain: Reader::new(profile) }
+    }
+
+    fn check_beyond(&self) {
+        same("room beyond the state", &(), &self.proved[proved::state_length()..], &BEYOND[..]);
+    }
+
+    /// Feeds a run to both. The answer, and how many nibbles were taken.
+    fn feed(&mut self, nibbles: &[u8], line: &[u8], count: &mut Count, context: &dyn Debug) -> (Option<Answer>, usize) {
+        let (mut ours, mut theirs) = (line.to_vec(), line.to_vec());
+        let before = self.proved.clone();
+        let (number, taken) = proved::feed(&mut self.proved, nibbles, &mut ours);
+        let ours_said = (proved::answer(number), taken);
+        let theirs_said = self.plain.run(nibbles, &mut theirs);
+        same("feeding", context, &ours_said, &theirs_said);
+        same("the line buffer", context, ours, theirs);
+        if ours_said.0 == Some(Answer::Refused(12)) {
+            same("the state after 12", context, &self.proved, &before);
+        }
+        self.check_beyond();
+        count.nibbles += taken;
+        count.answer(&ours_said.0);
+        ours_said
+    }
+
+    fn finish(&mut self, count: &mut Count, context: &dyn Debug) -> Option<Answer> {
+        let ours = proved::answer(proved::finish(&mut self.proved));
+        let theirs = self.plain.finish();
+        same("finish", context, &ours, &theirs);
+        self.check_beyond();
+        let mut fresh = vec![0; proved::state_length()];
+        proved::open(streams::profile_number(self.plain.profile), &mut fresh);
+        same("the state after finish", context, &self.proved[..fresh.len()], &fresh[..]);
+        count.answer(&ours);
+        ours
+    }
+}
+
+/// A line buffer of a length that is enough, mostly.
+fn line_buffer(random: &mut Random, profile: Profile) -> Vec<u8> {
+    let n = profile.body_length();
+    let length = match random.below(12) {
+        0 => n + random.below(40),
+        1 => n - 1 - random.below(3),
+        2 => random.below(2 * n),
+        3 => LONGEST,
+        _ => n,
+    };
+    let fill = random.byte();
+    (0..length).map(|i| fill.wrapping_add(i as u8)).collect()
+}
+
+fn run_length(random: &mut Random, left: usize) -> usize {
+    let length = match random.below(6) {
+        0 => random.below(3),
+        1 => random.below(20),
+        2 => random.below(2000),
+        3 => left,
+        _ => random.below(800),
+    };
+    length.min(left)
+}
+
+/// One stream in runs of random lengths, and finish at its end or not.
+fn compare_stream(random: &mut Random, pair: &mut Pair, sort: Sort, nibbles: &[u8], count: &mut Count) {
+    let profile = pair.plain.profile;
+    let mut at = 0;
+    while at < nibbles.len() {
+        let length = run_length(random, nibbles.len() - at);
+        let line = line_buffer(random, profile);
+        let (answer, taken) = pair.feed(&nibbles[at..at + length], &line, count, &(sort, profile, at, length));
+        at += taken;
+        if answer == Some(Answer::Refused(10)) {
+            at += 1;
+        }
+        if random.once_in(9) {
+            pair.proved = pair.proved.to_vec();
+        }
+    }
+    if random.once_in(3) {
+        pair.finish(count, &(sort, profile));
+    }
+}
+
+/// Streams of all sorts and both profiles.
+fn compare_streams(random: &mut Random, wanted: usize, count: &mut Count) {
+    while count.nibbles < wanted {
+        for profile in [Profile::P0, Profile::P1] {
+            let mut pair = Pair::new(profile);
+            for _ in 0..6 {
+                for sort in SORTS {
+                    let nibbles = streams::stream(random, sort, profile);
+                    compare_stream(random, &mut pair, sort, &nibbles, count);
+                }
+            }
+        }
+    }
+}
+
+/// Nibbles from hexadecimal digits, with a run of body bytes in place of each `*`.
+fn hex(text: &str, body: &[u8]) -> Vec<u8> {
+    text.chars()
+        .filter(|c| !c.is_whitespace())
+        .flat_map(|c| match c {
+            '*' => body.iter().flat_map(|b| [b >> 4, b & 15]).collect(),
+            _ => vec![c.to_digit(16).expect("a digit") as u8],
+        })
+        .collect()
+}
+
+/// The cases of paper 01 that are run, with what they must be answered: of both.
+fn compare_edges(count: &mut Count) {
+    let blank = [7u8; LONGEST];
+    let long = [7u8; LONGEST + 1];
+    let mut pixels = [0x33u8; LONGEST];
+    pixels[LONGEST - 1] = 0x1F;
+    let line = |kind, number, repaired| Answer::Line { kind, number, repaired };
+    let gap = Answer::Gap(255, 255);
+    let cases: Vec<(&str, Vec<u8>, Vec<Answer>)> = vec![
+        ("no input", vec![], vec![]),
+        ("no mark", hex("FFFF0 FFF00 12345", &[]), vec![]),
+        ("a body of 355", hex("FFFF009D 085E * FFFF0080 FFFF", &blank[1..]), vec![Answer::Refused(4), gap.clone()]),
+        ("a body of 356", hex("FFFF009D 085E * FFFF0080 FFFF", &blank), vec![line(1, 303, false), gap.clone()]),
+        ("a body of 357", hex("FFFF009D 085E * FFFF0080 FFFF", &long), vec![Answer::Refused(4), gap.clone()]),
+        ("a code on the next mark", hex("FFFF00FFFF00C7", &[]), vec![Answer::Refused(1), Answer::Refused(3)]),
+        ("a last pixel 1F", hex("FFFF00B6 011A * FFFF0080 FFFF", &pixels), vec![line(3, 13, false), gap.clone()]),
+        ("a repaired start", hex("FFFF009C 0101 * FFFF0080", &blank), vec![line(1, 0, true), gap.clone()]),
+        ("a repaired end", hex("FFFF009D 0101 * FFFF0081", &blank), vec![line(1, 0, true), gap.clone()]),
+        ("a reserved code", hex("FFFF00ED", &[]), vec![Answer::Refused(2)]),
+        ("a damaged code", hex("FFFF009E", &[]), vec![Answer::Refused(1)]),
+    ];
+    for (name, nibbles, wanted) in cases {
+        let mut pair = Pair::new(Profile::P0);
+        let mut answers = Vec::new();
+        let mut at = 0;
+        let buffer = [0x55; LONGEST];
+        while at < nibbles.len() {
+            let (answer, taken) = pair.feed(&nibbles[at..], &buffer, count, &name);
+            at += taken;
+            answers.extend(answer);
+        }
+        answers.extend(pair.finish(count, &name));
+        same("a case of paper 01", &name, answers, wanted);
+    }
+    for (nulls, bytes) in [(25, 393), (103, 471)] {
+        let mut nibbles = vec![0; 2000];
+        let written = proved::write(0, 1, 303, &blank, (255, 255), nulls, &mut nibbles);
+        same("the length of a line period", &nulls, written, Ok(2 * bytes));
+    }
+}
+
+/// Calls that must be refused and leave everything as it was, and states that no call left.
+fn compare_refused_states(random: &mut Random, count: &mut Count) {
+    let n = proved::state_length();
+    for profile in 2..=255 {
+        let mut state = vec![0x77; n];
+        same("open, profile", &profile, proved::open(profile, &mut state), 11);
+        same("the state after 11", &profile, state, vec![0x77; n]);
+    }
+    for short in 0..n {
+        let mut state = vec![0x77; short];
+        for profile in [0, 1] {
+            same("open, room", &short, proved::open(profile, &mut state), 12);
+        }
+        same("feeding a short state", &short, proved::feed(&mut state, &[1, 2, 3], &mut [0; LONGEST]), (11, 0));
+        same("finishing a short state", &short, proved::finish(&mut state), 11);
+        same("the state after them", &short, state, vec![0x77; short]);
+    }
+    for turn in 0..20_000 {
+        let mut state = if turn % 2 == 0 { vec![0; n] } else { (0..n).map(|_| random.byte()).collect() };
+        proved::open((turn % 4 / 2) as u8, &mut state);
+        let nibbles = streams::noise(random, 40);
+        proved::feed(&mut state, &nibbles, &mut [0; LONGEST]);
+        for _ in 0..random.below(4) + 1 {
+            let place = random.below(14);
+            state[place] = random.pick(&[0, 1, 2, 3, 6, 7, 255, 0x9D, 0x80]);
+        }
+        let before = state.clone();
+        let mut line = [0x44; LONGEST];
+        let nibbles = streams::noise(random, 400);
+        let (answer, taken) = proved::feed(&mut state, &nibbles, &mut line);
+        if answer == 11 {
+            same("what 11 leaves", &before, (&state, taken, line), (&before, 0, [0x44; LONGEST]));
+            same("finish after 11", &before, proved::finish(&mut state), 11);
+            same("what finish leaves after 11", &before, &state, &before);
+        } else {
+            same("11 from a state that a call left", &before, proved::finish(&mut state) == 11, false);
+        }
+        count.answers += 2;
+    }
+}
+
+/// A line for the writer, mostly with something wrong.
+fn for_writer(random: &mut Random) -> (u8, Line, usize) {
+    let profile = random.pick(&[Profile::P0, Profile::P1]);
+    let mut l = streams::any_line(random, profile);
+    let mut number = streams::profile_number(profile);
+    let full = 24 + 2 * profile.body_length() + 2 * l.nulls as usize;
+    let mut room = full + random.below(60);
+    for _ in 0..random.below(4) {
+        match random.below(9) {
+            0 => number = random.pick(&[0, 1, 2, 3, 255]),
+            1 => l.kind = random.pick(&[0, 1, 2, 3, 4, 5, 6, 7, 255]),
+            2 => l.number = if random.once_in(2) { random.word() as u16 } else { random.pick(&[4095, 4096, 65535]) },
+            3 => l.body.push(7),
+            4 => drop(l.body.pop()),
+            5 => {
+                if !l.body.is_empty() {
+                    let at = random.below(l.body.len());
+                    l.body[at] = random.pick(&[0, 1, 7, 8, 254, 255]);
+                }
+            }
+            6 => l.gap = (random.pick(&[0, 1, 7, 254, 255]), random.pick(&[0, 1, 7, 254, 255])),
+            7 => l.nulls = random.pick(&[0, 254, 255, 256, 65536, u32::MAX]),
+            _ => room = full.saturating_sub(random.below(4)),
+        }
+    }
+    if random.once_in(16) {
+        l.body = (0..random.below(400)).map(|_| random.byte()).collect();
+    }
+    (number, l, room)
+}
+
+fn compare_writer(random: &mut Random, calls: usize, count: &mut Count) {
+    let mut refused = [0; 20];
+    for _ in 0..calls {
+        let (profile, l, room) = for_writer(random);
+        let fill = random.byte();
+        let mut ours = vec![fill; room];
+        let answer = proved::write(profile, l.kind, l.number, &l.body, l.gap, l.nulls, &mut ours);
+        let mut theirs = vec![fill; room];
+        let wanted = match writer::write(profile, l.kind, l.number, &l.body, l.gap, l.nulls, room) {
+            Ok(nibbles) => {
+                theirs[..nibbles.len()].copy_from_slice(&nibbles);
+                Ok(nibbles.len())
+            }
+            Err(n) => {
+                refused[n as usize] += 1;
+                Err((n, 0))
+            }
+        };
+        same("writing", &(profile, &l, room), answer, wanted);
+        same("the nibbles written", &(profile, &l, room), ours, theirs);
+        count.written += 1;
+    }
+    for n in [11, 12, 13, 14, 15, 16, 17] {
+        same("whether the writer was refused each way", &n, calls == 0 || refused[n] > 0, true);
+    }
+}
+
+struct Judges {
+    proved: u32,
+    plain: Judge,
+}
+
+impl Judges {
+    fn line(&mut self, kind: u8, number: u16, count: &mut Count) -> Verdict {
+        let ours = proved::verdict(proved::judge(&mut self.proved, kind, number));
+        let theirs = self.plain.line(kind, number);
+        same("judging", &(kind, number, self.proved), ours, theirs);
+        count.judged += 1;
+        ours
+    }
+}
+
+fn compare_judge(random: &mut Random, frames: usize, count: &mut Count) {
+    let mut judges = Judges { proved: 0, plain: Judge::default() };
+    let mut complete = 0;
+    for _ in 0..frames {
+        let kinds = streams::frame_kinds(random.once_in(2));
+        let fault = if random.once_in(3) { usize::MAX } else { random.below(320) };
+        for (number, &kind) in kinds.iter().enumerate() {
+            if number == fault {
+                match random.below(6) {
+                    0 => drop(judges.line(0, random.word() as u16, count)),
+                    1 => drop(judges.line(random.byte(), number as u16, count)),
+                    2 => drop(judges.line(kind, random.pick(&[4095, 4096, 65535, 0]), count)),
+                    3 => drop(judges.line(4, 0, count)),
+                    4 => drop(judges.line(random.below(6) as u8, number as u16, count)),
+                    _ => continue,
+                }
+            }
+            if judges.line(kind, number as u16, count) == Verdict::Complete {
+                complete += 1;
+            }
+        }
+    }
+    same("whether a frame was complete", &frames, frames == 0 || complete > 0, true);
+    for _ in 0..1000 * frames {
+        judges.line(random.below(8) as u8, random.pick(&[0, 1, 2, 3, 10, 11, 303, 4096]), count);
+    }
+    // A judge is 0, a place from 1 to 10, or one from 11 to 303 with 2^16 or 2^17 more.
+    for number in (0..0x4_0000).chain([u32::MAX]) {
+        let (borders, place) = (number >> 16, number & 0xFFFF);
+        let reached = match borders {
+            0 => place <= 10,
+            1 | 2 => (11..=303).contains(&place),
+            _ => false,
+        };
+        let mut judge = number;
+        let answer = proved::judge(&mut judge, 6, 0);
+        same("a judge's own test", &number, (answer, judge), (if reached { 13 } else { 11 }, number));
+        count.judged += 1;
+    }
+}
+
+/// Whole frames through the proved writer, reader and judge, beside the independent ones.
+fn compare_frames(random: &mut Random, frames: usize, count: &mut Count) {
+    let mut pair = Pair::new(Profile::P0);
+    let mut judges = Judges { proved: 0, plain: Judge::default() };
+    let mut complete = 0;
+    for frame in 0..frames {
+        let borders = random.once_in(2);
+        let mut nibbles: Vec<u8> = streams::frame(random, borders, 25).iter().flat_map(|l| streams::written(Profile::P0, l)).collect();
+        if frame % 2 == 1 {
+            let at = random.below(nibbles.len());
+            nibbles.drain(at..(at + 1 + random.below(9)).min(nibbles.len()));
+        }
+        let mut at = 0;
+        while at < nibbles.len() {
+            let (answer, taken) = pair.feed(&nibbles[at..], &[0; LONGEST], count, &("frame", frame, at));
+            at += taken;
+            let verdict = match answer {
+                Some(Answer::Line { kind, number, .. }) => judges.line(kind, number, count),
+                Some(Answer::Refused(1..=7)) => judges.line(0, 0, count),
+                _ => continue,
+            };
+            complete += usize::from(verdict == Verdict::Complete);
+        }
+    }
+    pair.finish(count, &"frames");
+    same("whether a whole frame was complete", &frames, frames < 2 || complete > 0, true);
+}
+
+fn main() {
+    let mut arguments = std::env::args().skip(1);
+    let wanted: usize = arguments.next().map_or(3_000_000, |a| a.parse().expect("how many nibbles"));
+    let seed: u64 = arguments.next().map_or(0x5404_5300, |a| a.parse().expect("a seed"));
+    println!("seed {seed}");
+    let mut random = Random::new(seed);
+    let mut count = Count::default();
+    compare_edges(&mut count);
+    compare_refused_states(&mut random, &mut count);
+    compare_writer(&mut random, wanted / 100 + 1000, &mut count);
+    compare_judge(&mut random, wanted / 100_000 + 4, &mut count);
+    compare_frames(&mut random, wanted / 1_000_000 + 2, &mut count);
+    let wanted = count.nibbles + wanted;
+    compare_streams(&mut random, wanted, &mut count);
+    let refusals: Vec<String> = count.refusals.iter().enumerate().filter(|(_, n)| **n > 0).map(|(i, n)| format!("{i}: {n}")).collect();
+    println!("{} lines, {} good gaps; refusals {}", count.lines, count.gaps, refusals.join(", "));
+    println!("{} calls of the writer, {} of the judge", count.written, count.judged);
+    println!("{} nibbles, {} answers compared: no difference", count.nibbles, count.answers);
+}

@@ -1,0 +1,72 @@
+//! Frames of profile 0.
+
+#[derive(Clone, Copy, PartialEq, Eq, Debug)]
+pub enum Verdict {
+    Waiting,
+    Going,
+    Complete,
+    Refused(u8),
+}
+
+/// The place due, and whether borders are on, once that is settled; none while waiting.
+#[derive(Clone, Copy, PartialEq, Eq, Debug, Default)]
+pub struct Judge {
+    due: Option<(u16, Option<bool>)>,
+}
+
+fn kind_at(place: u16, borders: bool) -> u8 {
+    let (visible, eof) = if borders { (10, 302) } else { (12, 300) };
+    match place {
+        0 => 4,
+        1 | 2 => 2,
+        p if p < visible => 1,
+        p if p < eof => 3,
+        p if p == eof => 5,
+        _ => 1,
+    }
+}
+
+impl Judge {
+    pub fn line(&mut self, kind: u8, number: u16) -> Verdict {
+        if kind > 5 {
+            return Verdict::Refused(13);
+        }
+        if kind != 0 && number > 4095 {
+            return Verdict::Refused(14);
+        }
+        let opens = kind == 4 && number == 0;
+        let Some((place, borders)) = self.due else {
+            if opens {
+                self.due = Some((1, None));
+                return Verdict::Going;
+            }
+            return Verdict::Waiting;
+        };
+        self.due = None;
+        if kind == 0 {
+            return Verdict::Refused(19);
+        }
+        let settled = match borders {
+            Some(b) => (kind == kind_at(place, b)).then_some(Some(b)),
+            None if place == 10 => match kind {
+                3 => Some(Some(true)),
+                1 => Some(Some(false)),
+                _ => None,
+            },
+            None => (kind == kind_at(place, true)).then_some(None),
+        };
+        match settled {
+            Some(_) if number == place && place == 303 => Verdict::Complete,
+            Some(b) if number == place => {
+                self.due = Some((place + 1, b));
+                Verdict::Going
+            }
+            _ => {
+                if opens {
+                    self.due = Some((1, None));
+                }
+                Verdict::Refused(18)
+            }
+        }
+    }
+}

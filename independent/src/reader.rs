@@ -1,0 +1,146 @@
+//! One answer for each mark.
+
+use crate::layout::*;
+
+#[derive(Clone, PartialEq, Eq, Debug)]
+pub enum Answer {
+    Line { kind: u8, number: u16, repaired: bool },
+    Gap(u8, u8),
+    Refused(u8),
+}
+
+const GROUP: [u8; 6] = [15, 15, 15, 15, 0, 0];
+
+pub struct Reader {
+    pub profile: Profile,
+    /// The open mark: the line kind of the mark before it, and its code byte.
+    open: Option<(Option<u8>, u8)>,
+    /// All nibbles since the open mark's 0 0; all nibbles so far while no mark is open.
+    text: Vec<u8>,
+}
+
+fn kind_of(code: u8) -> Option<u8> {
+    match read_code(code) {
+        Reading::Clean(Code::Line(k)) | Reading::Repaired(Code::Line(k)) => Some(k),
+        _ => None,
+    }
+}
+
+impl Reader {
+    pub fn new(profile: Profile) -> Reader {
+        Reader { profile, open: None, text: Vec::new() }
+    }
+
+    /// Takes a nibble, with a line buffer: an answer if one is due. 10 and 12 change nothing.
+    pub fn feed(&mut self, nibble: u8, buffer: &mut [u8]) -> Option<Answer> {
+        if nibble > 15 {
+            return Some(Answer::Refused(10));
+        }
+        if buffer.len() < self.profile.body_length() {
+            return Some(Answer::Refused(12));
+        }
+        self.text.push(nibble);
+        let n = self.text.len();
+        if n < 8 || self.text[n - 8..n - 2] != GROUP {
+            return None;
+        }
+        let code = self.text[n - 2] << 4 | self.text[n - 1];
+        let answer = self.answer(&self.text[..n - 8], Some(code), buffer);
+        let before = self.open.and_then(|(_, own)| kind_of(own));
+        self.open = Some((before, code));
+        self.text.clear();
+        self.text.push(code >> 4);
+        self.text.push(code & 15);
+        answer
+    }
+
+    /// Takes nibbles up to the first answer, and says how many. 12 comes before anything is taken; 10 takes what stands before it.
+    pub fn run(&mut self, nibbles: &[u8], buffer: &mut [u8]) -> (Option<Answer>, usize) {
+        if buffer.len() < self.profile.body_length() {
+            return (Some(Answer::Refused(12)), 0);
+        }
+        for (i, &nibble) in nibbles.iter().enumerate() {
+            match self.feed(nibble, buffer) {
+                None => {}
+                Some(Answer::Refused(10)) => return (Some(Answer::Refused(10)), i),
+                answer => return (answer, i + 1),
+            }
+        }
+        (None, nibbles.len())
+    }
+
+    /// Answers the last mark, if there is one; a fresh reader is left.
+    pub fn finish(&mut self) -> Option<Answer> {
+        let answer = self.answer(&self.text, None, &mut []);
+        *self = Reader::new(self.profile);
+        answer
+    }
+
+    fn answer(&self, text: &[u8], next: Option<u8>, buffer: &mut [u8]) -> Option<Answer> {
+        let (before, code) = self.open?;
+        let (code, repaired) = match read_code(code) {
+            Reading::Damaged => return Some(Answer::Refused(1)),
+            Reading::Clean(c) => (c, false),
+            Reading::Repaired(c) => (c, true),
+        };
+        Some(match code {
+            Code::Reserved => Answer::Refused(2),
+            Code::End => self.gap(before, text),
+            Code::Line(kind) => match next {
+                None => Answer::Refused(3),
+                Some(next) => self.line(kind, repaired, text, next, buffer),
+            },
+        })
+    }
+
+    fn line(&self, kind: u8, repaired: bool, text: &[u8], next: u8, buffer: &mut [u8]) -> Answer {
+        let n = self.profile.body_length();
+        if text.len() != 6 + 2 * n {
+            return Answer::Refused(4);
+        }
+        let byte = |i: usize| text[2 * i] << 4 | text[2 * i + 1];
+        let (a, b) = (byte(1), byte(2));
+        if !number_byte_good(a) || !number_byte_good(b) {
+            return Answer::Refused(5);
+        }
+        let mut body = [0u8; 356];
+        for (i, x) in body[..n].iter_mut().enumerate() {
+            *x = byte(3 + i);
+        }
+        if !body_allowed(self.profile, kind, &body[..n]) {
+            return Answer::Refused(6);
+        }
+        let end_repaired = match read_code(next) {
+            Reading::Clean(Code::End) => false,
+            Reading::Repaired(Code::End) => true,
+            _ => return Answer::Refused(7),
+        };
+        buffer[..n].copy_from_slice(&body[..n]);
+        let number = (a as u16 >> 1) << 6 | b as u16 >> 1;
+        Answer::Line { kind, number, repaired: repaired || end_repaired }
+    }
+
+    fn gap(&self, before: Option<u8>, text: &[u8]) -> Answer {
+        let Some(kind) = before else {
+            return Answer::Refused(8);
+        };
+        let all_f = |w: &[u8]| w.iter().all(|&x| x == 15);
+        // An end code never lies on the next mark's F, so the text holds the whole code.
+        let gap = &text[2..];
+        match self.profile {
+            Profile::P0 if all_f(gap) => Answer::Gap(255, 255),
+            Profile::P0 => Answer::Refused(9),
+            Profile::P1 => {
+                if gap.len() < 4 {
+                    return Answer::Refused(9);
+                }
+                let (a, b) = (gap[0] << 4 | gap[1], gap[2] << 4 | gap[3]);
+                if gap_allowed(self.profile, kind, a, b) && all_f(&gap[4..]) {
+                    Answer::Gap(a, b)
+                } else {
+                    Answer::Refused(9)
+                }
+            }
+        }
+    }
+}
