@@ -1,3 +1,3 @@
 pub mod Part
-pub mod Told
+pub mod Step
 pub mod Upto

@@ -1,37 +1,45 @@
--- A capture listed: the rows of its marks, and how far a lent buffer lasts.
+-- A capture listed: the text of its marks or frames, and how far a lent buffer lasts.
 use mathlib.Core.Bool.{cond}
 use mathlib.Core.List.{List, [], _∷_, _++_}
-use Prim.Native.Nat.{ℕ, suc, _+_, _-_, _*_}
+use Prim.Native.Nat.{ℕ, suc, _-_, _*_}
 use lib.Dec.{ltb}
 use lib.ListN.{length, take}
 use Rattle.profile.specs.declared.Profile.{Profile}
 use Rattle.profile.specs.Profile.{longest}
 use Rattle.stream.specs.declared.Answer.{Answer}
-use Rattle.stream.specs.declared.Answer.the-variants.{Nothing, Line, Gap, Refused}
 use Rattle.stream.specs.Answers.{answerFor}
 use Rattle.stream.specs.Written.{nibbles}
 use Rattle.reader.specs.Reader.{freshReader, feedOf, finishOf}
-use Rattle.listing.specs.Rows.{rowRoom, rowOf, ifRoom}
+use Rattle.tally.specs.declared.Tally.{Tally}
+use Rattle.tally.specs.declared.Told.{Told}
+use Rattle.tally.specs.Tally.{freshTally, takeOf, closeOf, isGood}
+use Rattle.listing.specs.Rows.{headerRow, rowRoom, rowOf}
+use Rattle.listing.specs.Frames.{newsLine, summaryLines}
+use Rattle.capture.specs.declared.Mode.{Mode}
+use Rattle.capture.specs.declared.Mode.the-variants.{Rows, Frames}
 use Rattle.capture.specs.declared.Lister.{Lister}
 use Rattle.capture.specs.declared.Listed.{Listed}
 
--- a fresh reader, and no mark answered
-abbrev pub freshLister : Profile → Lister
-freshLister p = record { reader = freshReader p; marks = 0 }
+-- a fresh reader and a fresh tally
+abbrev pub freshLister : Mode → Profile → Lister
+freshLister m p = record { mode = m; reader = freshReader p; tally = freshTally }
 
--- where the count of marks stops: the greatest u64
-abbrev pub marksStop : ℕ
-marksStop = 18446744073709551615
+-- What is listed.
 
-unfoldable pub oneMore : ℕ → ℕ
-oneMore marks = cond (ltb marks marksStop) (marks + 1) marks
+-- above the list: the names of the columns
+abbrev pub headText : Mode → List ℕ
+headText Rows = headerRow
+headText Frames = []
 
--- the marks answered, with this answer
-unfoldable pub counted : ℕ → Answer → ℕ
-counted marks Nothing = marks
-counted marks (Line f) = oneMore marks
-counted marks (Gap a b) = oneMore marks
-counted marks (Refused n) = oneMore marks
+-- an answer that was told to the tally: the mark's row, or the line of a frame
+unfoldable pub textOf : Mode → Told → Answer → List ℕ
+textOf Rows d a = rowOf (d .tally .marks) a
+textOf Frames d a = newsLine (d .news)
+
+-- below the list: the counts of the frames, and whether all is good
+unfoldable pub reportOf : Mode → Tally → List ℕ
+reportOf Rows t = []
+reportOf Frames t = summaryLines (t .complete) (t .broken) (isGood t)
 
 -- One nibble.
 
@@ -41,11 +49,12 @@ answerTo l n = answerFor (feedOf (l .reader) n longest .outcome)
 
 -- the lister afterwards
 unfoldable pub afterNibble : Lister → ℕ → Lister
-afterNibble l n = record { reader = feedOf (l .reader) n longest .reader; marks = counted (l .marks) (answerTo l n) }
+afterNibble l n =
+    record { mode = l .mode; reader = feedOf (l .reader) n longest .reader; tally = takeOf (l .tally) (answerTo l n) .tally }
 
--- the row of the mark that is answered, if one is
-unfoldable pub nibbleRow : Lister → ℕ → List ℕ
-nibbleRow l n = rowOf (counted (l .marks) (answerTo l n)) (answerTo l n)
+-- the text of the mark that is answered, if one is
+unfoldable pub nibbleText : Lister → ℕ → List ℕ
+nibbleText l n = textOf (l .mode) (takeOf (l .tally) (answerTo l n)) (answerTo l n)
 
 -- Many nibbles.
 
@@ -54,14 +63,14 @@ abbrev pub listAfter : Lister → List ℕ → Lister
 listAfter l [] = l
 listAfter l (n ∷ w) = listAfter (afterNibble l n) w
 
--- their rows
+-- their text
 abbrev pub listText : Lister → List ℕ → List ℕ
 listText l [] = []
-listText l (n ∷ w) = nibbleRow l n ++ listText (afterNibble l n) w
+listText l (n ∷ w) = nibbleText l n ++ listText (afterNibble l n) w
 
 -- Bytes, with a buffer.
 
--- how many bytes are taken: as long as there is room for two rows
+-- how many bytes are taken: as long as there is room for the text of two nibbles
 abbrev pub takenOf : Lister → ℕ → List ℕ → ℕ
 takenOf l room [] = 0
 takenOf l room (b ∷ bs) =
@@ -72,7 +81,7 @@ takenOf l room (b ∷ bs) =
 abbrev pub takenNibbles : Lister → ℕ → List ℕ → List ℕ
 takenNibbles l room bs = nibbles (take (takenOf l room bs) bs)
 
--- the rows of a piece, in a buffer with this room
+-- the text of a piece, in a buffer with this room
 unfoldable pub listedText : Lister → ℕ → List ℕ → List ℕ
 listedText l room bs = listText l (takenNibbles l room bs)
 
@@ -82,19 +91,26 @@ listedOf l room bs =
 
 -- Finish.
 
--- the last mark's answer, if there is one
+-- the last mark's answer, if there is one, and what the tally tells then
 abbrev pub lastAnswer : Lister → Answer
 lastAnswer l = answerFor (finishOf (l .reader) .outcome)
 
--- its row, where the buffer has room for any
-unfoldable pub lastRow : Lister → ℕ → List ℕ
-lastRow l room = ifRoom room (rowOf (counted (l .marks) (lastAnswer l)) (lastAnswer l))
+abbrev pub lastTold : Lister → Told
+lastTold l = closeOf (l .tally) (lastAnswer l)
 
--- a lister with the reader that finish leaves, and no mark answered; as it was where the buffer has no room
+-- its text, and what stands below the list
+abbrev pub endText : Lister → List ℕ
+endText l = textOf (l .mode) (lastTold l) (lastAnswer l) ++ reportOf (l .mode) (lastTold l .tally)
+
+-- where the buffer has room for any
+unfoldable pub lastText : Lister → ℕ → List ℕ
+lastText l room = cond (ltb room (2 * rowRoom)) [] (endText l)
+
+-- a lister with the reader that finish leaves, and a fresh tally; as it was where the buffer has no room
 unfoldable pub finishedOf : Lister → ℕ → Listed
 finishedOf l room =
     record {
-      lister = cond (ltb room rowRoom) l (record { reader = finishOf (l .reader) .reader; marks = 0 });
+      lister = cond (ltb room (2 * rowRoom)) l (record { mode = l .mode; reader = finishOf (l .reader) .reader; tally = freshTally });
       taken = 0;
-      used = length (lastRow l room);
+      used = length (lastText l room);
     }

@@ -1,4 +1,4 @@
--- How much of a piece is taken.
+-- How much of a piece is taken, and how long a text can be.
 use mathlib.Core.Bool.{Bool, true, false, cond}
 use mathlib.Core.List.{List, [], _∷_}
 use Prim.Native.Nat.{ℕ, suc, _-_, _*_, _<_, _≤_}
@@ -7,9 +7,15 @@ use lib.Dec.{ltb}
 use lib.ListN.{length}
 use borrow.Author.Tests.{le-ltb}
 use Rattle.stream.specs.Written.{nibbles}
+use Rattle.stream.specs.declared.Answer.{Answer}
+use Rattle.tally.specs.declared.Told.{Told}
 use Rattle.listing.specs.Rows.{rowRoom}
+use Rattle.listing.specs.RowLaws.{row-short}
+use Rattle.listing.specs.FramesLaws.{news-short}
+use Rattle.capture.specs.declared.Mode.{Mode}
+use Rattle.capture.specs.declared.Mode.the-variants.{Rows, Frames}
 use Rattle.capture.specs.declared.Lister.{Lister}
-use Rattle.capture.specs.Listed.{listAfter, listText, takenOf}
+use Rattle.capture.specs.Listed.{textOf, listAfter, listText, takenOf}
 
 -- no more than there are
 pub taken-within : (l : Lister) (room : ℕ) (bs : List ℕ) → takenOf l room bs ≤ length bs
@@ -21,7 +27,13 @@ taken-within l room (b ∷ bs) =
     either true h = omega arith
     either false h = omega arith
 
--- at least one, of a buffer with room for two rows
+-- at least one, of a buffer with room for the text of a byte
 pub taken-some : (l : Lister) (room : ℕ) (bs : List ℕ) → 2 * rowRoom ≤ room → 0 < length bs → 0 < takenOf l room bs
 taken-some l room [] h some = omega arith
 taken-some l room (b ∷ bs) h some = rw (le-ltb room (2 * rowRoom) h) (omega arith)
+
+-- no text of an answer is longer than the room that is asked for it
+pub text-short : (m : Mode) (d : Told) (a : Answer) → length (textOf m d a) ≤ rowRoom
+unfolding textOf
+text-short Rows d a = row-short (d .tally .marks) a
+text-short Frames d a = news-short (d .news)

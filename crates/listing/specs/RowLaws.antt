@@ -1,7 +1,7 @@
 -- The digits of a number one at a time, and how long the parts of a row can be.
 use mathlib.Core.Path.{_≡_, refl}
 use mathlib.Core.Bool.{Bool, true, false, cond}
-use mathlib.Core.List.{[], _∷_, _++_}
+use mathlib.Core.List.{List, [], _∷_, _++_}
 use Prim.Native.Nat.{ℕ, zero, suc, _+_, _-_, _/_, _%_, _<_, _≤_}
 use native.Mathlib.Omega.{arith}
 use lib.Dec.{ltb}
@@ -12,7 +12,7 @@ use Rattle.line_code.specs.declared.Kind.the-variants.{BL, BK, VL, SOF, EOF}
 use Rattle.stream.specs.declared.LineFacts.{LineFacts}
 use Rattle.stream.specs.declared.Answer.{Answer}
 use Rattle.stream.specs.declared.Answer.the-variants.{Nothing, Line, Gap, Refused}
-use Rattle.listing.specs.Rows.{digit, digits, decimal, kindWord, noteWord, lineWords, refusedWords, rowOf, rowRoom}
+use Rattle.listing.specs.Rows.{digit, digits, decimal, kindWord, noteWord, lineWords, refusedWords, rowOf, rowRoom, ifRoom}
 
 pub no-digits : (k n : ℕ) → k ≡ 0 → digits k n ≡ []
 no-digits k n e = simp e
@@ -61,3 +61,12 @@ row-short mark Nothing = omega arith
 row-short mark (Line f) = simp length-append (omega (arith, decimal-short mark, line-short f))
 row-short mark (Gap a b) = simp length-append (omega (arith, decimal-short mark))
 row-short mark (Refused n) = simp length-append (omega (arith, decimal-short mark, decimal-short n))
+
+-- no row needs no room
+pub no-row : (room : ℕ) → ifRoom room [] ≡ []
+unfolding ifRoom
+no-row room = either (ltb room rowRoom) []
+  where
+    either : (b : Bool) (t : List ℕ) → cond b t t ≡ t
+    either true t = refl
+    either false t = refl

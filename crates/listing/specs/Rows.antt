@@ -80,9 +80,9 @@ rowOf mark (Refused n) = rowWith mark (refusedWords n)
 
 -- Rows in a buffer.
 
--- the bytes that no row exceeds
+-- the bytes that no row exceeds, and nothing that is told of frames
 abbrev pub rowRoom : ℕ
-rowRoom = 64
+rowRoom = 144
 
 -- a row where a buffer of so many bytes has room for any; else nothing
 unfoldable pub ifRoom : ℕ → List ℕ → List ℕ

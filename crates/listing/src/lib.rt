@@ -1,4 +1,4 @@
-// The rows of a listing (paper 01, the program's output), rendered into a lent buffer.
+// The rows of a listing (paper 01, the program's output), rendered into a lent buffer; and in the module frames, what is told of frames.
 //
 // In: the number of a mark and its answer. Out: the row's bytes at the front of the buffer, and how many they are. Nothing is refused:
 // a buffer of fewer than ROW bytes stays as it was, and the count is 0. Cost: linear in the row.
@@ -8,12 +8,15 @@ ghost use Prim.Native.Nat.{_+_, _<_, _≤_};
 ghost use lib.ListN.{length};
 ghost use Rattle.listing.specs.Rows.{headerRow, kindWord, noteWord, gapWords, digit, digits, decimal, lineWords, refusedWords, rowWith, rowOf, rowRoom, ifRoom, onFront};
 ghost use Rattle.listing.specs.Put.{Put};
+
+pub mod frames;
+
 use line_code::Kind;
 use stream::Answer;
 use stream::LineFacts;
 
-// The bytes that no row exceeds.
-pub const ROW: usize = 64;
+// The bytes that no row exceeds, and nothing that is told of frames.
+pub const ROW: usize = 144;
 
 // Puts the first row, which names the columns, at the front of a buffer.
 pub fn header(out: &mut [u8]) -> usize

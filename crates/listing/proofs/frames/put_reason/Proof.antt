@@ -1,0 +1,48 @@
+use native.Mathlib.Omega.{arith}
+use mathlib.Core.Path.{refl}
+use borrow.Author.Tests.{eq-eqb, ne-eqb}
+use Rattle.listing.specs.PutLaws.{none}
+use Rattle.listing.specs.Frames.{reasonWords}
+use borrow.Author.Needs.{needs}
+use Rattle.listing.proofs.frames.put_reason.Statement.{statement}
+use Rattle.listing.proofs.frames.put_reason.Tie as tie
+
+slice-aggregate-put : tie.Need-slice-aggregate-put
+slice-aggregate-put c = search needs
+
+put-requires : tie.Need-put-requires
+put-requires c κs = search needs
+
+same-length : tie.Need-same-length
+same-length c = search needs
+
+returns : tie.Need-returns
+unfolding reasonWords
+returns c = simp (eq-eqb _ _ (c .before .before .before .before .before .if1 .taken)) (c .before .before .put .ensures)
+
+put-broken-line-requires : tie.Need-put-broken-line-requires
+put-broken-line-requires c κs = search needs
+
+same-length-2 : tie.Need-same-length-2
+same-length-2 c = search needs
+
+returns-2 : tie.Need-returns-2
+unfolding reasonWords
+returns-2 c = simp (ne-eqb _ _ (c .before .before .before .before .before .if1 .left), eq-eqb _ _ (c .before .before .before .before .if2 .taken)) (c .before .before .put-broken-line .ensures)
+
+returns-3 : tie.Need-returns-3
+unfolding reasonWords
+returns-3 c = simp (ne-eqb _ _ (c .before .if1 .left), ne-eqb _ _ (c .if2 .left)) (none _ _ _ (omega arith) refl)
+
+pub put-reason-spec : {M : Type 1} → statement M
+put-reason-spec =
+    tie.close
+    (tie.spec
+    slice-aggregate-put
+    put-requires
+    same-length
+    returns
+    put-broken-line-requires
+    same-length-2
+    returns-2
+    returns-3)

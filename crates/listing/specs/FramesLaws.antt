@@ -1,0 +1,57 @@
+-- How long the lines on frames can be.
+use mathlib.Core.Bool.{Bool, true, false, cond}
+use mathlib.Core.List.{[], _++_}
+use Prim.Native.Nat.{ℕ, _≤_}
+use native.Mathlib.Omega.{arith}
+use lib.Dec.{eqb}
+use lib.ListN.{length, length-append}
+use Rattle.refusal.specs.Refusal.{notTheLineDue, brokenLine}
+use Rattle.frame.specs.declared.Borders.{Borders}
+use Rattle.frame.specs.declared.Borders.the-variants.{Unsettled, On, Off}
+use Rattle.tally.specs.declared.News.{News}
+use Rattle.tally.specs.declared.News.the-variants.{Nothing, Complete, Broken, Cut}
+use Rattle.listing.specs.Rows.{decimal, rowRoom}
+use Rattle.listing.specs.RowLaws.{decimal-short}
+use Rattle.listing.specs.Frames.{frameWords, bordersWord, goodWords, notDueWords, brokenLineWords, closing, reasonWords, completeLine, brokenLineOf, newsLine, summaryLines}
+
+pub frame-short : (frame : ℕ) → length (frameWords frame) ≤ 26
+frame-short frame = simp length-append (omega (arith, decimal-short frame))
+
+pub borders-short : (b : Borders) → length (bordersWord b) ≤ 9
+borders-short Unsettled = omega arith
+borders-short On = omega arith
+borders-short Off = omega arith
+
+good-short : (good : Bool) → length (goodWords good) ≤ 9
+good-short true = omega arith
+good-short false = omega arith
+
+reason-short : (refusal own : ℕ) → length (reasonWords refusal own) ≤ 50
+unfolding reasonWords
+reason-short refusal own = either (eqb refusal notTheLineDue) (eqb refusal brokenLine)
+  where
+    either : (a b : Bool) → length (cond a notDueWords (cond b (brokenLineWords ++ (decimal own ++ closing)) [])) ≤ 50
+    either true b = omega arith
+    either false true = simp length-append (omega (arith, decimal-short own))
+    either false false = omega arith
+
+pub complete-short : (frame : ℕ) (b : Borders) (mark : ℕ) → length (completeLine frame b mark) ≤ 94
+unfolding completeLine
+complete-short frame b mark = simp length-append (omega (arith, decimal-short frame, borders-short b, decimal-short mark))
+
+pub broken-short : (frame mark refusal own : ℕ) → length (brokenLineOf frame mark refusal own) ≤ 134
+unfolding brokenLineOf
+broken-short frame mark refusal own =
+    simp length-append (omega (arith, decimal-short frame, decimal-short mark, decimal-short refusal, reason-short refusal own))
+
+-- no line on a frame is longer than the room that is asked for it, nor the last two lines
+pub news-short : (n : News) → length (newsLine n) ≤ rowRoom
+unfolding newsLine
+news-short Nothing = omega arith
+news-short (Complete frame b mark) = simp length-append (omega (arith, complete-short frame b mark))
+news-short (Broken frame mark refusal own) = simp length-append (omega (arith, broken-short frame mark refusal own))
+news-short (Cut frame) = simp length-append (omega (arith, decimal-short frame))
+
+pub summary-short : (complete broken : ℕ) (good : Bool) → length (summaryLines complete broken good) ≤ rowRoom
+unfolding summaryLines
+summary-short complete broken good = simp length-append (omega (arith, decimal-short complete, decimal-short broken, good-short good))

@@ -1,0 +1,126 @@
+// What is told of the frames of a capture: a line for each that is complete, broken or cut off, and the last two lines.
+ghost use mathlib.Core.Path.{_≡_};
+ghost use Prim.Native.Nat.{_+_, _≤_};
+ghost use lib.ListN.{length};
+ghost use mathlib.Core.List.{_++_};
+ghost use Rattle.listing.specs.Rows.{decimal, ifRoom, onFront, rowRoom};
+ghost use Rattle.listing.specs.Frames.{frameWords, bordersWord, goodWords, brokenLineWords, closing, reasonWords, completeLine, brokenLineOf, newsLine, summaryLines};
+ghost use Rattle.listing.specs.Put.{Put};
+use super::ROW;
+use super::put;
+use super::put_decimal;
+use frame::Borders;
+use tally::News;
+
+// Puts the line of a frame at the front of a buffer: none where there is no news.
+pub fn news(news: News, out: &mut [u8]) -> usize
+    ensures { λ r. ⌜ (r ≡ length (ifRoom (length (now (out .entry))) (newsLine news))) × (now (out .exit) ≡ onFront (ifRoom (length (now (out .entry))) (newsLine news)) (now (out .entry))) ⌝ }
+{
+    if out.len() < ROW {
+        return 0;
+    }
+    match news {
+        News::Nothing => 0,
+        News::Complete(frame, borders, mark) => {
+            let at = put_complete(frame, borders, mark, out);
+            put(b"\n", out, at)
+        }
+        News::Broken(frame, mark, refusal, own) => {
+            let at = put_broken(frame, mark, refusal, own, out);
+            put(b"\n", out, at)
+        }
+        News::Cut(frame) => {
+            let at = put_frame(frame, out);
+            put(b" cut off by the end of the capture\n", out, at)
+        }
+    }
+}
+
+// Puts the last two lines at the front of a buffer: the counts, and whether all is good.
+pub fn summary(complete: u64, broken: u64, good: bool, out: &mut [u8]) -> usize
+    ensures { λ r. ⌜ (r ≡ length (ifRoom (length (now (out .entry))) (summaryLines complete broken good))) × (now (out .exit) ≡ onFront (ifRoom (length (now (out .entry))) (summaryLines complete broken good)) (now (out .entry))) ⌝ }
+{
+    if out.len() < ROW {
+        return 0;
+    }
+    let at = put_decimal(complete, out, 0);
+    let at = put(b" complete, ", out, at);
+    let at = put_decimal(broken, out, at);
+    let at = put(b" broken\n", out, at);
+    put_good(good, out, at)
+}
+
+fn put_complete(frame: u64, borders: Borders, mark: u64, out: &mut [u8]) -> usize
+    requires { ⌜ rowRoom ≤ length (now out) ⌝ }
+    ensures { λ r. ⌜ Put (now (out .entry)) 0 (completeLine frame borders mark) r (now (out .exit)) ⌝ }
+{
+    let at = put_frame(frame, out);
+    let at = put(b" complete, borders ", out, at);
+    let at = put_borders(borders, out, at);
+    let at = put(b", last line at mark ", out, at);
+    put_decimal(mark, out, at)
+}
+
+fn put_broken(frame: u64, mark: u64, refusal: u8, own: u8, out: &mut [u8]) -> usize
+    requires { ⌜ rowRoom ≤ length (now out) ⌝ }
+    ensures { λ r. ⌜ Put (now (out .entry)) 0 (brokenLineOf frame mark refusal own) r (now (out .exit)) ⌝ }
+{
+    let at = put_frame(frame, out);
+    let at = put(b" broken at mark ", out, at);
+    let at = put_decimal(mark, out, at);
+    let at = put(b": ", out, at);
+    let at = put_decimal(refusal as u64, out, at);
+    put_reason(refusal, own, out, at)
+}
+
+fn put_frame(frame: u64, out: &mut [u8]) -> usize
+    requires { ⌜ rowRoom ≤ length (now out) ⌝ }
+    ensures { λ r. ⌜ Put (now (out .entry)) 0 (frameWords frame) r (now (out .exit)) ⌝ }
+{
+    let at = put(b"frame ", out, 0);
+    put_decimal(frame, out, at)
+}
+
+fn put_borders(borders: Borders, out: &mut [u8], at: usize) -> usize
+    requires { ⌜ at + 9 ≤ length (now out) ⌝ }
+    ensures { λ r. ⌜ Put (now (out .entry)) at (bordersWord borders) r (now (out .exit)) ⌝ }
+{
+    match borders {
+        Borders::Unsettled => put(b"unsettled", out, at),
+        Borders::On => put(b"on", out, at),
+        Borders::Off => put(b"off", out, at),
+    }
+}
+
+// Why a frame broke.
+fn put_reason(refusal: u8, own: u8, out: &mut [u8], at: usize) -> usize
+    requires { ⌜ at + 50 ≤ length (now out) ⌝ }
+    ensures { λ r. ⌜ Put (now (out .entry)) at (reasonWords refusal own) r (now (out .exit)) ⌝ }
+{
+    if refusal == refusal::NOT_THE_LINE_DUE {
+        return put(b", not the line due", out, at);
+    }
+    if refusal == refusal::BROKEN_LINE {
+        return put_broken_line(own, out, at);
+    }
+    at
+}
+
+fn put_broken_line(own: u8, out: &mut [u8], at: usize) -> usize
+    requires { ⌜ at + 50 ≤ length (now out) ⌝ }
+    ensures { λ r. ⌜ Put (now (out .entry)) at (brokenLineWords ++ (decimal own ++ closing)) r (now (out .exit)) ⌝ }
+{
+    let at = put(b", a broken line (its answer: ", out, at);
+    let at = put_decimal(own as u64, out, at);
+    put(b")", out, at)
+}
+
+fn put_good(good: bool, out: &mut [u8], at: usize) -> usize
+    requires { ⌜ at + 9 ≤ length (now out) ⌝ }
+    ensures { λ r. ⌜ Put (now (out .entry)) at (goodWords good) r (now (out .exit)) ⌝ }
+{
+    if good {
+        return put(b"GOOD\n", out, at);
+    }
+    put(b"NOT GOOD\n", out, at)
+}

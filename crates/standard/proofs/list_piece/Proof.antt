@@ -1,0 +1,114 @@
+use mathlib.Core.Path.{sym, ap, _∙_, _≡_}
+use mathlib.Core.List.{List}
+use Prim.Native.Nat.{ℕ, _+_, _<_, _≤_, _-_}
+use native.Mathlib.Omega.{arith}
+use lib.ListN.{take, drop, length-take, length-drop, length}
+use lib.Seq.{length-take-le}
+use borrow.Author.Needs.{needs}
+use Rattle.capture.specs.declared.Listed.{Listed}
+use Rattle.capture.specs.Listed.{listedText, listedOf}
+use Rattle.capture.specs.ListedLaws.{taken-within, taken-some}
+use Rattle.listing.specs.PutLaws.{front-within}
+use Rattle.standard.proofs.list_piece.Statement.{statement}
+use Rattle.standard.proofs.list_piece.Tie as tie
+
+abbrev Inv-loop : tie.InvT-loop
+Inv-loop piece out₀ l₀ at₀ out l at = (at ≤ length piece) × (65536 ≡ length out)
+
+abbrev μ-loop : tie.MeasureT-loop
+μ-loop piece out₀ l₀ at₀ out l at = length piece - at
+
+-- what is left of the piece
+abbrev rest : tie.After-list Inv-loop μ-loop → List ℕ
+rest c =
+    let piece = c .before .before .before .before .before .before .before .args .piece .now in
+    let at = c .before .before .before .before .loop .at in
+    take (length piece - at) (drop at piece)
+
+-- the rows of a call of `list` have room
+used-fits : (c : tie.After-list Inv-loop μ-loop) → c .list .result .used ≤ length (c .list .last .1 .1 .0)
+unfolding listedOf
+used-fits c =
+    let l = c .before .before .before .before .loop in
+    let u = ap (λ (r : Listed). r .used) (c .list .ensures .0) in
+    front-within (l .out) (listedText (l .l) (length (l .out)) (rest c)) u (c .list .ensures .1) (c .list .kept .1 .1 .0)
+
+-- it takes a byte or more, and no more than are left
+taken-fits :
+    (c : tie.After-list Inv-loop μ-loop)
+    → (0 < c .list .result .taken) × (c .before .before .before .before .loop .at + c .list .result .taken ≤ length (c .before .before .before .before .before .before .before .args .piece .now))
+unfolding listedOf
+taken-fits c =
+    let l = c .before .before .before .before .loop in
+    let e : length (rest c) ≡ length (c .before .before .before .before .before .before .before .args .piece .now) - l .at = simp (length-take, length-drop) (omega arith) in
+    let t = ap (λ (r : Listed). r .taken) (c .list .ensures .0) in
+    let w = taken-within (l .l) (length (l .out)) (rest c) in
+    let s = taken-some (l .l) (length (l .out)) (rest c) (omega (arith, l .inv .1)) (omega (arith, e, c .before .before .before .loop-test .taken)) in
+    (omega (arith, t, s), omega (arith, t, w, e, c .before .before .before .loop-test .taken))
+
+large-buffer-requires : tie.Need-large-buffer-requires Inv-loop μ-loop
+large-buffer-requires c κs = search needs
+
+loop-holds : tie.Need-loop-holds Inv-loop μ-loop
+loop-holds c = search needs
+
+sub-list : tie.Need-sub-list Inv-loop μ-loop
+sub-list c = search needs
+
+part-list-start : tie.Need-part-list-start Inv-loop μ-loop
+part-list-start c = search needs
+
+part-list-end : tie.Need-part-list-end Inv-loop μ-loop
+part-list-end c = search needs
+
+slice-aggregate-list : tie.Need-slice-aggregate-list Inv-loop μ-loop
+slice-aggregate-list c = search needs
+
+list-requires : tie.Need-list-requires Inv-loop μ-loop
+list-requires c κs = search needs
+
+array-share-prefix-out : tie.Need-array-share-prefix-out Inv-loop μ-loop
+array-share-prefix-out c = used-fits (c .before .before)
+
+slice-aggregate-write : tie.Need-slice-aggregate-write Inv-loop μ-loop
+slice-aggregate-write c = sym (length-take-le _ _ (used-fits (c .before .before .before)))
+
+write-requires : tie.Need-write-requires Inv-loop μ-loop
+write-requires c κs = search needs
+
+add-at : tie.Need-add-at Inv-loop μ-loop
+add-at c = omega (arith, taken-fits (c .before .before .before .before .before .before) .1, c .before .before .before .before .before .before .before .before .before .before .before .before .before .good .1 .0 .0)
+
+loop-less : tie.Need-loop-less Inv-loop μ-loop
+loop-less c = omega (arith, taken-fits (c .before .before .before .before .before .before) .0, c .before .before .before .before .before .before .before .before .before .loop-test .taken)
+
+loop-again : tie.Need-loop-again Inv-loop μ-loop
+loop-again c = (taken-fits (c .before .before .before .before .before .before) .1, c .before .before .before .before .before .before .before .before .before .before .loop .inv .1 ∙ sym (c .before .before .before .before .before .before .list .kept .1 .1 .0))
+
+returns : tie.Need-returns Inv-loop μ-loop
+returns c = search needs
+
+returns-2 : tie.Need-returns-2 Inv-loop μ-loop
+returns-2 c = search needs
+
+pub list-piece-spec : {M : Type 1} → statement M
+list-piece-spec =
+    tie.close
+    (tie.spec
+    Inv-loop
+    μ-loop
+    large-buffer-requires
+    loop-holds
+    sub-list
+    part-list-start
+    part-list-end
+    slice-aggregate-list
+    list-requires
+    array-share-prefix-out
+    slice-aggregate-write
+    write-requires
+    add-at
+    loop-less
+    loop-again
+    returns
+    returns-2)

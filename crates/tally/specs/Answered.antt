@@ -1,0 +1,97 @@
+-- A capture's answers in a row: the tally after them, what they told, and what 01 hands to the judge.
+use mathlib.Core.Bool.{Bool, true, false, _||_, cond}
+use mathlib.Core.List.{List, [], _∷_, _++_}
+use Prim.Native.Nat.{ℕ}
+use Rattle.line_code.specs.LineCode.{kindNumber}
+use Rattle.profile.specs.Profile.{nullByte}
+use Rattle.stream.specs.declared.LineFacts.{LineFacts}
+use Rattle.stream.specs.declared.Answer.{Answer}
+use Rattle.stream.specs.declared.Answer.the-variants as answer
+use Rattle.frame.specs.declared.Verdict.{Verdict}
+use Rattle.frame.specs.declared.Verdict.the-variants as verdict
+use Rattle.frame.specs.Frame.{brokenKind}
+use Rattle.frame.specs.Calls.{Line, line}
+use Rattle.tally.specs.declared.Tally.{Tally}
+use Rattle.tally.specs.declared.News.{News}
+use Rattle.tally.specs.declared.News.the-variants.{Nothing, Complete, Broken, Cut}
+use Rattle.tally.specs.Tally.{oneMore, freshTally, breaksFrame, isBrokenLine, takeOf, closeOf}
+
+-- the tally after some answers, and what they told
+abbrev pub tallied : Tally → List Answer → Tally
+tallied t [] = t
+tallied t (a ∷ w) = tallied (takeOf t a .tally) w
+
+abbrev pub newsOf : Tally → List Answer → List News
+newsOf t [] = []
+newsOf t (a ∷ w) = takeOf t a .news ∷ newsOf (takeOf t a .tally) w
+
+-- the marks answered, with this answer: every one but Nothing is a mark's
+abbrev pub withMark : ℕ → Answer → ℕ
+withMark n answer.Nothing = n
+withMark n (answer.Line f) = oneMore n
+withMark n (answer.Gap a b) = oneMore n
+withMark n (answer.Refused r) = oneMore n
+
+-- a whole capture: its answers, and finish's
+abbrev pub captureTally : List Answer → Answer → Tally
+captureTally w last = closeOf (tallied freshTally w) last .tally
+
+abbrev pub captureNews : List Answer → Answer → List News
+captureNews w last = newsOf freshTally w ++ (closeOf (tallied freshTally w) last .news ∷ [])
+
+-- one of the news is of a complete frame; of a broken one
+abbrev pub saysComplete : News → Bool
+saysComplete Nothing = false
+saysComplete (Complete frame b mark) = true
+saysComplete (Broken frame mark refusal own) = false
+saysComplete (Cut frame) = false
+
+abbrev pub saysBroken : News → Bool
+saysBroken Nothing = false
+saysBroken (Complete frame b mark) = false
+saysBroken (Broken frame mark refusal own) = true
+saysBroken (Cut frame) = false
+
+abbrev pub some : (News → Bool) → List News → Bool
+some says [] = false
+some says (n ∷ w) = says n || some says w
+
+-- What 01 hands to the judge.
+
+-- each line given out, and kind 0 for each answer 1 to 7
+abbrev pub handedOver : Answer → List Line
+handedOver answer.Nothing = []
+handedOver (answer.Line f) = line (kindNumber (f .kind)) (f .number) ∷ []
+handedOver (answer.Gap a b) = []
+handedOver (answer.Refused n) = cond (isBrokenLine n) (line brokenKind 0 ∷ []) []
+
+abbrev pub allHanded : List Answer → List Line
+allHanded [] = []
+allHanded (a ∷ w) = handedOver a ++ allHanded w
+
+-- the verdicts that are Complete, and those that break a frame, counted on from n
+abbrev pub isComplete : Verdict → Bool
+isComplete verdict.Waiting = false
+isComplete verdict.Going = false
+isComplete verdict.Complete = true
+isComplete (verdict.Refused refusal) = false
+
+abbrev pub isBreak : Verdict → Bool
+isBreak verdict.Waiting = false
+isBreak verdict.Going = false
+isBreak verdict.Complete = false
+isBreak (verdict.Refused refusal) = breaksFrame refusal
+
+abbrev pub counting : (Verdict → Bool) → ℕ → List Verdict → ℕ
+counting which n [] = n
+counting which n (v ∷ w) = counting which (cond (which v) (oneMore n) n) w
+
+-- Lines with their gaps.
+
+abbrev pub linesOf : List LineFacts → List Line
+linesOf [] = []
+linesOf (f ∷ w) = line (kindNumber (f .kind)) (f .number) ∷ linesOf w
+
+abbrev pub withGaps : List LineFacts → List Answer
+withGaps [] = []
+withGaps (f ∷ w) = answer.Line f ∷ answer.Gap nullByte nullByte ∷ withGaps w

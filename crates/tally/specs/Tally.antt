@@ -1,0 +1,135 @@
+-- The frames of a capture, from the answers of the reader's calls (01, 'Frames of profile 0').
+use mathlib.Core.Bool.{Bool, false, _&&_, _||_, cond}
+use Prim.Native.Nat.{ℕ, _+_}
+use lib.Dec.{eqb, ltb}
+use Rattle.refusal.specs.Refusal.{damagedCode, unfinishedLine, noEndOfLine, notTheLineDue, brokenLine}
+use Rattle.line_code.specs.LineCode.{kindNumber}
+use Rattle.stream.specs.declared.Answer.{Answer}
+use Rattle.stream.specs.declared.Answer.the-variants as answer
+use Rattle.frame.specs.declared.Borders.{Borders}
+use Rattle.frame.specs.declared.Borders.the-variants.{Unsettled}
+use Rattle.frame.specs.declared.Judge.{Judge}
+use Rattle.frame.specs.declared.Judge.the-variants.{Waiting, Due}
+use Rattle.frame.specs.declared.Verdict.{Verdict}
+use Rattle.frame.specs.declared.Verdict.the-variants as verdict
+use Rattle.frame.specs.Frame.{within, brokenKind, judgeOf}
+use Rattle.tally.specs.declared.Tally.{Tally}
+use Rattle.tally.specs.declared.News.{News}
+use Rattle.tally.specs.declared.News.the-variants.{Nothing, Complete, Broken, Cut}
+use Rattle.tally.specs.declared.Told.{Told}
+
+-- Counts.
+
+-- where a count stops: the greatest u64
+abbrev pub countStop : ℕ
+countStop = 18446744073709551615
+
+unfoldable pub oneMore : ℕ → ℕ
+oneMore n = cond (ltb n countStop) (n + 1) n
+
+-- a fresh judge, and nothing counted
+abbrev pub freshTally : Tally
+freshTally = record { judge = Waiting; marks = 0; frames = 0; complete = 0; broken = 0 }
+
+-- one mark more
+abbrev pub marked : Tally → Tally
+marked t = record { judge = t .judge; marks = oneMore (t .marks); frames = t .frames; complete = t .complete; broken = t .broken }
+
+-- the frames that opened: one more where the judge waited before and is within a frame afterwards
+abbrev pub opening : Judge → Judge → ℕ → ℕ
+opening Waiting Waiting n = n
+opening Waiting (Due place b) n = oneMore n
+opening (Due place b) j n = n
+
+-- the judge afterwards; a frame that opens is counted
+abbrev pub moved : Tally → Judge → Judge → Tally
+moved t before j =
+    record { judge = j; marks = t .marks; frames = opening before j (t .frames); complete = t .complete; broken = t .broken }
+
+-- What the judge's verdict tells.
+
+abbrev pub quiet : Tally → Told
+quiet t = record { tally = t; news = Nothing }
+
+-- the borders of the frame that a judge is in
+abbrev pub bordersOf : Judge → Borders
+bordersOf Waiting = Unsettled
+bordersOf (Due place b) = b
+
+-- the frame is complete: its borders, and the mark of its last line
+abbrev pub completed : Tally → Judge → Told
+completed t j =
+    record {
+      tally = record { judge = j; marks = t .marks; frames = t .frames; complete = oneMore (t .complete); broken = t .broken };
+      news = Complete (t .frames) (bordersOf (t .judge)) (t .marks);
+    }
+
+-- the frame is broken at this mark: the refusal, and the mark's own answer; a judge that is within a frame has opened another
+abbrev pub brokenBy : Tally → Judge → ℕ → ℕ → Told
+brokenBy t j refusal own =
+    record {
+      tally = record { judge = j; marks = t .marks; frames = opening Waiting j (t .frames); complete = t .complete; broken = oneMore (t .broken) };
+      news = Broken (t .frames) (t .marks) refusal own;
+    }
+
+-- 18 and 19 break a frame; 11, 13 and 14 leave the judge as it was
+abbrev pub breaksFrame : ℕ → Bool
+breaksFrame refusal = eqb refusal notTheLineDue || eqb refusal brokenLine
+
+unfoldable pub refusedBy : Tally → Judge → ℕ → ℕ → Told
+refusedBy t j refusal own = cond (breaksFrame refusal) (brokenBy t j refusal own) (quiet (moved t (t .judge) j))
+
+abbrev pub told : Tally → ℕ → Judge → Verdict → Told
+told t own j verdict.Waiting = quiet (moved t (t .judge) j)
+told t own j verdict.Going = quiet (moved t (t .judge) j)
+told t own j verdict.Complete = completed t j
+told t own j (verdict.Refused refusal) = refusedBy t j refusal own
+
+-- a line's kind number and number, or kind 0, handed to the judge; and the mark's own answer, 0 for a line
+unfoldable pub handed : Tally → ℕ → ℕ → ℕ → Told
+handed t k n own = told t own (judgeOf (t .judge) k n .judge) (judgeOf (t .judge) k n .verdict)
+
+-- An answer.
+
+-- answers 1 to 7
+unfoldable pub isBrokenLine : ℕ → Bool
+isBrokenLine n = within damagedCode noEndOfLine n
+
+-- every answer but Nothing counts a mark; a line is handed to the judge, and kind 0 for answers 1 to 7
+unfoldable pub takeOf : Tally → Answer → Told
+takeOf t answer.Nothing = quiet t
+takeOf t (answer.Line f) = handed (marked t) (kindNumber (f .kind)) (f .number) 0
+takeOf t (answer.Gap a b) = quiet (marked t)
+takeOf t (answer.Refused n) = cond (isBrokenLine n) (handed (marked t) brokenKind 0 n) (quiet (marked t))
+
+-- The end of the capture.
+
+-- a frame that the judge is still within is cut off: not complete, and not broken
+abbrev pub cutWithin : Tally → Judge → Told
+cutWithin t Waiting = quiet t
+cutWithin t (Due place b) = record { tally = moved t (Due place b) Waiting; news = Cut (t .frames) }
+
+unfoldable pub cutOf : Tally → Told
+cutOf t = cutWithin t (t .judge)
+
+-- the capture ended within a line: finish's answer 3
+abbrev pub isUnfinished : Answer → Bool
+isUnfinished answer.Nothing = false
+isUnfinished (answer.Line f) = false
+isUnfinished (answer.Gap a b) = false
+isUnfinished (answer.Refused n) = eqb n unfinishedLine
+
+-- what the last answer told; and where that is nothing, the frame that is cut off
+abbrev pub ended : Told → News → Told
+ended d Nothing = cutOf (d .tally)
+ended d (Complete frame b mark) = d
+ended d (Broken frame mark refusal own) = d
+ended d (Cut frame) = d
+
+-- an answer 3 counts its mark, and is not handed to the judge
+unfoldable pub closeOf : Tally → Answer → Told
+closeOf t last = cond (isUnfinished last) (cutOf (marked t)) (ended (takeOf t last) (takeOf t last .news))
+
+-- a frame is complete, and none is broken
+unfoldable pub isGood : Tally → Bool
+isGood t = eqb (t .broken) 0 && ltb 0 (t .complete)

@@ -1,0 +1,270 @@
+-- Laws of the tally: it counts each mark, it judges a capture as 01 says, a whole frame is good, and a capture is good exactly when a frame
+-- was told complete and none was told broken.
+use mathlib.Core.Path.{_≡_, refl, sym, ap, _∙_}
+use mathlib.Core.Bool.{Bool, true, false, _&&_, _||_, not, cond, or-true, or-false, or-assoc}
+use mathlib.Core.List.{List, [], _∷_, _++_}
+use Prim.Native.Nat.{ℕ, zero, suc, _+_}
+use native.Mathlib.Omega.{arith}
+use lib.Dec.{eqb, ltb}
+use lib.ListN.{replicate}
+use borrow.Author.Tests.{lt-ltb, ltb-false, ne-eqb}
+use Rattle.refusal.specs.Refusal.{unfinishedLine}
+use Rattle.line_code.specs.LineCode.{kindNumber}
+use Rattle.stream.specs.declared.LineFacts.{LineFacts}
+use Rattle.stream.specs.declared.Answer.{Answer}
+use Rattle.stream.specs.declared.Answer.the-variants as answer
+use Rattle.frame.specs.declared.Borders.{Borders}
+use Rattle.frame.specs.declared.Judge.{Judge}
+use Rattle.frame.specs.declared.Judge.the-variants.{Waiting, Due}
+use Rattle.frame.specs.declared.Verdict.{Verdict}
+use Rattle.frame.specs.declared.Verdict.the-variants as verdict
+use Rattle.frame.specs.Frame.{lastPlace, brokenKind, judgeOf}
+use Rattle.frame.specs.Calls.{Line, line, called, after, verdicts, frameLines}
+use Rattle.frame.specs.FrameLaws.{frame-complete}
+use Rattle.tally.specs.declared.Tally.{Tally}
+use Rattle.tally.specs.declared.Told.{Told}
+use Rattle.tally.specs.declared.News.{News}
+use Rattle.tally.specs.declared.News.the-variants.{Nothing, Complete, Broken, Cut}
+use Rattle.tally.specs.Tally.{oneMore, countStop, freshTally, marked, moved, quiet, brokenBy, breaksFrame, refusedBy, told, handed, isBrokenLine, takeOf, cutWithin, cutOf, isUnfinished, ended, closeOf, isGood}
+use Rattle.tally.specs.Answered.{tallied, newsOf, withMark, captureTally, captureNews, saysComplete, saysBroken, some, handedOver, allHanded, isComplete, isBreak, counting, linesOf, withGaps}
+
+-- Marks.
+
+told-marks : (t : Tally) (own : ℕ) (j : Judge) (v : Verdict) → told t own j v .tally .marks ≡ t .marks
+unfolding refusedBy
+told-marks t own j verdict.Waiting = refl
+told-marks t own j verdict.Going = refl
+told-marks t own j verdict.Complete = refl
+told-marks t own j (verdict.Refused refusal) = either (breaksFrame refusal)
+  where
+    either : (b : Bool) → cond b (brokenBy t j refusal own) (quiet (moved t (t .judge) j)) .tally .marks ≡ t .marks
+    either true = refl
+    either false = refl
+
+handed-marks : (t : Tally) (k n own : ℕ) → handed t k n own .tally .marks ≡ t .marks
+unfolding handed
+handed-marks t k n own = told-marks t own (judgeOf (t .judge) k n .judge) (judgeOf (t .judge) k n .verdict)
+
+take-marks : (t : Tally) (a : Answer) → takeOf t a .tally .marks ≡ withMark (t .marks) a
+unfolding takeOf
+take-marks t answer.Nothing = refl
+take-marks t (answer.Line f) = handed-marks (marked t) (kindNumber (f .kind)) (f .number) 0
+take-marks t (answer.Gap a b) = refl
+take-marks t (answer.Refused n) = either (isBrokenLine n)
+  where
+    either : (b : Bool) → cond b (handed (marked t) brokenKind 0 n) (quiet (marked t)) .tally .marks ≡ oneMore (t .marks)
+    either true = handed-marks (marked t) brokenKind 0 n
+    either false = refl
+
+cut-marks : (t : Tally) → cutOf t .tally .marks ≡ t .marks
+unfolding cutOf
+cut-marks t = within (t .judge)
+  where
+    within : (j : Judge) → cutWithin t j .tally .marks ≡ t .marks
+    within Waiting = refl
+    within (Due place b) = refl
+
+ended-marks : (d : Told) (n : News) → ended d n .tally .marks ≡ d .tally .marks
+ended-marks d Nothing = cut-marks (d .tally)
+ended-marks d (Complete frame b mark) = refl
+ended-marks d (Broken frame mark refusal own) = refl
+ended-marks d (Cut frame) = refl
+
+taken-marks : (t : Tally) (a : Answer) → ended (takeOf t a) (takeOf t a .news) .tally .marks ≡ withMark (t .marks) a
+taken-marks t a = ended-marks (takeOf t a) (takeOf t a .news) ∙ take-marks t a
+
+close-marks : (t : Tally) (a : Answer) → closeOf t a .tally .marks ≡ withMark (t .marks) a
+unfolding closeOf
+close-marks t answer.Nothing = taken-marks t answer.Nothing
+close-marks t (answer.Line f) = taken-marks t (answer.Line f)
+close-marks t (answer.Gap a b) = taken-marks t (answer.Gap a b)
+close-marks t (answer.Refused n) = either (eqb n unfinishedLine)
+  where
+    either : (b : Bool)
+        → cond b (cutOf (marked t)) (ended (takeOf t (answer.Refused n)) (takeOf t (answer.Refused n) .news)) .tally .marks ≡ oneMore (t .marks)
+    either true = cut-marks (marked t)
+    either false = taken-marks t (answer.Refused n)
+
+-- every answer but Nothing counts a mark, finish's too
+pub marks-counted : (t : Tally) (a : Answer) → (takeOf t a .tally .marks ≡ withMark (t .marks) a) × (closeOf t a .tally .marks ≡ withMark (t .marks) a)
+marks-counted t a = (take-marks t a, close-marks t a)
+
+-- The judge and the counts are those that 01's calls give.
+
+-- the judge and the counts d after these calls of the judge in t
+pub record Judges (t : Tally) (ls : List Line) (d : Tally) : Type 0 where
+  pub judge : d .judge ≡ after (t .judge) ls
+  pub complete : d .complete ≡ counting isComplete (t .complete) (verdicts (t .judge) ls)
+  pub broken : d .broken ≡ counting isBreak (t .broken) (verdicts (t .judge) ls)
+
+-- the same, by the tally's own parts
+by-told : (t : Tally) (own : ℕ) (j : Judge) (v : Verdict)
+    → (told t own j v .tally .judge ≡ j)
+    × (told t own j v .tally .complete ≡ cond (isComplete v) (oneMore (t .complete)) (t .complete))
+    × (told t own j v .tally .broken ≡ cond (isBreak v) (oneMore (t .broken)) (t .broken))
+unfolding refusedBy
+by-told t own j verdict.Waiting = (refl, refl, refl)
+by-told t own j verdict.Going = (refl, refl, refl)
+by-told t own j verdict.Complete = (refl, refl, refl)
+by-told t own j (verdict.Refused refusal) = either (breaksFrame refusal)
+  where
+    either : (breaks : Bool)
+        → let d : Told = cond breaks (brokenBy t j refusal own) (quiet (moved t (t .judge) j)) in
+        (d .tally .judge ≡ j) × (d .tally .complete ≡ t .complete) × (d .tally .broken ≡ cond breaks (oneMore (t .broken)) (t .broken))
+    either true = (refl, refl, refl)
+    either false = (refl, refl, refl)
+
+nothing-judged : (t : Tally) → Judges t [] t
+nothing-judged t = record { judge = refl; complete = refl; broken = refl }
+
+one-judged : (t : Tally) (l : Line) (own : ℕ) → Judges t (l ∷ []) (handed (marked t) (l .kind) (l .number) own .tally)
+unfolding handed
+one-judged t l own =
+    let h = by-told (marked t) own (called (t .judge) l .judge) (called (t .judge) l .verdict) in
+    record { judge = h .0; complete = h .1; broken = h .2 }
+
+take-judged : (t : Tally) (a : Answer) → Judges t (handedOver a) (takeOf t a .tally)
+unfolding takeOf
+take-judged t answer.Nothing = nothing-judged t
+take-judged t (answer.Line f) = one-judged t (line (kindNumber (f .kind)) (f .number)) 0
+take-judged t (answer.Gap a b) = record { judge = refl; complete = refl; broken = refl }
+take-judged t (answer.Refused n) = either (isBrokenLine n)
+  where
+    either : (b : Bool) → Judges t (cond b (line brokenKind 0 ∷ []) []) (cond b (handed (marked t) brokenKind 0 n) (quiet (marked t)) .tally)
+    either true = one-judged t (line brokenKind 0) n
+    either false = record { judge = refl; complete = refl; broken = refl }
+
+after-append : (j : Judge) (ls ms : List Line) → after j (ls ++ ms) ≡ after (after j ls) ms
+after-append j [] ms = refl
+after-append j (l ∷ ls) ms = after-append (called j l .judge) ls ms
+
+counting-append : (which : Verdict → Bool) (j : Judge) (n : ℕ) (ls ms : List Line)
+    → counting which n (verdicts j (ls ++ ms)) ≡ counting which (counting which n (verdicts j ls)) (verdicts (after j ls) ms)
+counting-append which j n [] ms = refl
+counting-append which j n (l ∷ ls) ms = counting-append which (called j l .judge) (cond (which (called j l .verdict)) (oneMore n) n) ls ms
+
+then-judged : {t d e : Tally} {ls ms : List Line} → Judges t ls d → Judges d ms e → Judges t (ls ++ ms) e
+then-judged {t} {d} {e} {ls} {ms} p q =
+    record {
+      judge = q .judge ∙ ap (λ (j : Judge). after j ms) (p .judge) ∙ sym (after-append (t .judge) ls ms);
+      complete = q .complete ∙ simp (p .judge, p .complete) (sym (counting-append isComplete (t .judge) (t .complete) ls ms));
+      broken = q .broken ∙ simp (p .judge, p .broken) (sym (counting-append isBreak (t .judge) (t .broken) ls ms));
+    }
+
+-- whatever the answers: the judge is where 01's calls leave it, and each Complete and each 18 or 19 among its verdicts is counted
+pub judged-as-said : (t : Tally) (w : List Answer) → Judges t (allHanded w) (tallied t w)
+judged-as-said t [] = nothing-judged t
+judged-as-said t (a ∷ w) = then-judged (take-judged t a) (judged-as-said (takeOf t a .tally) w)
+
+-- A whole frame.
+
+handed-lines : (fs : List LineFacts) → allHanded (withGaps fs) ≡ linesOf fs
+handed-lines [] = refl
+handed-lines (f ∷ fs) = ap (λ (ls : List Line). line (kindNumber (f .kind)) (f .number) ∷ ls) (handed-lines fs)
+
+-- the lines of a frame, repaired or not, each with its gap, from a fresh tally
+pub frame-good : (b : Borders) (fs : List LineFacts) → linesOf fs ≡ frameLines b
+    → (tallied freshTally (withGaps fs) .complete ≡ 1) × (tallied freshTally (withGaps fs) .broken ≡ 0) × (isGood (tallied freshTally (withGaps fs)) ≡ true)
+unfolding isGood oneMore
+frame-good b fs e =
+    let p = judged-as-said freshTally (withGaps fs) in
+    let v : verdicts Waiting (allHanded (withGaps fs)) ≡ replicate lastPlace verdict.Going ++ (verdict.Complete ∷ []) =
+    ap (verdicts Waiting) (handed-lines fs ∙ e) ∙ frame-complete b .0 in
+    let c : tallied freshTally (withGaps fs) .complete ≡ 1 = p .complete ∙ ap (counting isComplete 0) v in
+    let d : tallied freshTally (withGaps fs) .broken ≡ 0 = p .broken ∙ ap (counting isBreak 0) v in
+    (c, d, simp (c, d))
+
+-- Good exactly when a frame was told complete and none was told broken.
+
+counted : (n : ℕ) → ltb 0 (oneMore n) ≡ true
+unfolding oneMore
+counted n = either (ltb n countStop) refl
+  where
+    either : (b : Bool) → ltb n countStop ≡ b → ltb 0 (cond b (n + 1) n) ≡ true
+    either true e = lt-ltb 0 (n + 1) (omega arith)
+    either false e = lt-ltb 0 n (omega (arith, ltb-false n countStop e))
+
+-- a count is above 0 in d if it was before or the news say so
+record Says (complete₀ broken₀ : ℕ) (d : Told) : Type 0 where
+  complete : ltb 0 (d .tally .complete) ≡ (ltb 0 complete₀ || saysComplete (d .news))
+  broken : ltb 0 (d .tally .broken) ≡ (ltb 0 broken₀ || saysBroken (d .news))
+
+says-nothing : (t : Tally) → Says (t .complete) (t .broken) (quiet t)
+says-nothing t = record { complete = sym (or-false _); broken = sym (or-false _) }
+
+says-told : (t : Tally) (own : ℕ) (j : Judge) (v : Verdict) → Says (t .complete) (t .broken) (told t own j v)
+unfolding refusedBy
+says-told t own j verdict.Waiting = says-nothing (moved t (t .judge) j)
+says-told t own j verdict.Going = says-nothing (moved t (t .judge) j)
+says-told t own j verdict.Complete = record { complete = counted (t .complete) ∙ sym (or-true (ltb 0 (t .complete))); broken = sym (or-false _) }
+says-told t own j (verdict.Refused refusal) = either (breaksFrame refusal)
+  where
+    either : (b : Bool) → Says (t .complete) (t .broken) (cond b (brokenBy t j refusal own) (quiet (moved t (t .judge) j)))
+    either true = record { complete = sym (or-false _); broken = counted (t .broken) ∙ sym (or-true (ltb 0 (t .broken))) }
+    either false = says-nothing (moved t (t .judge) j)
+
+says-handed : (t : Tally) (k n own : ℕ) → Says (t .complete) (t .broken) (handed t k n own)
+unfolding handed
+says-handed t k n own = says-told t own (judgeOf (t .judge) k n .judge) (judgeOf (t .judge) k n .verdict)
+
+says-take : (t : Tally) (a : Answer) → Says (t .complete) (t .broken) (takeOf t a)
+unfolding takeOf
+says-take t answer.Nothing = says-nothing t
+says-take t (answer.Line f) = says-handed (marked t) (kindNumber (f .kind)) (f .number) 0
+says-take t (answer.Gap a b) = says-nothing (marked t)
+says-take t (answer.Refused n) = either (isBrokenLine n)
+  where
+    either : (b : Bool) → Says (t .complete) (t .broken) (cond b (handed (marked t) brokenKind 0 n) (quiet (marked t)))
+    either true = says-handed (marked t) brokenKind 0 n
+    either false = says-nothing (marked t)
+
+says-cut : (t : Tally) → Says (t .complete) (t .broken) (cutOf t)
+unfolding cutOf
+says-cut t = within (t .judge)
+  where
+    within : (j : Judge) → Says (t .complete) (t .broken) (cutWithin t j)
+    within Waiting = says-nothing t
+    within (Due place b) = record { complete = sym (or-false _); broken = sym (or-false _) }
+
+says-ended : {c b : ℕ} (d : Told) (n : News) → d .news ≡ n → Says c b d → Says c b (ended d n)
+says-ended d Nothing e p =
+    let q = says-cut (d .tally) in
+    record { complete = q .complete ∙ simp (p .complete, e, or-false); broken = q .broken ∙ simp (p .broken, e, or-false) }
+says-ended d (Complete frame b mark) e p = p
+says-ended d (Broken frame mark refusal own) e p = p
+says-ended d (Cut frame) e p = p
+
+says-close : (t : Tally) (last : Answer) → Says (t .complete) (t .broken) (closeOf t last)
+unfolding closeOf
+says-close t last = either (isUnfinished last)
+  where
+    either : (b : Bool) → Says (t .complete) (t .broken) (cond b (cutOf (marked t)) (ended (takeOf t last) (takeOf t last .news)))
+    either true = says-cut (marked t)
+    either false = says-ended (takeOf t last) (takeOf t last .news) refl (says-take t last)
+
+-- either count, by what each step says of it
+says-all : (count : Tally → ℕ) (says : News → Bool)
+    → ((t : Tally) (a : Answer) → ltb 0 (count (takeOf t a .tally)) ≡ (ltb 0 (count t) || says (takeOf t a .news)))
+    → ((t : Tally) (a : Answer) → ltb 0 (count (closeOf t a .tally)) ≡ (ltb 0 (count t) || says (closeOf t a .news)))
+    → (t : Tally) (w : List Answer) (last : Answer)
+    → ltb 0 (count (closeOf (tallied t w) last .tally)) ≡ (ltb 0 (count t) || some says (newsOf t w ++ (closeOf (tallied t w) last .news ∷ [])))
+says-all count says take close t [] last = close t last ∙ ap (λ (b : Bool). ltb 0 (count t) || b) (sym (or-false (says (closeOf t last .news))))
+says-all count says take close t (a ∷ w) last =
+    says-all count says take close (takeOf t a .tally) w last
+    ∙ ap (λ (b : Bool). b || some says (newsOf (takeOf t a .tally) w ++ (closeOf (tallied (takeOf t a .tally) w) last .news ∷ []))) (take t a)
+    ∙ or-assoc (ltb 0 (count t)) (says (takeOf t a .news)) _
+
+none : (n : ℕ) → eqb n 0 ≡ not (ltb 0 n)
+none zero = refl
+none (suc n) = simp (ne-eqb (suc n) 0 (λ e. omega (arith, e)), lt-ltb 0 (suc n) (omega arith))
+
+-- of a whole capture
+pub good-exactly : (w : List Answer) (last : Answer)
+    → isGood (captureTally w last) ≡ (not (some saysBroken (captureNews w last)) && some saysComplete (captureNews w last))
+unfolding isGood
+good-exactly w last =
+    simp (
+      none (captureTally w last .broken),
+      says-all (λ t. t .broken) saysBroken (λ t a. says-take t a .broken) (λ t a. says-close t a .broken) freshTally w last,
+      says-all (λ t. t .complete) saysComplete (λ t a. says-take t a .complete) (λ t a. says-close t a .complete) freshTally w last,
+    )

@@ -1,0 +1,279 @@
+// The frames of a profile 0 capture (paper 01, 'Frames of profile 0'): how many are complete, how many are broken, and why.
+//
+// In: the answer of each call to the reader, in order; at the end, finish's. Out: beside the next tally, news of a frame that is complete,
+// broken, or cut off by the capture's end. Each line given out is handed to the judge, and kind 0 for each answer 1 to 7. Nothing is
+// refused; where the judge refuses 11, 13 or 14, which leave it as it was, the mark is counted. Cost: constant.
+ghost use mathlib.Core.Path.{_≡_};
+ghost use Rattle.tally.specs.Tally.{freshTally, oneMore, quiet, marked, isBrokenLine, bordersOf, opening, moved, completed, brokenBy, breaksFrame, refusedBy, handed, takeOf, isUnfinished, cutOf, closeOf, isGood};
+use frame::Borders;
+use frame::Judge;
+use frame::Verdict;
+use stream::Answer;
+
+// The judge; the marks answered; the frames that opened, that were complete, and that broke. A count stops at the greatest u64.
+pub struct Tally {
+    pub judge: Judge,
+    pub marks: u64,
+    pub frames: u64,
+    pub complete: u64,
+    pub broken: u64,
+}
+
+// What is told of a frame. Frames and marks are counted from 1.
+pub enum News {
+    Nothing,
+    // A frame, its borders, and the mark of its last line.
+    Complete(u64, Borders, u64),
+    // A frame; the mark that broke it; 18 or 19; and for 19 that mark's own answer, for 18 a 0.
+    Broken(u64, u64, u8, u8),
+    // A frame that the capture's end cuts off.
+    Cut(u64),
+}
+
+// A tally after an answer, and its news.
+pub struct Told {
+    pub tally: Tally,
+    pub news: News,
+}
+
+impl Tally {
+    // A fresh judge, and nothing counted.
+    pub fn new() -> Tally
+        ensures { λ r. ⌜ r ≡ freshTally ⌝ }
+    {
+        let judge = Judge::new();
+        Tally {
+            judge,
+            marks: 0,
+            frames: 0,
+            complete: 0,
+            broken: 0,
+        }
+    }
+
+    // Takes the answer of a call.
+    pub fn take(self, answer: Answer) -> Told
+        ensures { λ r. ⌜ r ≡ takeOf self answer ⌝ }
+    {
+        match answer {
+            Answer::Nothing => quiet(self),
+            Answer::Line(facts) => {
+                let kind = facts.kind;
+                self.marked().hand(kind.number(), facts.number, NO_REFUSAL)
+            }
+            Answer::Gap(_, _) => quiet(self.marked()),
+            Answer::Refused(number) => {
+                if is_broken_line(number) {
+                    return self.marked().hand(Judge::BROKEN, 0, number);
+                }
+                quiet(self.marked())
+            }
+        }
+    }
+
+    // Takes finish's answer, at the end of the capture. A frame that is still open is cut off, also within a line (3): it doesn't count as
+    // broken.
+    pub fn close(self, last: Answer) -> Told
+        ensures { λ r. ⌜ r ≡ closeOf self last ⌝ }
+    {
+        if is_unfinished(last) {
+            return self.marked().cut();
+        }
+        let told = self.take(last);
+        let news = told.news;
+        match news {
+            News::Nothing => {
+                let tally = told.tally;
+                tally.cut()
+            }
+            News::Complete(_, _, _) => told,
+            News::Broken(_, _, _, _) => told,
+            News::Cut(_) => told,
+        }
+    }
+
+    // Whether a frame is complete and none is broken.
+    pub fn is_good(self) -> bool
+        ensures { λ r. ⌜ r ≡ isGood self ⌝ }
+    {
+        if self.broken == 0 {
+            return 0 < self.complete;
+        }
+        false
+    }
+
+    // One mark more.
+    fn marked(self) -> Tally
+        ensures { λ r. ⌜ r ≡ marked self ⌝ }
+    {
+        let judge = self.judge;
+        let marks = one_more(self.marks);
+        Tally {
+            judge,
+            marks,
+            frames: self.frames,
+            complete: self.complete,
+            broken: self.broken,
+        }
+    }
+
+    // Hands the judge a line, or kind 0 for the mark's own answer.
+    fn hand(self, kind: u8, number: u16, own: u8) -> Told
+        ensures { λ r. ⌜ r ≡ handed self kind number own ⌝ }
+    {
+        let before = self.judge;
+        let judged = before.line(kind, number);
+        let judge = judged.judge;
+        let verdict = judged.verdict;
+        match verdict {
+            Verdict::Waiting => quiet(self.moved(before, judge)),
+            Verdict::Going => quiet(self.moved(before, judge)),
+            Verdict::Complete => self.completed(judge),
+            Verdict::Refused(number) => self.refused(judge, number, own),
+        }
+    }
+
+    // The judge afterwards; a frame that opens is counted.
+    fn moved(self, before: Judge, judge: Judge) -> Tally
+        ensures { λ r. ⌜ r ≡ moved self before judge ⌝ }
+    {
+        let frames = opening(before, judge, self.frames);
+        Tally {
+            judge,
+            marks: self.marks,
+            frames,
+            complete: self.complete,
+            broken: self.broken,
+        }
+    }
+
+    // The frame is complete.
+    fn completed(self, judge: Judge) -> Told
+        ensures { λ r. ⌜ r ≡ completed self judge ⌝ }
+    {
+        let before = self.judge;
+        let complete = one_more(self.complete);
+        let tally = Tally {
+            judge,
+            marks: self.marks,
+            frames: self.frames,
+            complete,
+            broken: self.broken,
+        };
+        let news = News::Complete(self.frames, borders(before), self.marks);
+        Told { tally, news }
+    }
+
+    // The judge refuses: 18 and 19 break the frame.
+    fn refused(self, judge: Judge, number: u8, own: u8) -> Told
+        ensures { λ r. ⌜ r ≡ refusedBy self judge number own ⌝ }
+    {
+        if number == refusal::NOT_THE_LINE_DUE {
+            return self.broken_by(judge, number, own);
+        }
+        if number == refusal::BROKEN_LINE {
+            return self.broken_by(judge, number, own);
+        }
+        let before = self.judge;
+        quiet(self.moved(before, judge))
+    }
+
+    // The frame is broken; another may open at once.
+    fn broken_by(self, judge: Judge, number: u8, own: u8) -> Told
+        ensures { λ r. ⌜ r ≡ brokenBy self judge number own ⌝ }
+    {
+        let broken = one_more(self.broken);
+        let frames = opening(Judge::Waiting, judge, self.frames);
+        let tally = Tally {
+            judge,
+            marks: self.marks,
+            frames,
+            complete: self.complete,
+            broken,
+        };
+        let news = News::Broken(self.frames, self.marks, number, own);
+        Told { tally, news }
+    }
+
+    // The capture ends: a frame that is open is cut off, and the judge waits.
+    fn cut(self) -> Told
+        ensures { λ r. ⌜ r ≡ cutOf self ⌝ }
+    {
+        let judge = self.judge;
+        match judge {
+            Judge::Waiting => quiet(self),
+            Judge::Due(_, _) => {
+                let waiting = Judge::Waiting;
+                let tally = self.moved(judge, waiting);
+                let news = News::Cut(self.frames);
+                Told { tally, news }
+            }
+        }
+    }
+}
+
+// A line that is given out has no refusal.
+const NO_REFUSAL: u8 = 0;
+
+// A tally without news.
+fn quiet(tally: Tally) -> Told
+    ensures { λ r. ⌜ r ≡ quiet tally ⌝ }
+{
+    let news = News::Nothing;
+    Told { tally, news }
+}
+
+// Whether an answer's refusal number, 1 to 7, is that of a broken line.
+fn is_broken_line(number: u8) -> bool
+    ensures { λ r. ⌜ r ≡ isBrokenLine number ⌝ }
+{
+    if number < refusal::DAMAGED_CODE {
+        return false;
+    }
+    number <= refusal::NO_END_OF_LINE
+}
+
+// Whether the capture ended within a line.
+fn is_unfinished(last: Answer) -> bool
+    ensures { λ r. ⌜ r ≡ isUnfinished last ⌝ }
+{
+    match last {
+        Answer::Nothing => false,
+        Answer::Line(_) => false,
+        Answer::Gap(_, _) => false,
+        Answer::Refused(number) => number == refusal::UNFINISHED_LINE,
+    }
+}
+
+// The borders of the frame that a judge is in.
+fn borders(judge: Judge) -> Borders
+    ensures { λ r. ⌜ r ≡ bordersOf judge ⌝ }
+{
+    match judge {
+        Judge::Waiting => Borders::Unsettled,
+        Judge::Due(_, borders) => borders,
+    }
+}
+
+// The frames that opened, by the judge before and after.
+fn opening(before: Judge, judge: Judge, frames: u64) -> u64
+    ensures { λ r. ⌜ r ≡ opening before judge frames ⌝ }
+{
+    match before {
+        Judge::Waiting => match judge {
+            Judge::Waiting => frames,
+            Judge::Due(_, _) => one_more(frames),
+        },
+        Judge::Due(_, _) => frames,
+    }
+}
+
+// A count and one more, held at the greatest u64, which no capture reaches.
+fn one_more(count: u64) -> u64
+    ensures { λ r. ⌜ r ≡ oneMore count ⌝ }
+{
+    if count < u64::MAX {
+        return count + 1;
+    }
+    count
+}
