@@ -1,8 +1,8 @@
 -- Line codes (01, 'Marks and line codes'): the byte 1 C2 C1 C0 P3 P2 P1 P0.
 use mathlib.Core.Bool.{Bool, true, false, _&&_, cond}
 use mathlib.Core.List.{List, [], _∷_}
-use Prim.Native.Nat.{ℕ, zero, suc, _+_, _*_, _/_, _%_}
-use lib.Dec.{eqb}
+use Prim.Native.Nat.{ℕ, zero, suc, _+_, _-_, _*_, _/_, _%_}
+use lib.Dec.{eqb, ltb}
 use Rattle.bits.specs.Bits.{bit, flipped}
 use Rattle.line_code.specs.declared.Kind.{Kind}
 use Rattle.line_code.specs.declared.Kind.the-variants.{BL, BK, VL, SOF, EOF}
@@ -130,8 +130,13 @@ isDamaged (Clean m) = false
 isDamaged (Repaired m) = false
 isDamaged Damaged = true
 
--- the parity sums as the bits of a number: what the program computes
-unfoldable pub syndromeOf : ℕ → ℕ
-syndromeOf b =
-    (bit b 6 + bit b 5 + bit b 4 + b % 2) % 2 + (bit b 6 + bit b 5 + bit b 1) % 2 * 2 + (bit b 6 + bit b 4 + bit b 2) % 2 * 4
-    + (bit b 5 + bit b 4 + bit b 3) % 2 * 8
+-- A reading as a number, and back: what the program's table holds.
+
+-- 0 to 7 a clean code, 8 to 15 a repaired one, 16 damaged
+abbrev pub readingNumber : Reading → ℕ
+readingNumber (Clean m) = codeOf m
+readingNumber (Repaired m) = 8 + codeOf m
+readingNumber Damaged = 16
+
+unfoldable pub readingNumbered : ℕ → Reading
+readingNumbered n = cond (ltb n 8) (Clean (meaningOf n)) (cond (ltb n 16) (Repaired (meaningOf (n - 8))) Damaged)

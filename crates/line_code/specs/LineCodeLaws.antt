@@ -1,7 +1,7 @@
 -- Laws of line codes: which bytes are clean, which are repaired to which, how many of each; and demand 2's flipped bits.
 -- Each is one test, computed at all 256 bytes or at all flips of the eight clean ones, and a law that gives the rule at each.
 use mathlib.Core.Path.{_≡_, refl, sym, ap, subst, _∙_}
-use mathlib.Core.Bool.{Bool, true, false, _&&_, _||_, not, cond, Bool·beq, true≢false}
+use mathlib.Core.Bool.{Bool, true, false, _&&_, _||_, not, Bool·beq, true≢false}
 use Prim.Native.Nat.{ℕ, _+_, _-_, _/_, _%_, _<_, _≤_}
 use lib.Dec.{eqb, ltb}
 use native.Mathlib.Omega.{arith}
@@ -16,7 +16,7 @@ use Rattle.line_code.specs.declared.Reading.{Reading}
 use Rattle.line_code.specs.declared.Reading.the-variants.{Clean, Repaired, Damaged}
 use Rattle.line_code.specs.declared.LineKind.{LineKind}
 use Rattle.line_code.specs.declared.LineKind.the-variants.{NotLine, LineOf}
-use Rattle.line_code.specs.LineCode.{kindNumber, kindNumbered, codeOf, reservedOf, meaningOf, meanings, topBit, cleanByte, readingOf, kindOf, isEnd, isClean, isRepaired, isDamaged}
+use Rattle.line_code.specs.LineCode.{kindNumber, kindNumbered, codeOf, reservedOf, meaningOf, meanings, topBit, cleanByte, readingOf, readingNumber, readingNumbered, kindOf, isEnd, isClean, isRepaired, isDamaged}
 
 -- The code of a meaning.
 
@@ -51,32 +51,25 @@ atAll f = every (λ (c : ℕ). f (meaningOf c)) 8
 at-each : (f : Meaning → Bool) → atAll f ≡ true → (m : Meaning) → f m ≡ true
 at-each f h m = subst (λ (x : Meaning). f x ≡ true) (meaning-code m) (each (λ (c : ℕ). f (meaningOf c)) 8 h (codeOf m) (code-small m))
 
--- A reading as a number, and back: two readings are compared as numbers.
+-- Two readings are compared by their numbers.
 
-abbrev numberOf : Reading → ℕ
-numberOf (Clean m) = codeOf m
-numberOf (Repaired m) = 8 + codeOf m
-numberOf Damaged = 16
-
-abbrev fromNumber : ℕ → Reading
-fromNumber n = cond (ltb n 8) (Clean (meaningOf n)) (cond (ltb n 16) (Repaired (meaningOf (n - 8))) Damaged)
-
-back : (r : Reading) → fromNumber (numberOf r) ≡ r
-back (Clean m) = simp (lt-ltb (codeOf m) 8 (code-small m), meaning-code m)
-back (Repaired m) =
+pub number-back : (r : Reading) → readingNumbered (readingNumber r) ≡ r
+unfolding readingNumbered
+number-back (Clean m) = simp (lt-ltb (codeOf m) 8 (code-small m), meaning-code m)
+number-back (Repaired m) =
     let s = code-small m in
     let e : 8 + codeOf m - 8 ≡ codeOf m = omega arith in
     simp (le-ltb (8 + codeOf m) 8 (omega arith), lt-ltb (8 + codeOf m) 16 (omega arith), e, meaning-code m)
-back Damaged = refl
+number-back Damaged = refl
 
 abbrev pub same : Reading → Reading → Bool
-same r s = eqb (numberOf r) (numberOf s)
+same r s = eqb (readingNumber r) (readingNumber s)
 
 pub same-eq : (r s : Reading) → same r s ≡ true → r ≡ s
-same-eq r s h = sym (back r) ∙ ap fromNumber (eqb-true (numberOf r) (numberOf s) h) ∙ back s
+same-eq r s h = sym (number-back r) ∙ ap readingNumbered (eqb-true (readingNumber r) (readingNumber s) h) ∙ number-back s
 
 pub eq-same : (r s : Reading) → r ≡ s → same r s ≡ true
-eq-same r s e = eq-eqb (numberOf r) (numberOf s) (ap numberOf e)
+eq-same r s e = eq-eqb (readingNumber r) (readingNumber s) (ap readingNumber e)
 
 agree : (x y : Bool) → Bool·beq x y ≡ true → x ≡ y
 agree true true h = refl
