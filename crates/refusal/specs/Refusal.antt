@@ -1,4 +1,4 @@
--- The numbers of refusals (01, the table under 'One answer for each mark'), each under its name.
+-- The numbers of refusals (01, the table under 'One answer for each mark', and what 02 adds to it), each under its name.
 use Prim.Native.Nat.{ℕ}
 
 -- the mark's code is damaged
@@ -76,3 +76,19 @@ notTheLineDue = 18
 -- frame: a broken line
 abbrev pub brokenLine : ℕ
 brokenLine = 19
+
+-- 02, A1: the file does not start with a picture's header
+abbrev pub badHeader : ℕ
+badHeader = 20
+
+-- 02, A1: length of rows or file
+abbrev pub wrongPictureLength : ℕ
+wrongPictureLength = 21
+
+-- 02, A1: a pixel is not 01 to FE
+abbrev pub badPixel : ℕ
+badPixel = 22
+
+-- 02, A2: not a visible line
+abbrev pub notVisible : ℕ
+notVisible = 23

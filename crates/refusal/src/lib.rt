@@ -1,4 +1,4 @@
-// The numbers of refusals (paper 01's table), each under its name. specs/Refusal.antt has the same names for the definitions.
+// The numbers of refusals (paper 01's table, and what 02 adds to it), each under its name. specs/Refusal.antt has the same names for the definitions.
 
 // A mark's answer, 1 to 9.
 pub const DAMAGED_CODE: u8 = 1;
@@ -40,3 +40,13 @@ pub const TOO_MANY_NULLS: u8 = 17;
 pub const NOT_THE_LINE_DUE: u8 = 18;
 
 pub const BROKEN_LINE: u8 = 19;
+
+// A picture's file.
+pub const BAD_HEADER: u8 = 20;
+
+pub const WRONG_PICTURE_LENGTH: u8 = 21;
+
+pub const BAD_PIXEL: u8 = 22;
+
+// A line whose pixels are put in another order.
+pub const NOT_VISIBLE: u8 = 23;

@@ -1,0 +1,56 @@
+use mathlib.Core.Path.{sym, _∙_}
+use borrow.Author.Tests.{eq-eqb, ne-eqb}
+use Rattle.lent_buffer.specs.FilledLaws.{refuses}
+use Rattle.pgm.specs.declared.Borders.the-variants.{On, Off}
+use Rattle.pgm.specs.Pgm.{size, either, writeOf}
+use borrow.Author.Needs.{needs}
+use Rattle.pgm.proofs.write.Statement.{statement}
+use Rattle.pgm.proofs.write.Tie as tie
+
+size-requires : tie.Need-size-requires
+size-requires c κs = search needs
+
+write-as-requires : tie.Need-write-as-requires
+write-as-requires c κs = search needs
+
+same-length : tie.Need-same-length
+same-length c = search needs
+
+returns : tie.Need-returns
+unfolding writeOf either
+returns c = simp (eq-eqb _ (size On) (c .before .before .before .before .if1 .taken ∙ c .before .before .before .before .before .size .ensures)) (c .before .before .write-as .ensures)
+
+size-requires-2 : tie.Need-size-requires-2
+size-requires-2 c κs = search needs
+
+write-as-requires-2 : tie.Need-write-as-requires-2
+write-as-requires-2 c κs = search needs
+
+same-length-2 : tie.Need-same-length-2
+same-length-2 c = search needs
+
+returns-2 : tie.Need-returns-2
+unfolding writeOf either
+returns-2 c =
+    simp (ne-eqb _ (size On) (λ e. c .before .before .before .before .before .before .if1 .left (e ∙ sym (c .before .before .before .before .before .before .before .size .ensures))), eq-eqb _ (size Off) (c .before .before .before .before .if2 .taken ∙ c .before .before .before .before .before .size2 .ensures))
+    (c .before .before .write-as2 .ensures)
+
+returns-3 : tie.Need-returns-3
+unfolding writeOf either
+returns-3 c =
+    refuses _ _ _
+    (simp (ne-eqb _ (size On) (λ e. c .before .before .if1 .left (e ∙ sym (c .before .before .before .size .ensures))), ne-eqb _ (size Off) (λ e. c .if2 .left (e ∙ sym (c .before .size2 .ensures)))))
+
+pub write-spec : {M : Type 1} → statement M
+write-spec =
+    tie.close
+    (tie.spec
+    size-requires
+    write-as-requires
+    same-length
+    returns
+    size-requires-2
+    write-as-requires-2
+    same-length-2
+    returns-2
+    returns-3)

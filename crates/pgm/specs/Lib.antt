@@ -1,0 +1,2 @@
+pub mod Pgm
+pub mod PgmLaws

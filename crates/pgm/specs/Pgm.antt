@@ -1,0 +1,94 @@
+-- A picture as a binary PGM file (02, A1; Netpbm's "P5").
+use mathlib.Core.Path.{_≡_}
+use mathlib.Core.Bool.{Bool, true, false, _&&_, cond}
+use mathlib.Core.List.{List, [], _∷_, _++_}
+use Prim.Native.Nat.{ℕ, _+_, _*_, _/_, _%_}
+use lib.Dec.{eqb}
+use lib.ListN.{length, drop}
+use Rattle.refusal.specs.Refusal.{badHeader, wrongPictureLength, badPixel}
+use Rattle.profile.specs.declared.Profile.the-variants.{VV5404}
+use Rattle.profile.specs.Profile.{bodyLength}
+use Rattle.profile.specs.Layout.{isPixel}
+use Rattle.lent_buffer.specs.Filled.{Output, refused, require, fitted}
+use Rattle.pgm.specs.declared.Borders.{Borders}
+use Rattle.pgm.specs.declared.Borders.the-variants.{On, Off}
+
+-- the pixels of a row: a visible line's body
+abbrev pub width : ℕ
+width = bodyLength VV5404
+
+-- the rows of a picture: a frame's visible lines with borders on, or off
+abbrev pub height : Borders → ℕ
+height On = 292
+height Off = 288
+
+-- the pixels of a picture
+abbrev pub size : Borders → ℕ
+size b = height b * width
+
+-- the greatest value of a pixel, as the header gives it
+abbrev pub maxval : ℕ
+maxval = 255
+
+-- a number's last decimal digit, as a character
+abbrev pub digit : ℕ → ℕ
+digit n = 0x30 + n % 10
+
+-- a number in three decimal digits
+abbrev pub decimal : ℕ → List ℕ
+decimal n = digit (n / 100) ∷ digit (n / 10) ∷ digit n ∷ []
+
+abbrev pub space : ℕ
+space = 0x20
+
+abbrev pub newline : ℕ
+newline = 0x0A
+
+-- P5, newline, width and height, newline, 255, newline
+unfoldable pub header : Borders → List ℕ
+header b = 0x50 ∷ 0x35 ∷ newline ∷ (decimal width ++ (space ∷ (decimal (height b) ++ (newline ∷ (decimal maxval ++ (newline ∷ []))))))
+
+abbrev pub headerLength : ℕ
+headerLength = 15
+
+-- the file of rows: the header, then the pixels
+abbrev pub imageOf : Borders → List ℕ → List ℕ
+imageOf b rows = header b ++ rows
+
+-- each byte is a pixel, 01 to FE
+abbrev pub pixels : List ℕ → Bool
+pixels [] = true
+pixels (p ∷ ps) = isPixel p && pixels ps
+
+-- the file of a picture: as many rows as its border setting has, pixels only, after that header
+pub record Picture (rows file : List ℕ) : Type 0 where
+  pub borders : Borders
+  pub sized : length rows ≡ size borders
+  pub good : pixels rows ≡ true
+  pub made : file ≡ imageOf borders rows
+
+-- a file starts with these bytes
+abbrev pub starts : List ℕ → List ℕ → Bool
+starts [] file = true
+starts (b ∷ bs) [] = false
+starts (b ∷ bs) (x ∷ xs) = eqb x b && starts bs xs
+
+-- by the border setting that passes a test; a refusal where neither does
+unfoldable pub either : (Borders → Bool) → (Borders → Output) → ℕ → Output
+either test then n = cond (test On) (then On) (cond (test Off) (then Off) (refused n))
+
+-- 22, 12, or the file: of rows of a picture's size, and the room
+abbrev pub writeAs : Borders → List ℕ → ℕ → Output
+writeAs b rows room = require (pixels rows) badPixel (fitted (imageOf b rows) room)
+
+-- what writing answers: 21, or by the size of the rows
+unfoldable pub writeOf : List ℕ → ℕ → Output
+writeOf rows room = either (λ b. eqb (length rows) (size b)) (λ b. writeAs b rows room) wrongPictureLength
+
+-- 21, 22, 12, or the rows: of what follows a header, and the room
+abbrev pub readAs : Borders → List ℕ → ℕ → Output
+readAs b rows room = require (eqb (length rows) (size b)) wrongPictureLength (require (pixels rows) badPixel (fitted rows room))
+
+-- what reading answers: 20, or by the header of the file
+unfoldable pub readOf : List ℕ → ℕ → Output
+readOf file room = either (λ b. starts (header b) file) (λ b. readAs b (drop headerLength file) room) badHeader

@@ -1,0 +1,166 @@
+-- Laws of a picture's file: writing makes, and reading accepts, exactly the files of pictures; rows come back as written; a file that is read
+-- writes back to the same bytes; no two different row lists give one file.
+use mathlib.Core.Path.{_≡_, refl, sym, ap, _∙_}
+use mathlib.Core.Bool.{Bool, true, false, _&&_, cond, true≢false, and-false}
+use mathlib.Core.List.{List, [], _∷_, _++_}
+use Prim.Native.Nat.{ℕ, _+_, _<_, _≤_}
+use native.Mathlib.Nat.{not-suc-le-zero, le-of-suc-le-suc}
+use native.Mathlib.Omega.{arith}
+use borrow.Author.Tests.{eqb-true, eq-eqb}
+use lib.Dec.{eqb, lit≤}
+use lib.ListN.{length, drop, length-append}
+use lib.Seq.{drop-at}
+use Rattle.bits.specs.Every.{and-left, and-right}
+use Rattle.refusal.specs.Refusal.{badHeader, wrongPictureLength}
+use Rattle.lent_buffer.specs.Filled.{Output, used, refused, require}
+use Rattle.lent_buffer.specs.FilledLaws.{fitted-used, passed, used-fitted}
+use Rattle.pgm.specs.declared.Borders.{Borders}
+use Rattle.pgm.specs.declared.Borders.the-variants.{On, Off}
+use Rattle.pgm.specs.Pgm.{height, size, header, headerLength, imageOf, pixels, Picture, starts, either, writeAs, writeOf, readAs, readOf}
+
+-- The header.
+
+-- `P5`, newline, `356 292`, newline, `255`, newline
+pub header-on : header On ≡ 0x50 ∷ 0x35 ∷ 0x0A ∷ 0x33 ∷ 0x35 ∷ 0x36 ∷ 0x20 ∷ 0x32 ∷ 0x39 ∷ 0x32 ∷ 0x0A ∷ 0x32 ∷ 0x35 ∷ 0x35 ∷ 0x0A ∷ []
+unfolding header
+header-on = refl
+
+-- `P5`, newline, `356 288`, newline, `255`, newline
+pub header-off : header Off ≡ 0x50 ∷ 0x35 ∷ 0x0A ∷ 0x33 ∷ 0x35 ∷ 0x36 ∷ 0x20 ∷ 0x32 ∷ 0x38 ∷ 0x38 ∷ 0x0A ∷ 0x32 ∷ 0x35 ∷ 0x35 ∷ 0x0A ∷ []
+unfolding header
+header-off = refl
+
+pub header-length : (b : Borders) → length (header b) ≡ headerLength
+unfolding header
+header-length On = refl
+header-length Off = refl
+
+pub image-length : (b : Borders) (rows : List ℕ) → length (imageOf b rows) ≡ headerLength + length rows
+image-length b rows = length-append (header b) rows ∙ ap (λ (n : ℕ). n + length rows) (header-length b)
+
+after-header : (b : Borders) (rows : List ℕ) → drop headerLength (imageOf b rows) ≡ rows
+after-header b rows = drop-at (header b) rows headerLength (header-length b)
+
+started : (bytes file : List ℕ) → starts bytes file ≡ true → file ≡ bytes ++ drop (length bytes) file
+started [] file h = refl
+started (b ∷ bs) [] h = absurd (true≢false (sym h))
+started (b ∷ bs) (x ∷ xs) h =
+    ap (λ (k : ℕ). k ∷ xs) (eqb-true x b (and-left _ (starts bs xs) h)) ∙ ap (λ (l : List ℕ). b ∷ l) (started bs xs (and-right (eqb x b) _ h))
+
+starts-short : (bytes file : List ℕ) → length file < length bytes → starts bytes file ≡ false
+starts-short [] file h = absurd (not-suc-le-zero h)
+starts-short (b ∷ bs) [] h = refl
+starts-short (b ∷ bs) (x ∷ xs) h = ap (λ (t : Bool). eqb x b && t) (starts-short bs xs (le-of-suc-le-suc h)) ∙ and-false (eqb x b)
+
+cut : (b : Borders) (file : List ℕ) → length file < headerLength → starts (header b) file ≡ false
+cut b file h = starts-short (header b) file (omega (arith, header-length b))
+
+headed : (b : Borders) (file : List ℕ) → starts (header b) file ≡ true → file ≡ imageOf b (drop headerLength file)
+headed b file h = started (header b) file h ∙ ap (λ (k : ℕ). imageOf b (drop k file)) (header-length b)
+
+-- The border setting that a size or a header tells.
+
+pub height-most : (b : Borders) → height b ≤ height On
+height-most On = lit≤ tt
+height-most Off = lit≤ tt
+
+size-tells : (then : Borders → Output) (n : ℕ) (b : Borders) (m : ℕ) → m ≡ size b → either (λ x. eqb m (size x)) then n ≡ then b
+unfolding either
+size-tells then n On m e = simp e
+size-tells then n Off m e = simp e
+
+header-tells : (then : Borders → Output) (n : ℕ) (b : Borders) (rows : List ℕ) → either (λ x. starts (header x) (imageOf b rows)) then n ≡ then b
+unfolding either header
+header-tells then n On rows = refl
+header-tells then n Off rows = refl
+
+record Told (test : Borders → Bool) (then : Borders → Output) (n : ℕ) (w : List ℕ) : Type 0 where
+  borders : Borders
+  passes : test borders ≡ true
+  gives : then borders ≡ used n w
+
+told : (test : Borders → Bool) (then : Borders → Output) (r : ℕ) {n : ℕ} {w : List ℕ} → either test then r ≡ used n w → Told test then n w
+unfolding either
+told test then r {n} {w} = by (test On) (test Off) refl refl
+  where
+    by : (s t : Bool) → test On ≡ s → test Off ≡ t → cond s (then On) (cond t (then Off) (refused r)) ≡ used n w → Told test then n w
+    by true t e f h = record { borders = On; passes = e; gives = h }
+    by false true e f h = record { borders = Off; passes = f; gives = h }
+    by false false e f h = absurd (let z : true ≡ false = cc in true≢false z)
+
+-- Writing makes exactly the files of pictures.
+
+pub picture-written : (rows file : List ℕ) (room : ℕ) → Picture rows file → length file ≤ room → writeOf rows room ≡ used (length file) file
+unfolding writeOf require
+picture-written rows file room p h =
+    let b = p .borders in
+    size-tells (λ x. writeAs x rows room) _ b _ (p .sized) ∙ simp (p .good, ← p .made) (fitted-used file room h)
+
+pub written-picture : (rows file : List ℕ) (room n : ℕ) → writeOf rows room ≡ used n file → Picture rows file
+unfolding writeOf
+written-picture rows file room n h =
+    let t = told (λ b. eqb (length rows) (size b)) (λ b. writeAs b rows room) _ h in
+    let p = passed (pixels rows) _ _ (t .gives) in
+    record { borders = t .borders; sized = eqb-true _ _ (t .passes); good = p .0; made = used-fitted (imageOf (t .borders) rows) room (p .1) .0 }
+
+-- Reading accepts exactly the files of pictures.
+
+pub picture-read : (rows file : List ℕ) (room : ℕ) → Picture rows file → length rows ≤ room → readOf file room ≡ used (length rows) rows
+unfolding readOf require
+picture-read rows file room p h =
+    let b = p .borders in
+    ap (λ (f : List ℕ). readOf f room) (p .made)
+    ∙ header-tells (λ x. readAs x (drop headerLength (imageOf b rows)) room) _ b rows
+    ∙ ap (λ (l : List ℕ). readAs b l room) (after-header b rows)
+    ∙ simp (eq-eqb _ _ (p .sized), p .good) (fitted-used rows room h)
+
+pub read-picture : (rows file : List ℕ) (room n : ℕ) → readOf file room ≡ used n rows → Picture rows file
+unfolding readOf
+read-picture rows file room n h =
+    let t = told (λ b. starts (header b) file) (λ b. readAs b (drop headerLength file) room) _ h in
+    let l = passed (eqb (length (drop headerLength file)) (size (t .borders))) _ _ (t .gives) in
+    let p = passed (pixels (drop headerLength file)) _ _ (l .1) in
+    let e : rows ≡ drop headerLength file = used-fitted (drop headerLength file) room (p .1) .0 in
+    record {
+      borders = t .borders;
+      sized = ap length e ∙ eqb-true _ _ (l .0);
+      good = ap pixels e ∙ p .0;
+      made = headed (t .borders) file (t .passes) ∙ ap (imageOf (t .borders)) (sym e);
+    }
+
+-- Cases at the edges.
+
+pub no-rows : (room : ℕ) → writeOf [] room ≡ refused wrongPictureLength
+unfolding writeOf either
+no-rows room = refl
+
+-- a file cut inside the header is refused for its header, not for its length
+pub cut-header : (file : List ℕ) (room : ℕ) → length file < headerLength → readOf file room ≡ refused badHeader
+unfolding readOf either
+cut-header file room h = simp (cut On file h, cut Off file h)
+
+-- 292 rows under the header of 288
+pub lower-header : (rows : List ℕ) (room : ℕ) → length rows ≡ size On → readOf (imageOf Off rows) room ≡ refused wrongPictureLength
+unfolding readOf require
+lower-header rows room e =
+    header-tells (λ x. readAs x (drop headerLength (imageOf Off rows)) room) _ Off rows
+    ∙ ap (λ (l : List ℕ). readAs Off l room) (after-header Off rows)
+    ∙ simp e
+
+-- What 02 asks.
+
+rows-of : (rows file : List ℕ) → Picture rows file → drop headerLength file ≡ rows
+rows-of rows file p = ap (drop headerLength) (p .made) ∙ after-header (p .borders) rows
+
+-- rows come back as written, at both sizes
+pub rows-back : (rows file : List ℕ) (room room′ n : ℕ) → writeOf rows room ≡ used n file → length rows ≤ room′ → readOf file room′ ≡ used (length rows) rows
+rows-back rows file room room′ n h = picture-read rows file room′ (written-picture rows file room n h)
+
+-- a file that is read writes back to the same bytes
+pub file-back : (rows file : List ℕ) (room room′ n : ℕ) → readOf file room ≡ used n rows → length file ≤ room′ → writeOf rows room′ ≡ used (length file) file
+file-back rows file room room′ n h = picture-written rows file room′ (read-picture rows file room n h)
+
+-- no two different row lists give one file
+pub one-file : (rows rows′ file : List ℕ) (room room′ n n′ : ℕ) → writeOf rows room ≡ used n file → writeOf rows′ room′ ≡ used n′ file → rows ≡ rows′
+one-file rows rows′ file room room′ n n′ h g =
+    sym (rows-of rows file (written-picture rows file room n h)) ∙ rows-of rows′ file (written-picture rows′ file room′ n′ g)

@@ -1,0 +1,2 @@
+pub mod PixelOrder
+pub mod PixelOrderLaws
