@@ -92,3 +92,23 @@ badPixel = 22
 -- 02, A2: not a visible line
 abbrev pub notVisible : ℕ
 notVisible = 23
+
+-- two-wire: a message shorter than two bytes
+abbrev pub shortMessage : ℕ
+shortMessage = 24
+
+-- two-wire: the first byte is not the sensor's address, 32 or 33
+abbrev pub wrongAddress : ℕ
+wrongAddress = 25
+
+-- two-wire: the second byte of a read is not the index and the flag held
+abbrev pub wrongIndex : ℕ
+wrongIndex = 26
+
+-- two-wire: read data at an index up to 127 differs
+abbrev pub wrongData : ℕ
+wrongData = 27
+
+-- two-wire: an index past 127
+abbrev pub pastLastRegister : ℕ
+pastLastRegister = 28

@@ -50,3 +50,14 @@ pub const BAD_PIXEL: u8 = 22;
 
 // A line whose pixels are put in another order.
 pub const NOT_VISIBLE: u8 = 23;
+
+// A two-wire message that is refused, and changes nothing.
+pub const SHORT_MESSAGE: u8 = 24;
+
+pub const WRONG_ADDRESS: u8 = 25;
+
+pub const WRONG_INDEX: u8 = 26;
+
+pub const WRONG_DATA: u8 = 27;
+
+pub const PAST_LAST_REGISTER: u8 = 28;

@@ -1,0 +1,68 @@
+use Prim.Native.Nat.{_≤_, _-_}
+use native.Mathlib.Omega.{arith}
+use borrow.Author.Needs.{needs}
+use lib.ListN.{length}
+use Rattle.two_wire_text.specs.LineLaws.{line-within}
+use Rattle.registers.proofs.answer_all.Statement.{statement}
+use Rattle.registers.proofs.answer_all.Tie as tie
+
+abbrev Inv-loop : tie.InvT-loop
+Inv-loop text sensor₀ start₀ sensor start = start ≤ length text
+
+abbrev μ-loop : tie.MeasureT-loop
+μ-loop text sensor₀ start₀ sensor start = length text - start
+
+new-requires : tie.Need-new-requires Inv-loop μ-loop
+new-requires c κs = search needs
+
+loop-holds : tie.Need-loop-holds Inv-loop μ-loop
+loop-holds c = search needs
+
+line-end-requires : tie.Need-line-end-requires Inv-loop μ-loop
+line-end-requires c κs = search needs
+
+sub-answer : tie.Need-sub-answer Inv-loop μ-loop
+sub-answer c = search needs
+
+part-answer-start : tie.Need-part-answer-start Inv-loop μ-loop
+part-answer-start c = search needs
+
+part-answer-end : tie.Need-part-answer-end Inv-loop μ-loop
+part-answer-end c = omega (arith, line-within (c .before .before .before .before .before .args .text .now) (c .before .before .loop .start) (c .before .before .loop .inv))
+
+answer-requires : tie.Need-answer-requires Inv-loop μ-loop
+answer-requires c κs = search needs
+
+returns : tie.Need-returns Inv-loop μ-loop
+returns c = tt
+
+add-start : tie.Need-add-start Inv-loop μ-loop
+add-start c = omega (arith, line-within (c .before .before .before .before .before .before .before .before .args .text .now) (c .before .before .before .before .before .loop .start) (c .before .before .before .before .before .loop .inv))
+
+loop-less : tie.Need-loop-less Inv-loop μ-loop
+loop-less c = omega (arith, line-within (c .before .before .before .before .before .before .before .before .args .text .now) (c .before .before .before .before .before .loop .start) (c .before .before .before .before .before .loop .inv))
+
+loop-again : tie.Need-loop-again Inv-loop μ-loop
+loop-again c = omega (arith, line-within (c .before .before .before .before .before .before .before .before .args .text .now) (c .before .before .before .before .before .loop .start) (c .before .before .before .before .before .loop .inv))
+
+returns-2 : tie.Need-returns-2 Inv-loop μ-loop
+returns-2 c = tt
+
+pub answer-all-spec : {M : Type 1} → statement M
+answer-all-spec =
+    tie.close
+    (tie.spec
+    Inv-loop
+    μ-loop
+    new-requires
+    loop-holds
+    line-end-requires
+    sub-answer
+    part-answer-start
+    part-answer-end
+    answer-requires
+    returns
+    add-start
+    loop-less
+    loop-again
+    returns-2)

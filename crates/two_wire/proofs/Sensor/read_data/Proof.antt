@@ -1,0 +1,49 @@
+use mathlib.Core.Path.{refl, sym, _∙_}
+use Rattle.two_wire.specs.Messages.{readData, refuseIf}
+use borrow.Author.Needs.{needs}
+use Rattle.two_wire.proofs.Sensor.read_data.Statement.{statement}
+use Rattle.two_wire.proofs.Sensor.read_data.Tie as tie
+
+some-differs-requires : tie.Need-some-differs-requires
+some-differs-requires c κs = search needs
+
+passes-requires : tie.Need-passes-requires
+passes-requires c κs = search needs
+
+refused-requires : tie.Need-refused-requires
+refused-requires c κs = search needs
+
+returns : tie.Need-returns
+unfolding readData refuseIf
+returns c = simp (← c .before .before .before .some-differs .ensures, c .before .if1 .taken) (c .refused .ensures)
+
+refused-requires-2 : tie.Need-refused-requires-2
+refused-requires-2 c κs = search needs
+
+returns-2 : tie.Need-returns-2
+unfolding readData refuseIf
+returns-2 c = simp (← c .before .before .before .before .some-differs .ensures, c .before .before .if1 .left, ← c .before .before .before .passes .ensures, c .before .if2 .taken) (c .refused2 .ensures)
+
+left-requires : tie.Need-left-requires
+left-requires c κs = (search needs, sym (c .before .before .passes .ensures) ∙ c .if2 .left)
+
+accepted-requires : tie.Need-accepted-requires
+accepted-requires c κs = search needs
+
+returns-3 : tie.Need-returns-3
+unfolding readData refuseIf
+returns-3 c = simp (c .accepted .ensures, ← c .before .before .before .before .before .some-differs .ensures, c .before .before .before .if1 .left, ← c .before .before .before .before .passes .ensures, c .before .before .if2 .left, c .before .left .ensures) (refl, refl)
+
+pub read-data-spec : {M : Type 1} → statement M
+read-data-spec =
+    tie.close
+    (tie.spec
+    some-differs-requires
+    passes-requires
+    refused-requires
+    returns
+    refused-requires-2
+    returns-2
+    left-requires
+    accepted-requires
+    returns-3)

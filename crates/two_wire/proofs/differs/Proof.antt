@@ -1,0 +1,23 @@
+use borrow.Author.Tests.{lt-ltb, le-ltb, eq-eqb, ne-eqb}
+use Rattle.two_wire.specs.Registers.{differs}
+use borrow.Author.Needs.{needs}
+use Rattle.two_wire.proofs.differs.Statement.{statement}
+use Rattle.two_wire.proofs.differs.Tie as tie
+
+element-copy-out-if2 : tie.Need-element-copy-out-if2
+element-copy-out-if2 c = search needs
+
+returns : tie.Need-returns
+unfolding differs
+returns c = simp (le-ltb _ _ (c .before .before .if1 .taken), le-ltb 127 (c .before .before .before .args .index) (c .before .before .before .pre), eq-eqb _ _ (c .if2 .taken))
+
+returns-2 : tie.Need-returns-2
+unfolding differs
+returns-2 c = simp (le-ltb _ _ (c .before .before .if1 .taken), le-ltb 127 (c .before .before .before .args .index) (c .before .before .before .pre), ne-eqb _ _ (c .if2 .left))
+
+returns-3 : tie.Need-returns-3
+unfolding differs
+returns-3 c = simp (lt-ltb _ _ (c .if1 .left))
+
+pub differs-spec : {M : Type 1} → statement M
+differs-spec = tie.close (tie.spec element-copy-out-if2 returns returns-2 returns-3)

@@ -1,0 +1,53 @@
+use Rattle.two_wire.specs.WritingLaws.{ends-odd, messages-length, written}
+use Prim.Native.Nat.{_<_}
+use lib.ListN.{length}
+use Rattle.two_wire.specs.Writing.{writeOf, refuseIf, messages, joined}
+use mathlib.Core.Path.{refl, sym, _∙_}
+use native.Mathlib.Omega.{arith}
+use borrow.Author.Tests.{eq-eqb, ne-eqb, lt-ltb}
+use Rattle.two_wire.specs.Writing.{writeOf, refuseIf}
+use borrow.Author.Needs.{needs}
+use Rattle.two_wire.proofs.write.Statement.{statement}
+use Rattle.two_wire.proofs.write.Tie as tie
+
+returns : tie.Need-returns
+unfolding writeOf refuseIf
+returns c = simp (ends-odd (c .before .before .before .args .pairs .now), eq-eqb _ _ (c .if1 .taken)) (refl, refl)
+
+some-index-past-requires : tie.Need-some-index-past-requires
+some-index-past-requires c κs = ends-odd (c .before .before .before .args .pairs .now) ∙ ne-eqb _ _ (c .if1 .left)
+
+returns-2 : tie.Need-returns-2
+unfolding writeOf refuseIf
+returns-2 c = simp (ends-odd (c .before .before .before .before .before .args .pairs .now), ne-eqb _ _ (c .before .before .if1 .left), ← c .before .some-index-past .ensures, c .if2 .taken) (refl, refl)
+
+returns-3 : tie.Need-returns-3
+unfolding writeOf refuseIf
+returns-3 c = let a = c .before .before .before .before .before .before .args in
+    let few : length (a .buffer .now) < length (joined (messages (a .pairs .now))) = omega (arith, messages-length (a .pairs .now)) in
+    simp (ends-odd (a .pairs .now), ne-eqb _ _ (c .before .before .before .if1 .left), ← c .before .before .some-index-past .ensures, c .before .if2 .left, lt-ltb _ _ few) (refl, refl)
+
+put-messages-requires : tie.Need-put-messages-requires
+put-messages-requires c κs = let pairs = c .before .before .before .before .before .before .before .args .pairs .now in
+    (ends-odd pairs ∙ ne-eqb _ _ (c .before .before .before .before .if1 .left), omega (arith, messages-length pairs))
+
+same-length : tie.Need-same-length
+same-length c = search needs
+
+returns-4 : tie.Need-returns-4
+returns-4 c = let a = c .before .before .before .before .before .before .before .before .before .before .args in
+    let even = ends-odd (a .pairs .now) ∙ ne-eqb _ _ (c .before .before .before .before .before .before .before .if1 .left) in
+    let within = sym (c .before .before .before .before .before .before .some-index-past .ensures) ∙ c .before .before .before .before .before .if2 .left in
+    simp (c .before .before .put-messages .ensures .0, c .before .before .put-messages .ensures .1) (written (a .pairs .now) (a .buffer .now) even within (omega (arith, messages-length (a .pairs .now))))
+
+pub write-spec : {M : Type 1} → statement M
+write-spec =
+    tie.close
+    (tie.spec
+    returns
+    some-index-past-requires
+    returns-2
+    returns-3
+    put-messages-requires
+    same-length
+    returns-4)

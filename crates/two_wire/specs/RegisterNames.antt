@@ -1,0 +1,35 @@
+-- Registers of the VV5404 and VV6404 by name (004, Table 8).
+use Prim.Native.Nat.{ℕ}
+
+abbrev pub setup0 : ℕ
+setup0 = 16
+
+abbrev pub setup1 : ℕ
+setup1 = 17
+
+abbrev pub setup2 : ℕ
+setup2 = 18
+
+abbrev pub setup4 : ℕ
+setup4 = 20
+
+abbrev pub setup5 : ℕ
+setup5 = 21
+
+abbrev pub fineHigh : ℕ
+fineHigh = 32
+
+abbrev pub fineLow : ℕ
+fineLow = 33
+
+abbrev pub coarseHigh : ℕ
+coarseHigh = 34
+
+abbrev pub coarseLow : ℕ
+coarseLow = 35
+
+abbrev pub gain : ℕ
+gain = 36
+
+abbrev pub clockDivisor : ℕ
+clockDivisor = 37

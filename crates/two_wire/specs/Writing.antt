@@ -1,0 +1,83 @@
+-- Messages written from a list of index and value pairs (02, A6): each pair one message of 32, index without increment, value.
+use mathlib.Core.Bool.{Bool, true, false, _||_, cond}
+use mathlib.Core.List.{List, [], _∷_, _++_}
+use Prim.Native.Nat.{ℕ}
+use lib.Dec.{eqb, ltb}
+use lib.ListN.{length, take, drop}
+use Rattle.refusal.specs.Refusal.{noRoom, shortMessage, pastLastRegister}
+use Rattle.two_wire.specs.declared.Written.{Written}
+use Rattle.two_wire.specs.declared.Written.the-variants as answer
+use Rattle.two_wire.specs.Registers.{lastIndex}
+use Rattle.two_wire.specs.Messages.{writeAddress}
+
+-- A list of pairs is index, value, index, value, ..
+
+-- it ends within a pair
+abbrev pub endsWithinPair : List ℕ → Bool
+endsWithinPair [] = false
+endsWithinPair (i ∷ []) = true
+endsWithinPair (i ∷ v ∷ pairs) = endsWithinPair pairs
+
+-- some index is above 127
+abbrev pub someIndexPast : List ℕ → Bool
+someIndexPast [] = false
+someIndexPast (i ∷ []) = false
+someIndexPast (i ∷ v ∷ pairs) = ltb lastIndex i || someIndexPast pairs
+
+-- the message of a pair
+abbrev pub message : ℕ → ℕ → List ℕ
+message i v = writeAddress ∷ i ∷ v ∷ []
+
+-- the messages of the pairs
+abbrev pub messages : List ℕ → List (List ℕ)
+messages [] = []
+messages (i ∷ []) = []
+messages (i ∷ v ∷ pairs) = message i v ∷ messages pairs
+
+-- lists end to end: the messages stand in the buffer one straight after another, three bytes each
+abbrev pub joined : List (List ℕ) → List ℕ
+joined [] = []
+joined (m ∷ ms) = m ++ joined ms
+
+-- what the writer answers: the length used and those bytes, or a refusal with its number
+pub data Output : Type 0 where
+  wrote : ℕ → List ℕ → Output
+  refused : ℕ → Output
+
+-- the paper's number and values of each case of the program's answer: the bytes are the front of the lent buffer
+abbrev pub outputOf : Written → List ℕ → Output
+outputOf (answer.Length n) buffer = wrote n (take n buffer)
+outputOf (answer.Refused n) buffer = refused n
+
+-- the lent buffer afterwards: the messages at its front and the rest as it was; a refusal writes nothing
+abbrev pub bufferAfter : Output → List ℕ → List ℕ
+bufferAfter (wrote n bytes) buffer = bytes ++ drop n buffer
+bufferAfter (refused n) buffer = buffer
+
+-- a refusal where the test passes
+unfoldable pub refuseIf : Bool → ℕ → Output → Output
+refuseIf true n o = refused n
+refuseIf false n o = o
+
+-- 24 where the list ends within a pair, then 28, then 12, or the messages; of the list and the room
+unfoldable pub writeOf : List ℕ → ℕ → Output
+writeOf pairs room =
+    refuseIf (endsWithinPair pairs) shortMessage
+    (refuseIf (someIndexPast pairs) pastLastRegister
+    (refuseIf (ltb room (length (joined (messages pairs)))) noRoom
+    (wrote (length (joined (messages pairs))) (joined (messages pairs)))))
+
+-- ---- Reading what was written
+
+-- messages of three bytes, cut apart again
+abbrev pub inThrees : List ℕ → List (List ℕ)
+inThrees [] = []
+inThrees (a ∷ []) = []
+inThrees (a ∷ b ∷ []) = []
+inThrees (a ∷ b ∷ c ∷ bytes) = (a ∷ b ∷ c ∷ []) ∷ inThrees bytes
+
+-- the last value listed for a register; its own where none is
+abbrev pub lastListed : ℕ → List ℕ → ℕ → ℕ
+lastListed r [] own = own
+lastListed r (i ∷ []) own = own
+lastListed r (i ∷ v ∷ pairs) own = lastListed r pairs (cond (eqb i r) v own)

@@ -1,0 +1,336 @@
+// The two-wire messages of the sensors (paper 02, A6; 000, 'Serial Interface'; 004, section 5).
+//
+// Reading. In: a sensor's state (128 registers, current index, increment flag) and a message, the list of its acknowledged bytes between
+// start and stop or repeated start. Out: the state after it, and whether it was accepted. Refused, in this order, and then nothing has
+// changed: 11 held index above 127, 24 shorter than two bytes, 25 address, 26 second byte of a read not the index and flag held, 27 read
+// data at an index up to 127 differs, 28 data past 127.
+// Writing. In: a list of index and value pairs, as index, value, index, value, .. Out: in the lent buffer one message of three bytes for
+// each pair, one straight after another; the rest of the buffer stays. Refused, in this order, and then nothing is written: 24 a list
+// that ends within a pair, 28 an index above 127, 12 room.
+// Cost: linear in the message or the list.
+pub mod register;
+
+ghost use mathlib.Core.Path.{_≡_};
+ghost use mathlib.Core.Bool.{false};
+ghost use Prim.Native.Nat.{_+_, _≤_};
+ghost use lib.ListN.{length};
+ghost use lib.Seq.{sets};
+ghost use Rattle.two_wire.specs.Registers.{lastIndex, fresh, next, passes, reached, left, put, stored, differs, someDiffers};
+ghost use Rattle.two_wire.specs.Messages.{indexByte, refused, Told, writeData, readData, readBack, messageOn};
+ghost use Rattle.two_wire.specs.declared.Answer.the-variants as answer;
+ghost use Rattle.two_wire.specs.Writing.{endsWithinPair, someIndexPast, message, messages, joined, outputOf, bufferAfter, writeOf};
+
+// A sensor as messages see it. Calls leave an index up to 127; a state with another is refused with 11.
+pub struct Sensor {
+    pub registers: [u8; 128],
+    pub index: u8,
+    pub increment: bool,
+}
+
+// What a message is answered.
+pub enum Answer {
+    Accepted,
+    Refused(u8),
+}
+
+// The state after a message, and its answer.
+pub struct Seen {
+    pub sensor: Sensor,
+    pub answer: Answer,
+}
+
+// How many bytes of messages were written, or the refusal.
+pub enum Written {
+    Length(usize),
+    Refused(u8),
+}
+
+// The first byte of a write, and of a read.
+pub const WRITE_ADDRESS: u8 = 32;
+
+pub const READ_ADDRESS: u8 = 33;
+
+// How many registers there are, and the last one's index.
+const REGISTERS: u8 = 128;
+
+pub const LAST_INDEX: u8 = 127;
+
+// The registers below this one are the sensor's own.
+pub const FIRST_SETTABLE: u8 = 5;
+
+// The increment flag in a message's second byte: its top bit.
+const INCREMENT: u8 = 128;
+
+impl Sensor {
+    // Registers, index and flag all 0.
+    pub fn new() -> Sensor
+        ensures { λ r. ⌜ r ≡ fresh ⌝ }
+    {
+        Sensor {
+            registers: [0u8; 128],
+            index: 0,
+            increment: false,
+        }
+    }
+
+    // The state after a message: `messageOn`.
+    pub fn read(self, message: &[u8]) -> Seen
+        ensures { λ r. ⌜ Told (messageOn self (now (message .entry))) self r ⌝ }
+    {
+        let index = self.index;
+        if LAST_INDEX < index {
+            return self.refused(refusal::BAD_STATE);
+        }
+        if message.len() < 2 {
+            return self.refused(refusal::SHORT_MESSAGE);
+        }
+        let address = message[0];
+        let second = message[1];
+        let bytes = &message[2..];
+        if address == WRITE_ADDRESS {
+            return self.write_data(INCREMENT <= second, second % INCREMENT, bytes);
+        }
+        if address == READ_ADDRESS {
+            return self.read_back(second, bytes);
+        }
+        self.refused(refusal::WRONG_ADDRESS)
+    }
+
+    // A write of data from an index on.
+    fn write_data(self, increment: bool, index: u8, bytes: &[u8]) -> Seen
+        requires { ⌜ index ≤ lastIndex ⌝ }
+        ensures { λ r. ⌜ Told (writeData self increment index (now (bytes .entry))) self r ⌝ }
+    {
+        if passes(increment, index, bytes) {
+            self.refused(refusal::PAST_LAST_REGISTER)
+        } else {
+            let mut registers = self.registers;
+            store(&mut registers, increment, index, bytes);
+            let end = left(increment, index, bytes);
+            accepted(registers, end, increment)
+        }
+    }
+
+    // A read at the current index.
+    fn read_back(self, second: u8, bytes: &[u8]) -> Seen
+        requires { ⌜ self .index ≤ lastIndex ⌝ }
+        ensures { λ r. ⌜ Told (readBack self second (now (bytes .entry))) self r ⌝ }
+    {
+        let index = self.index;
+        let increment = self.increment;
+        let expected = index_byte(increment, index);
+        if second == expected {
+            return self.read_data(bytes);
+        }
+        self.refused(refusal::WRONG_INDEX)
+    }
+
+    // A read's data.
+    fn read_data(self, bytes: &[u8]) -> Seen
+        requires { ⌜ self .index ≤ lastIndex ⌝ }
+        ensures { λ r. ⌜ Told (readData self (now (bytes .entry))) self r ⌝ }
+    {
+        let registers = self.registers;
+        let index = self.index;
+        let increment = self.increment;
+        let different = some_differs(&registers, increment, index, bytes);
+        let past = passes(increment, index, bytes);
+        if different {
+            return self.refused(refusal::WRONG_DATA);
+        }
+        if past {
+            return self.refused(refusal::PAST_LAST_REGISTER);
+        }
+        let end = left(increment, index, bytes);
+        accepted(registers, end, increment)
+    }
+
+    // The same state, and a refusal.
+    fn refused(self, number: u8) -> Seen
+        ensures { λ r. ⌜ Told (refused number) self r ⌝ }
+    {
+        let answer = Answer::Refused(number);
+        Seen {
+            sensor: self,
+            answer,
+        }
+    }
+}
+
+// A new state, and acceptance.
+fn accepted(registers: [u8; 128], index: u8, increment: bool) -> Seen
+    ensures { λ r. ⌜ r ≡ record { sensor = record { registers = registers; index = index; increment = increment }; answer = answer.Accepted } ⌝ }
+{
+    let sensor = Sensor {
+        registers,
+        index,
+        increment,
+    };
+    Seen {
+        sensor,
+        answer: Answer::Accepted,
+    }
+}
+
+// A message's second byte: the index, and the flag in its top bit.
+fn index_byte(increment: bool, index: u8) -> u8
+    requires { ⌜ index ≤ lastIndex ⌝ }
+    ensures { λ r. ⌜ r ≡ indexByte increment index ⌝ }
+{
+    if increment {
+        return INCREMENT + index;
+    }
+    index
+}
+
+// Whether a byte of the data would stand past the last index.
+fn passes(increment: bool, index: u8, bytes: &[u8]) -> bool
+    requires { ⌜ index ≤ lastIndex ⌝ }
+    ensures { λ r. ⌜ r ≡ passes increment index (now (bytes .entry)) ⌝ }
+{
+    if increment {
+        return ((REGISTERS - index) as usize) < bytes.len();
+    }
+    false
+}
+
+// The index that data leaves which does not pass the last one.
+fn left(increment: bool, index: u8, bytes: &[u8]) -> u8
+    requires { ⌜ (index ≤ lastIndex) × (passes increment index (now bytes) ≡ false) ⌝ }
+    ensures { λ r. ⌜ r ≡ left (reached increment index (now (bytes .entry))) ⌝ }
+{
+    if increment {
+        let end = index + bytes.len() as u8;
+        if LAST_INDEX < end {
+            return 0;
+        }
+        return end;
+    }
+    index
+}
+
+// Stores a write's data.
+fn store(registers: &mut [u8; 128], increment: bool, index: u8, bytes: &[u8])
+    requires { ⌜ passes increment index (now bytes) ≡ false ⌝ }
+    ensures { λ _. ⌜ now (registers .exit) ≡ stored increment index (now (bytes .entry)) (now (registers .entry)) ⌝ }
+{
+    let mut at = index;
+    let mut i: usize = 0;
+    while i < bytes.len() {
+        put(registers, at, bytes[i]);
+        at = next(increment, at);
+        i += 1;
+    }
+}
+
+// Stores one byte, but not in the sensor's own registers.
+fn put(registers: &mut [u8; 128], index: u8, byte: u8)
+    requires { ⌜ index ≤ lastIndex ⌝ }
+    ensures { λ _. ⌜ now (registers .exit) ≡ put (now (registers .entry)) index byte ⌝ }
+{
+    if index < FIRST_SETTABLE {
+        return;
+    }
+    registers[index as usize] = byte;
+}
+
+// The index after a data byte's.
+fn next(increment: bool, index: u8) -> u8
+    requires { ⌜ index ≤ lastIndex ⌝ }
+    ensures { λ r. ⌜ r ≡ next increment index ⌝ }
+{
+    if increment {
+        return index + 1;
+    }
+    index
+}
+
+// Whether a byte of a read's data differs. Nothing past the last index is compared.
+fn some_differs(registers: &[u8; 128], increment: bool, index: u8, bytes: &[u8]) -> bool
+    ensures { λ r. ⌜ r ≡ someDiffers increment index (now (bytes .entry)) (now (registers .entry)) ⌝ }
+{
+    let mut at = index;
+    let mut i: usize = 0;
+    while i < bytes.len() {
+        if LAST_INDEX < at {
+            return false;
+        }
+        if differs(registers, at, bytes[i]) {
+            return true;
+        }
+        at = next(increment, at);
+        i += 1;
+    }
+    false
+}
+
+// Whether a byte differs from its register. The sensor's own registers are not compared.
+fn differs(registers: &[u8; 128], index: u8, byte: u8) -> bool
+    requires { ⌜ index ≤ lastIndex ⌝ }
+    ensures { λ r. ⌜ r ≡ differs (now (registers .entry)) index byte ⌝ }
+{
+    if FIRST_SETTABLE <= index {
+        if registers[index as usize] == byte {
+            return false;
+        }
+        return true;
+    }
+    false
+}
+
+// Writes the messages of the pairs to the front of the buffer: `writeOf`.
+pub fn write(pairs: &[u8], buffer: &mut [u8]) -> Written
+    ensures { λ r. ⌜ (outputOf r (now (buffer .exit)) ≡ writeOf (now (pairs .entry)) (length (now (buffer .entry)))) × (now (buffer .exit) ≡ bufferAfter (writeOf (now (pairs .entry)) (length (now (buffer .entry)))) (now (buffer .entry))) ⌝ }
+{
+    if pairs.len() % 2 == 1 {
+        return Written::Refused(refusal::SHORT_MESSAGE);
+    }
+    if some_index_past(pairs) {
+        return Written::Refused(refusal::PAST_LAST_REGISTER);
+    }
+    if buffer.len() / 3 < pairs.len() / 2 {
+        return Written::Refused(refusal::NO_ROOM);
+    }
+    let end = put_messages(pairs, buffer);
+    Written::Length(end)
+}
+
+// Whether an index of the pairs is above the last.
+fn some_index_past(pairs: &[u8]) -> bool
+    requires { ⌜ endsWithinPair (now pairs) ≡ false ⌝ }
+    ensures { λ r. ⌜ r ≡ someIndexPast (now (pairs .entry)) ⌝ }
+{
+    let mut i: usize = 0;
+    while i < pairs.len() {
+        if LAST_INDEX < pairs[i] {
+            return true;
+        }
+        i += 2;
+    }
+    false
+}
+
+// Stores the messages of the pairs, and gives the place after them.
+fn put_messages(pairs: &[u8], buffer: &mut [u8]) -> usize
+    requires { ⌜ (endsWithinPair (now pairs) ≡ false) × (length (joined (messages (now pairs))) ≤ length (now buffer)) ⌝ }
+    ensures { λ r. ⌜ (r ≡ length (joined (messages (now (pairs .entry))))) × (now (buffer .exit) ≡ sets (now (buffer .entry)) 0 (joined (messages (now (pairs .entry))))) ⌝ }
+{
+    let mut at: usize = 0;
+    let mut i: usize = 0;
+    while i < pairs.len() {
+        at = put_message(pairs[i], pairs[i + 1], at, buffer);
+        i += 2;
+    }
+    at
+}
+
+// Stores one message at a place, and gives the place after it.
+fn put_message(index: u8, value: u8, at: usize, buffer: &mut [u8]) -> usize
+    requires { ⌜ at + 3 ≤ length (now buffer) ⌝ }
+    ensures { λ r. ⌜ (r ≡ at + 3) × (now (buffer .exit) ≡ sets (now (buffer .entry)) at (message index value)) ⌝ }
+{
+    buffer[at] = WRITE_ADDRESS;
+    buffer[at + 1] = index;
+    buffer[at + 2] = value;
+    at + 3
+}

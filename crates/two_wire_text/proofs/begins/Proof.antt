@@ -1,0 +1,58 @@
+use mathlib.Core.Path.{_≡_, refl, sym, _∙_}
+use Prim.Native.Nat.{_≤_, _-_}
+use borrow.Author.Needs.{needs}
+use borrow.Author.Tests.{eq-eqb, ne-eqb}
+use lib.ListN.{length, drop}
+use Rattle.two_wire_text.specs.Text.{startsWith}
+use Rattle.two_wire_text.specs.TextLaws.{starts-step, starts-short, starts-whole}
+use Rattle.two_wire_text.proofs.begins.Statement.{statement}
+use Rattle.two_wire_text.proofs.begins.Tie as tie
+
+abbrev Inv-loop : tie.InvT-loop
+Inv-loop line word i₀ i = (i ≤ length word) × (startsWith word line ≡ startsWith (drop i word) (drop i line))
+
+abbrev μ-loop : tie.MeasureT-loop
+μ-loop line word i₀ i = length word - i
+
+loop-holds : tie.Need-loop-holds Inv-loop μ-loop
+loop-holds c = (search needs, refl)
+
+returns : tie.Need-returns Inv-loop μ-loop
+returns c = sym (c .before .before .loop .inv .1 ∙ starts-short _ _ _ (c .before .loop-test .taken) (c .if1 .taken))
+
+shared-slice-read-if2 : tie.Need-shared-slice-read-if2 Inv-loop μ-loop
+shared-slice-read-if2 c = search needs
+
+shared-slice-read-if2-2 : tie.Need-shared-slice-read-if2-2 Inv-loop μ-loop
+shared-slice-read-if2-2 c = search needs
+
+add-i : tie.Need-add-i Inv-loop μ-loop
+add-i c = search needs
+
+loop-less : tie.Need-loop-less Inv-loop μ-loop
+loop-less c = search needs
+
+loop-again : tie.Need-loop-again Inv-loop μ-loop
+loop-again c = (search needs, c .before .before .before .before .before .loop .inv .1 ∙ starts-step _ _ _ (c .before .before .before .before .loop-test .taken) (c .before .before .before .if1 .left) ∙ simp (eq-eqb _ _ (c .if2 .taken)))
+
+returns-2 : tie.Need-returns-2 Inv-loop μ-loop
+returns-2 c = sym (c .before .before .before .before .before .loop .inv .1 ∙ starts-step _ _ _ (c .before .before .before .before .loop-test .taken) (c .before .before .before .if1 .left) ∙ simp (ne-eqb _ _ (c .if2 .left)))
+
+returns-3 : tie.Need-returns-3 Inv-loop μ-loop
+returns-3 c = sym (c .before .loop .inv .1 ∙ starts-whole _ _ _ (c .loop-test .left))
+
+pub begins-spec : {M : Type 1} → statement M
+begins-spec =
+    tie.close
+    (tie.spec
+    Inv-loop
+    μ-loop
+    loop-holds
+    returns
+    shared-slice-read-if2
+    shared-slice-read-if2-2
+    add-i
+    loop-less
+    loop-again
+    returns-2
+    returns-3)

@@ -1,0 +1,80 @@
+use mathlib.Core.Path.{_≡_, refl, sym, ap, _∙_}
+use mathlib.Core.List.{List}
+use Prim.Native.Nat.{ℕ}
+use mathlib.Core.Path.{_≡_, refl, sym, _∙_}
+use Prim.Native.Nat.{_+_, _*_, _≤_, _-_}
+use native.Mathlib.Omega.{arith}
+use native.Mathlib.Numerals.{add-one}
+use borrow.Author.Needs.{needs}
+use lib.ListN.{length, drop}
+use lib.Seq.{sets}
+use Rattle.two_wire_text.specs.Text.{bytesOf}
+use Rattle.two_wire_text.specs.TextLaws.{bytes-step, bytes-end}
+use Rattle.two_wire_text.proofs.decode.Statement.{statement}
+use Rattle.two_wire_text.proofs.decode.Tie as tie
+
+abbrev Inv-loop : tie.InvT-loop
+Inv-loop line bytes₀ n₀ i₀ bytes n i = (i ≡ 3 * n) × (i ≤ length line + 1) × (n + length (bytesOf (drop i line)) ≡ length (bytesOf line))
+    × (sets bytes n (bytesOf (drop i line)) ≡ sets bytes₀ 0 (bytesOf line))
+
+abbrev μ-loop : tie.MeasureT-loop
+μ-loop line bytes₀ n₀ i₀ bytes n i = length line + 1 - i
+
+loop-holds : tie.Need-loop-holds Inv-loop μ-loop
+loop-holds c = (refl, search needs, omega arith, refl)
+
+add-loop : tie.Need-add-loop Inv-loop μ-loop
+add-loop c = search needs
+
+shared-slice-read-byte-of : tie.Need-shared-slice-read-byte-of Inv-loop μ-loop
+shared-slice-read-byte-of c = search needs
+
+add-byte-of : tie.Need-add-byte-of Inv-loop μ-loop
+add-byte-of c = search needs
+
+shared-slice-read-byte-of-2 : tie.Need-shared-slice-read-byte-of-2 Inv-loop μ-loop
+shared-slice-read-byte-of-2 c = search needs
+
+byte-of-requires : tie.Need-byte-of-requires Inv-loop μ-loop
+byte-of-requires c κs = search needs
+
+element-write-bytes : tie.Need-element-write-bytes Inv-loop μ-loop
+element-write-bytes c = search needs
+
+add-n : tie.Need-add-n Inv-loop μ-loop
+add-n c = search needs
+
+add-i : tie.Need-add-i Inv-loop μ-loop
+add-i c = search needs
+
+loop-less : tie.Need-loop-less Inv-loop μ-loop
+loop-less c = search needs
+
+loop-again : tie.Need-loop-again Inv-loop μ-loop
+loop-again c = let l = c .before .before .before .before .loop in
+    let b = bytes-step (c .before .before .before .before .before .before .args .line .now) (l .i) (c .before .before .before .loop-test .taken) in
+    (search needs, search needs, omega (arith, ap length b), simp (c .byte-of .ensures) (rw (add-one (l .n)) (sym (ap (λ (t : List ℕ). sets (l .bytes) (l .n) t) b) ∙ l .inv .3)))
+
+returns : tie.Need-returns Inv-loop μ-loop
+returns c = let l = c .before .loop in
+    let e = bytes-end (c .before .before .before .args .line .now) (l .i) (c .loop-test .left) in
+    record { place = omega (arith, rw e at (l .inv .2)); stored = rw e at (l .inv .3) }
+
+pub decode-spec : {M : Type 1} → statement M
+decode-spec =
+    tie.close
+    (tie.spec
+    Inv-loop
+    μ-loop
+    loop-holds
+    add-loop
+    shared-slice-read-byte-of
+    add-byte-of
+    shared-slice-read-byte-of-2
+    byte-of-requires
+    element-write-bytes
+    add-n
+    add-i
+    loop-less
+    loop-again
+    returns)

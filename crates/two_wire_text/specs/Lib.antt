@@ -1,0 +1,5 @@
+pub mod Text
+pub mod TextLaws
+pub mod Lines
+pub mod Put
+pub mod LineLaws

@@ -1,0 +1,103 @@
+-- Bytes in hex, numbers in decimal, and lines of them, in ASCII.
+use mathlib.Core.Bool.{Bool, true, false, _&&_, cond}
+use mathlib.Core.List.{List, [], _∷_, _++_}
+use Prim.Native.Nat.{ℕ, suc, _+_, _-_, _*_, _/_, _%_}
+use lib.Dec.{eqb, leb, ltb}
+use lib.ListN.{length}
+
+abbrev pub space : ℕ
+space = 0x20
+
+abbrev pub newline : ℕ
+newline = 0x0A
+
+-- ---- written
+
+-- the digit of a number below 16: 0 to 9, a to f
+unfoldable pub hexDigit : ℕ → ℕ
+hexDigit n = cond (ltb n 10) (0x30 + n) (0x57 + n)
+
+abbrev pub hexByte : ℕ → List ℕ
+hexByte b = hexDigit (b / 16) ∷ hexDigit (b % 16) ∷ []
+
+-- a message: its bytes, one space between two
+abbrev pub hexBytes : List ℕ → List ℕ
+hexBytes [] = []
+hexBytes (b ∷ []) = hexByte b
+hexBytes (b ∷ d ∷ bytes) = hexByte b ++ (space ∷ hexBytes (d ∷ bytes))
+
+-- all below 256
+abbrev pub allBytes : List ℕ → Bool
+allBytes [] = true
+allBytes (b ∷ bytes) = ltb b 256 && allBytes bytes
+
+-- on a line of its own
+abbrev pub hexText : List ℕ → List ℕ
+hexText bytes = hexBytes bytes ++ (newline ∷ [])
+
+-- a number below 1,000, in as few digits as hold it
+unfoldable pub decimal : ℕ → List ℕ
+decimal n =
+    cond (ltb n 10) ((0x30 + n) ∷ [])
+    (cond (ltb n 100) ((0x30 + n / 10) ∷ (0x30 + n % 10) ∷ []) ((0x30 + n / 100) ∷ (0x30 + n / 10 % 10) ∷ (0x30 + n % 10) ∷ []))
+
+-- ---- read
+
+-- the number of a digit, 0 to 9, A to F or a to f; 16 where it is none
+unfoldable pub digitOf : ℕ → ℕ
+digitOf c =
+    cond (ltb c 0x30) 16
+    (cond (leb c 0x39) (c - 0x30)
+    (cond (ltb c 0x41) 16 (cond (leb c 0x46) (c - 0x37) (cond (ltb c 0x61) 16 (cond (leb c 0x66) (c - 0x57) 16)))))
+
+-- what stands at a place of a message's line: two digits and a space, over and over
+unfoldable pub charFits : ℕ → ℕ → Bool
+charFits place c = cond (eqb (place % 3) 2) (eqb c space) (ltb (digitOf c) 16)
+
+abbrev pub charsFit : ℕ → List ℕ → Bool
+charsFit place [] = true
+charsFit place (c ∷ line) = charFits place c && charsFit (place + 1) line
+
+-- a line of bytes, each of two digits, one space between two
+unfoldable pub isMessage : List ℕ → Bool
+isMessage line = eqb (length line % 3) 2 && charsFit 0 line
+
+-- the byte of two digits
+unfoldable pub byteOf : ℕ → ℕ → ℕ
+byteOf a b = (16 * digitOf a + digitOf b) % 256
+
+-- the bytes of a message's line
+abbrev pub bytesOf : List ℕ → List ℕ
+bytesOf [] = []
+bytesOf (a ∷ []) = []
+bytesOf (a ∷ b ∷ []) = byteOf a b ∷ []
+bytesOf (a ∷ b ∷ c ∷ line) = byteOf a b ∷ bytesOf line
+
+unfoldable pub startsWith : List ℕ → List ℕ → Bool
+startsWith [] line = true
+startsWith (w ∷ word) [] = false
+startsWith (w ∷ word) (c ∷ line) = eqb c w && startsWith word line
+
+-- what stands for a number that is missing, or above 65,535
+abbrev pub noNumber : ℕ
+noNumber = 65536
+
+-- a number with one decimal digit more
+unfoldable pub digitOnto : ℕ → ℕ → ℕ
+digitOnto n c =
+    cond (ltb c 0x30) noNumber
+    (cond (ltb 0x39 c) noNumber (cond (ltb 6553 n) noNumber (cond (ltb 65535 (10 * n + (c - 0x30))) noNumber (10 * n + (c - 0x30)))))
+
+abbrev pub digitsOnto : ℕ → List ℕ → ℕ
+digitsOnto n [] = n
+digitsOnto n (c ∷ line) = digitsOnto (digitOnto n c) line
+
+-- the number that a text is, up to 65,535
+abbrev pub numberIn : List ℕ → ℕ
+numberIn [] = noNumber
+numberIn (c ∷ line) = digitsOnto 0 (c ∷ line)
+
+-- how many characters stand before the first newline, or the end
+abbrev pub lineLength : List ℕ → ℕ
+lineLength [] = 0
+lineLength (c ∷ text) = cond (eqb c newline) 0 (suc (lineLength text))

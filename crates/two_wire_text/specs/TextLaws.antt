@@ -1,0 +1,136 @@
+-- Laws of text: one character after another, and a message written in hex is read as itself.
+use mathlib.Core.Path.{_≡_, refl, sym, ap, _∙_}
+use mathlib.Core.Bool.{true, false, _&&_, cond}
+use mathlib.Core.List.{List, [], _∷_}
+use Prim.Native.Nat.{ℕ, suc, _+_, _/_, _%_, _<_, _≤_}
+use native.Mathlib.Numerals.{add-one}
+use native.Mathlib.Omega.{arith}
+use borrow.Author.Tests.{ltb-true, eqb-true}
+use lib.Dec.{eqb, ltb}
+use lib.ListN.{length, drop, getD, set, length-drop, drop-of-length-le}
+use lib.Seq.{drop-cons, drop-drop, sets}
+use Rattle.bits.specs.Every.{and-left, and-right, each}
+use Rattle.two_wire_text.specs.Text.{space, newline, hexDigit, hexBytes, allBytes, digitOf, charFits, charsFit, isMessage, byteOf, bytesOf, startsWith, digitOnto, digitsOnto, numberIn, lineLength}
+
+-- ---- words
+
+module _ (word line : List ℕ) (i : ℕ) (h : i < length word) where
+  pub starts-step : i < length line
+      → startsWith (drop i word) (drop i line) ≡ (eqb (getD line i 0) (getD word i 0) && startsWith (drop (i + 1) word) (drop (i + 1) line))
+  unfolding startsWith
+  starts-step l = rw (add-one i, drop-cons word i 0, drop-cons line i 0)
+
+  pub starts-short : length line ≤ i → startsWith (drop i word) (drop i line) ≡ false
+  unfolding startsWith
+  starts-short l = rw (drop-of-length-le line, drop-cons word i 0)
+
+pub starts-whole : (word line : List ℕ) (i : ℕ) → length word ≤ i → startsWith (drop i word) (drop i line) ≡ true
+unfolding startsWith
+starts-whole word line i h = rw (drop-of-length-le word)
+
+-- ---- numbers and messages
+
+module _ (line : List ℕ) (i : ℕ) (h : i < length line) where
+  pub number-starts : numberIn (drop i line) ≡ digitsOnto 0 (drop i line)
+  number-starts = rw (drop-cons line i 0)
+
+  pub digits-step : (n : ℕ) → digitsOnto n (drop i line) ≡ digitsOnto (digitOnto n (getD line i 0)) (drop (i + 1) line)
+  digits-step n = rw (add-one i, drop-cons line i 0)
+
+  pub chars-step : charsFit i (drop i line) ≡ (charFits i (getD line i 0) && charsFit (i + 1) (drop (i + 1) line))
+  chars-step =
+      ap (charsFit i) (drop-cons line i 0 h)
+      ∙ ap (λ (k : ℕ). charFits i (getD line i 0) && charsFit (i + 1) (drop k line)) (sym (add-one i))
+
+bytes-cons : (a b : ℕ) (line : List ℕ) → bytesOf (a ∷ b ∷ line) ≡ byteOf a b ∷ bytesOf (drop 1 line)
+bytes-cons a b [] = refl
+bytes-cons a b (c ∷ line) = refl
+
+pub bytes-step : (line : List ℕ) (i : ℕ) → i + 1 < length line
+    → bytesOf (drop i line) ≡ byteOf (getD line i 0) (getD line (i + 1) 0) ∷ bytesOf (drop (i + 3) line)
+bytes-step line i h =
+    let l : i < length line = omega arith in
+    let two : List ℕ = drop (suc (i + 1)) line in
+    let e : suc (i + 1) + 1 ≡ i + 3 = omega arith in
+    ap bytesOf
+    (drop-cons line i 0 l ∙ ap (λ (k : ℕ). getD line i 0 ∷ drop k line) (sym (add-one i)) ∙ ap (λ (t : List ℕ). getD line i 0 ∷ t) (drop-cons line (i + 1) 0 h))
+    ∙ bytes-cons (getD line i 0) (getD line (i + 1) 0) two
+    ∙ ap (λ (t : List ℕ). byteOf (getD line i 0) (getD line (i + 1) 0) ∷ bytesOf t) (drop-drop 1 (suc (i + 1)) line ∙ ap (λ (k : ℕ). drop k line) e)
+
+few : (line : List ℕ) → length line ≤ 1 → bytesOf line ≡ []
+few [] h = refl
+few (a ∷ []) h = refl
+few (a ∷ b ∷ line) h = absurd (omega arith)
+
+pub bytes-end : (line : List ℕ) (i : ℕ) → length line ≤ i + 1 → bytesOf (drop i line) ≡ []
+bytes-end line i h = few (drop i line) (omega (arith, length-drop i line))
+
+-- a third of the line's characters, and one
+pub bytes-length : (line : List ℕ) → length (bytesOf line) ≤ length line / 3 + 1
+bytes-length [] = omega arith
+bytes-length (a ∷ []) = omega arith
+bytes-length (a ∷ b ∷ []) = omega arith
+bytes-length (a ∷ b ∷ c ∷ line) = omega (arith, bytes-length line)
+
+module _ (text : List ℕ) (i : ℕ) (h : i < length text) where
+  pub line-step : lineLength (drop i text) ≡ cond (eqb (getD text i 0) newline) 0 (suc (lineLength (drop (i + 1) text)))
+  line-step = rw (add-one i, drop-cons text i 0)
+
+-- ---- storing
+
+pub sets-step : (text out : List ℕ) (at i : ℕ) → i < length text
+    → sets (set out (at + i) (getD text i 0)) (at + (i + 1)) (drop (i + 1) text) ≡ sets out (at + i) (drop i text)
+sets-step text out at i h =
+    let e : at + (i + 1) ≡ suc (at + i) = omega arith in
+    ap (λ (k : ℕ). sets (set out (at + i) (getD text i 0)) k (drop (i + 1) text)) e
+    ∙ ap (λ (k : ℕ). sets (set out (at + i) (getD text i 0)) (suc (at + i)) (drop k text)) (add-one i)
+    ∙ ap (λ (t : List ℕ). sets out (at + i) t) (sym (drop-cons text i 0 h))
+
+-- ---- what is written is read
+
+byte-back : (b : ℕ) → b < 256 → byteOf (hexDigit (b / 16)) (hexDigit (b % 16)) ≡ b
+unfolding byteOf hexDigit digitOf
+byte-back b h = eqb-true _ _ (each (λ n. eqb (byteOf (hexDigit (n / 16)) (hexDigit (n % 16))) n) 256 refl b h)
+
+digit-back : (n : ℕ) → n < 16 → ltb (digitOf (hexDigit n)) 16 ≡ true
+unfolding hexDigit digitOf
+digit-back n h = each (λ m. ltb (digitOf (hexDigit m)) 16) 16 refl n h
+
+high-fits : (place b : ℕ) → place % 3 ≡ 0 → b < 256 → charFits place (hexDigit (b / 16)) ≡ true
+unfolding charFits
+high-fits place b p h = simp (p, digit-back (b / 16) (omega arith))
+
+low-fits : (place b : ℕ) → place % 3 ≡ 1 → charFits place (hexDigit (b % 16)) ≡ true
+unfolding charFits
+low-fits place b p = simp (p, digit-back (b % 16) (omega arith))
+
+space-fits : (place : ℕ) → place % 3 ≡ 2 → charFits place space ≡ true
+unfolding charFits
+space-fits place p = simp p
+
+chars-written : (bytes : List ℕ) (place : ℕ) → place % 3 ≡ 0 → allBytes bytes ≡ true → charsFit place (hexBytes bytes) ≡ true
+chars-written [] place p a = refl
+chars-written (b ∷ []) place p a =
+    let h : b < 256 = ltb-true b 256 (and-left (ltb b 256) true a) in
+    simp (high-fits place b p h, low-fits (place + 1) b (omega arith))
+chars-written (b ∷ d ∷ bytes) place p a =
+    let h : b < 256 = ltb-true b 256 (and-left (ltb b 256) (allBytes (d ∷ bytes)) a) in
+    simp (high-fits place b p h, low-fits (place + 1) b (omega arith), space-fits (place + 1 + 1) (omega arith))
+    (chars-written (d ∷ bytes) (place + 1 + 1 + 1) (omega arith) (and-right (ltb b 256) (allBytes (d ∷ bytes)) a))
+
+thirds : (b : ℕ) (bytes : List ℕ) → length (hexBytes (b ∷ bytes)) % 3 ≡ 2
+thirds b [] = refl
+thirds b (d ∷ bytes) = omega (arith, thirds d bytes)
+
+bytes-written : (bytes : List ℕ) → allBytes bytes ≡ true → bytesOf (hexBytes bytes) ≡ bytes
+bytes-written [] a = refl
+bytes-written (b ∷ []) a = ap (λ (n : ℕ). n ∷ []) (byte-back b (ltb-true b 256 (and-left (ltb b 256) true a)))
+bytes-written (b ∷ d ∷ bytes) a =
+    rw (byte-back b (ltb-true b 256 (and-left (ltb b 256) (allBytes (d ∷ bytes)) a)))
+    (ap (λ (l : List ℕ). b ∷ l) (bytes-written (d ∷ bytes) (and-right (ltb b 256) (allBytes (d ∷ bytes)) a)))
+
+-- a message written in hex is a message's line, and its bytes are the message
+pub message-written : (b : ℕ) (bytes : List ℕ) → allBytes (b ∷ bytes) ≡ true
+    → (isMessage (hexBytes (b ∷ bytes)) ≡ true) × (bytesOf (hexBytes (b ∷ bytes)) ≡ b ∷ bytes)
+unfolding isMessage
+message-written b bytes a = (simp (thirds b bytes) (chars-written (b ∷ bytes) 0 refl a), bytes-written (b ∷ bytes) a)

@@ -1,0 +1,414 @@
+// The text of two-wire settings and messages: what the program `registers` writes for each line that it reads.
+//
+// In: a sensor's state and a line, without its newline. Out: the text for it, with its newlines, at the front of the lent buffer, its
+// length, and the state after it. There are two forms of line.
+// - A setting, `NAME VALUE`, the value in decimal: fine, coarse, gain, divisor, setup0, setup1, setup2, setup4 or setup5. Its messages
+//   are written in hex, one to a line. A setting leaves the state as it is.
+// - A message, its bytes in hex, each of two digits, one space between two. It is read against the state: `WRITE 32 1 ok` names the
+//   index and the count of data bytes, `REFUSED 27` the refusal. A line of more than 256 bytes is refused with 12.
+// Any other line gives `?`. Cost: linear in the line.
+ghost use mathlib.Core.Path.{_≡_};
+ghost use mathlib.Core.List.{_∷_, [], _++_};
+ghost use Prim.Native.Nat.{_+_, _/_, _≤_, _<_};
+ghost use lib.ListN.{length, drop};
+ghost use lib.Seq.{sets};
+ghost use Rattle.two_wire.specs.Messages.{sensorAfter, messageOn};
+ghost use Rattle.two_wire.specs.Writing.{message};
+ghost use Rattle.two_wire_text.specs.Text.{hexDigit, hexByte, hexText, decimal, digitOf, charFits, isMessage, byteOf, bytesOf, startsWith, digitOnto, numberIn, lineLength};
+ghost use Rattle.two_wire_text.specs.Lines.{single, double, setupSetting, settingOf, directionWord, acceptedText, refusedText, outcomeText, messageText, messageSensor, textBy, sensorBy, textOf, sensorOf, Tells};
+ghost use Rattle.two_wire_text.specs.Put.{Put};
+ghost use Rattle.two_wire_text.specs.declared.Setting.the-variants.{Unknown};
+use two_wire::Answer;
+use two_wire::Sensor;
+use two_wire::register;
+
+// What a setting asks for: a register's index and value, or two registers', high byte first.
+pub enum Setting {
+    Single(u8, u8),
+    Double(u8, u8, u8, u8),
+    Unknown,
+}
+
+// The state after a line, and the length of its text.
+pub struct Told {
+    pub sensor: Sensor,
+    pub length: usize,
+}
+
+// The bytes that a message may have here, three characters each in its line.
+const LONGEST: usize = 256;
+
+// What stands for a number that is missing, or above 65,535.
+const NO_NUMBER: u32 = 65536;
+
+// The text for a line: `textOf`; the state after it: `sensorOf`.
+pub fn answer(sensor: Sensor, line: &[u8], out: &mut [u8; 32]) -> Told
+    ensures { λ r. ⌜ Tells (sensorOf sensor (now (line .entry))) (textOf sensor (now (line .entry))) (now (out .entry)) (now (out .exit)) r ⌝ }
+{
+    let asked = read_setting(line);
+    match asked {
+        Setting::Single(index, value) => {
+            let length = put_message(index, value, 0, out);
+            Told { sensor, length }
+        }
+        Setting::Double(index, high, next, low) => {
+            let at = put_message(index, high, 0, out);
+            let length = put_message(next, low, at, out);
+            Told { sensor, length }
+        }
+        Setting::Unknown => explain(sensor, line, out),
+    }
+}
+
+// The place where a text's line ends that starts at a place: of its newline, or of the text's end.
+pub fn line_end(text: &[u8], start: usize) -> usize
+    ensures { λ r. ⌜ r ≡ start + lineLength (drop start (now (text .entry))) ⌝ }
+{
+    let mut i = start;
+    while i < text.len() {
+        if text[i] == b'\n' {
+            return i;
+        }
+        i += 1;
+    }
+    i
+}
+
+// The setting that a line is: `settingOf`.
+pub fn read_setting(line: &[u8]) -> Setting
+    ensures { λ r. ⌜ r ≡ settingOf (now (line .entry)) ⌝ }
+{
+    if begins(line, b"fine ") {
+        return double(register::FINE_HIGH, register::FINE_LOW, number(line, 5));
+    }
+    if begins(line, b"coarse ") {
+        return double(register::COARSE_HIGH, register::COARSE_LOW, number(line, 7));
+    }
+    if begins(line, b"gain ") {
+        return single(register::GAIN, number(line, 5));
+    }
+    if begins(line, b"divisor ") {
+        return single(register::CLOCK_DIVISOR, number(line, 8));
+    }
+    setup_setting(line)
+}
+
+fn setup_setting(line: &[u8]) -> Setting
+    ensures { λ r. ⌜ r ≡ setupSetting (now (line .entry)) ⌝ }
+{
+    if begins(line, b"setup0 ") {
+        return single(register::SETUP0, number(line, 7));
+    }
+    if begins(line, b"setup1 ") {
+        return single(register::SETUP1, number(line, 7));
+    }
+    if begins(line, b"setup2 ") {
+        return single(register::SETUP2, number(line, 7));
+    }
+    if begins(line, b"setup4 ") {
+        return single(register::SETUP4, number(line, 7));
+    }
+    if begins(line, b"setup5 ") {
+        return single(register::SETUP5, number(line, 7));
+    }
+    Setting::Unknown
+}
+
+// A value of one byte.
+fn single(index: u8, value: u32) -> Setting
+    ensures { λ r. ⌜ r ≡ single index value ⌝ }
+{
+    if 255 < value {
+        return Setting::Unknown;
+    }
+    Setting::Single(index, value as u8)
+}
+
+// A value of two bytes.
+fn double(high: u8, low: u8, value: u32) -> Setting
+    ensures { λ r. ⌜ r ≡ double high low value ⌝ }
+{
+    if 65535 < value {
+        return Setting::Unknown;
+    }
+    Setting::Double(high, (value / 256) as u8, low, (value % 256) as u8)
+}
+
+// The text for a line that is no setting.
+fn explain(sensor: Sensor, line: &[u8], out: &mut [u8; 32]) -> Told
+    ensures { λ r. ⌜ Tells (sensorBy Unknown sensor (now (line .entry))) (textBy Unknown sensor (now (line .entry))) (now (out .entry)) (now (out .exit)) r ⌝ }
+{
+    if is_message(line) {
+        return explain_message(sensor, line, out);
+    }
+    let length = put(b"?\n", 0, out);
+    Told { sensor, length }
+}
+
+fn explain_message(sensor: Sensor, line: &[u8], out: &mut [u8; 32]) -> Told
+    ensures { λ r. ⌜ Tells (messageSensor sensor (now (line .entry))) (messageText sensor (now (line .entry))) (now (out .entry)) (now (out .exit)) r ⌝ }
+{
+    if LONGEST <= line.len() / 3 {
+        let length = put_refused(refusal::NO_ROOM, out);
+        return Told { sensor, length };
+    }
+    let mut bytes = [0u8; 256];
+    let n = decode(line, &mut bytes);
+    read_message(sensor, &bytes[..n], out)
+}
+
+fn read_message(sensor: Sensor, bytes: &[u8], out: &mut [u8; 32]) -> Told
+    requires { ⌜ length (now bytes) ≤ 256 ⌝ }
+    ensures { λ r. ⌜ Tells (sensorAfter (messageOn sensor (now (bytes .entry))) sensor) (outcomeText (messageOn sensor (now (bytes .entry))) (now (bytes .entry))) (now (out .entry)) (now (out .exit)) r ⌝ }
+{
+    let seen = sensor.read(bytes);
+    let after = seen.sensor;
+    let answered = seen.answer;
+    match answered {
+        Answer::Accepted => {
+            let length = put_accepted(bytes, out);
+            Told {
+                sensor: after,
+                length,
+            }
+        }
+        Answer::Refused(refusal) => {
+            let length = put_refused(refusal, out);
+            Told {
+                sensor: after,
+                length,
+            }
+        }
+    }
+}
+
+// Reading text.
+
+// Whether a line begins with a word.
+fn begins(line: &[u8], word: &[u8]) -> bool
+    ensures { λ r. ⌜ r ≡ startsWith (now (word .entry)) (now (line .entry)) ⌝ }
+{
+    let mut i: usize = 0;
+    while i < word.len() {
+        if line.len() <= i {
+            return false;
+        }
+        if line[i] == word[i] {
+            i += 1;
+        } else {
+            return false;
+        }
+    }
+    true
+}
+
+// The number that a line is from a place on, up to 65,535.
+fn number(line: &[u8], at: usize) -> u32
+    ensures { λ r. ⌜ r ≡ numberIn (drop at (now (line .entry))) ⌝ }
+{
+    if line.len() <= at {
+        return NO_NUMBER;
+    }
+    let mut n: u32 = 0;
+    let mut i = at;
+    while i < line.len() {
+        n = digit_onto(n, line[i]);
+        i += 1;
+    }
+    n
+}
+
+// A number with one decimal digit more.
+fn digit_onto(n: u32, c: u8) -> u32
+    ensures { λ r. ⌜ r ≡ digitOnto n c ⌝ }
+{
+    if c < b'0' {
+        return NO_NUMBER;
+    }
+    if b'9' < c {
+        return NO_NUMBER;
+    }
+    if 6553 < n {
+        return NO_NUMBER;
+    }
+    let more = 10 * n + (c - b'0') as u32;
+    if 65535 < more {
+        return NO_NUMBER;
+    }
+    more
+}
+
+// Whether a line is a message's.
+fn is_message(line: &[u8]) -> bool
+    ensures { λ r. ⌜ r ≡ isMessage (now (line .entry)) ⌝ }
+{
+    if line.len() % 3 == 2 {
+        let mut i: usize = 0;
+        while i < line.len() {
+            if char_fits(i, line[i]) {
+                i += 1;
+            } else {
+                return false;
+            }
+        }
+        return true;
+    }
+    false
+}
+
+// Whether a character may stand at a place of a message's line.
+fn char_fits(place: usize, c: u8) -> bool
+    ensures { λ r. ⌜ r ≡ charFits place c ⌝ }
+{
+    if place % 3 == 2 {
+        return c == b' ';
+    }
+    digit(c) < 16
+}
+
+// The bytes of a message's line, and how many they are.
+fn decode(line: &[u8], bytes: &mut [u8; 256]) -> usize
+    requires { ⌜ length (now line) / 3 < 256 ⌝ }
+    ensures { λ r. ⌜ Put (bytesOf (now (line .entry))) (now (bytes .entry)) 0 r (now (bytes .exit)) ⌝ }
+{
+    let mut n: usize = 0;
+    let mut i: usize = 0;
+    while i + 1 < line.len() {
+        bytes[n] = byte_of(line[i], line[i + 1]);
+        n += 1;
+        i += 3;
+    }
+    n
+}
+
+// The byte of two digits.
+fn byte_of(a: u8, b: u8) -> u8
+    ensures { λ r. ⌜ r ≡ byteOf a b ⌝ }
+{
+    let high = digit(a) as u16;
+    let low = digit(b) as u16;
+    ((16 * high + low) % 256) as u8
+}
+
+// The number of a hex digit; 16 where it is none.
+fn digit(c: u8) -> u8
+    ensures { λ r. ⌜ r ≡ digitOf c ⌝ }
+{
+    if c < b'0' {
+        return 16;
+    }
+    if c <= b'9' {
+        return c - b'0';
+    }
+    if c < b'A' {
+        return 16;
+    }
+    if c <= b'F' {
+        return c - 55;
+    }
+    if c < b'a' {
+        return 16;
+    }
+    if c <= b'f' {
+        return c - 87;
+    }
+    16
+}
+
+// Writing text. Each function stores a text from a place on, and gives the place after it.
+
+// An accepted message: its direction, index and count of data bytes.
+fn put_accepted(bytes: &[u8], out: &mut [u8; 32]) -> usize
+    requires { ⌜ length (now bytes) ≤ 256 ⌝ }
+    ensures { λ r. ⌜ Put (acceptedText (now (bytes .entry))) (now (out .entry)) 0 r (now (out .exit)) ⌝ }
+{
+    if bytes.len() < 2 {
+        return put(b"?\n", 0, out);
+    }
+    let a = put_direction(bytes[0], 0, out);
+    let b = put_decimal((bytes[1] % 128) as usize, a, out);
+    let c = put(b" ", b, out);
+    let d = put_decimal(bytes.len() - 2, c, out);
+    put(b" ok\n", d, out)
+}
+
+fn put_direction(address: u8, at: usize, out: &mut [u8; 32]) -> usize
+    requires { ⌜ at + 6 ≤ 32 ⌝ }
+    ensures { λ r. ⌜ Put (directionWord address) (now (out .entry)) at r (now (out .exit)) ⌝ }
+{
+    if address == two_wire::WRITE_ADDRESS {
+        return put(b"WRITE ", at, out);
+    }
+    put(b"READ ", at, out)
+}
+
+fn put_refused(number: u8, out: &mut [u8; 32]) -> usize
+    ensures { λ r. ⌜ Put (refusedText number) (now (out .entry)) 0 r (now (out .exit)) ⌝ }
+{
+    let a = put(b"REFUSED ", 0, out);
+    let b = put_decimal(number as usize, a, out);
+    put(b"\n", b, out)
+}
+
+// The message of a pair in hex, on a line of its own.
+fn put_message(index: u8, value: u8, at: usize, out: &mut [u8; 32]) -> usize
+    requires { ⌜ at + 9 ≤ 32 ⌝ }
+    ensures { λ r. ⌜ Put (hexText (message index value)) (now (out .entry)) at r (now (out .exit)) ⌝ }
+{
+    let a = put_hex(two_wire::WRITE_ADDRESS, at, out);
+    let b = put(b" ", a, out);
+    let c = put_hex(index, b, out);
+    let d = put(b" ", c, out);
+    let e = put_hex(value, d, out);
+    put(b"\n", e, out)
+}
+
+fn put_hex(byte: u8, at: usize, out: &mut [u8; 32]) -> usize
+    requires { ⌜ at + 2 ≤ 32 ⌝ }
+    ensures { λ r. ⌜ Put (hexByte byte) (now (out .entry)) at r (now (out .exit)) ⌝ }
+{
+    out[at] = hex_digit(byte / 16);
+    out[at + 1] = hex_digit(byte % 16);
+    at + 2
+}
+
+fn hex_digit(n: u8) -> u8
+    requires { ⌜ n < 16 ⌝ }
+    ensures { λ r. ⌜ r ≡ hexDigit n ⌝ }
+{
+    if n < 10 {
+        return b'0' + n;
+    }
+    87 + n
+}
+
+fn put_decimal(n: usize, at: usize, out: &mut [u8; 32]) -> usize
+    requires { ⌜ (n < 1000) × (at + 3 ≤ 32) ⌝ }
+    ensures { λ r. ⌜ Put (decimal n) (now (out .entry)) at r (now (out .exit)) ⌝ }
+{
+    if n < 10 {
+        out[at] = b'0' + n as u8;
+        return at + 1;
+    }
+    if n < 100 {
+        out[at] = b'0' + (n / 10) as u8;
+        out[at + 1] = b'0' + (n % 10) as u8;
+        return at + 2;
+    }
+    out[at] = b'0' + (n / 100) as u8;
+    out[at + 1] = b'0' + (n / 10 % 10) as u8;
+    out[at + 2] = b'0' + (n % 10) as u8;
+    at + 3
+}
+
+fn put(text: &[u8], at: usize, out: &mut [u8; 32]) -> usize
+    requires { ⌜ at + length (now text) ≤ 32 ⌝ }
+    ensures { λ r. ⌜ Put (now (text .entry)) (now (out .entry)) at r (now (out .exit)) ⌝ }
+{
+    let mut i: usize = 0;
+    while i < text.len() {
+        out[at + i] = text[i];
+        i += 1;
+    }
+    at + i
+}
