@@ -39,6 +39,12 @@ layout Off = bordersOff
 abbrev pub lastPlace : ℕ
 lastPlace = 303
 
+-- the place of the EOF line
+abbrev pub endPlace : Borders → ℕ
+endPlace Unsettled = 302
+endPlace On = 302
+endPlace Off = 300
+
 -- the place at which a VL or a BL settles the borders
 abbrev pub settlingPlace : ℕ
 settlingPlace = 10
@@ -57,9 +63,13 @@ kindDue Unsettled place k = standsAt On place k || standsAt Off place k
 kindDue On place k = standsAt On place k
 kindDue Off place k = standsAt Off place k
 
--- the line due has the place's number and a kind that is due there
+-- a number is due at the place: the place's own, or, after the EOF line, any (02, A3)
+abbrev pub numberDue : Borders → ℕ → ℕ → Bool
+numberDue b place n = eqb n place || ltb (endPlace b) place
+
+-- the line due has a kind and a number that are due at the place
 abbrev pub lineDue : Borders → ℕ → ℕ → ℕ → Bool
-lineDue b place k n = eqb n place && kindDue b place k
+lineDue b place k n = kindDue b place k && numberDue b place n
 
 -- the borders after a line that was due
 abbrev pub settled : Borders → ℕ → ℕ → Borders

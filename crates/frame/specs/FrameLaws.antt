@@ -1,13 +1,14 @@
 -- Laws of frames: the judge's test is true of exactly the states that calls reach, a whole frame is Complete, and nothing else is.
-use mathlib.Core.Path.{_≡_, refl, sym, ap, subst, _∙_}
-use mathlib.Core.Bool.{Bool, true, false, _||_, cond, true≢false}
-use mathlib.Core.List.{List, [], _∷_, _++_, tail, append-nil, append-assoc}
+-- The number of a line is taken as a variable, and the judge's answer to it computed at each place (`Answers`).
+use mathlib.Core.Path.{_≡_, refl, sym, ap, ap₂, subst, _∙_}
+use mathlib.Core.Bool.{Bool, true, false, _&&_, _||_, cond, true≢false}
+use mathlib.Core.List.{List, [], _∷_, _++_, append-nil, append-assoc}
 use Prim.Native.Nat.{ℕ, zero, suc, _+_, _-_, _≤_, _<_}
 use native.Mathlib.Omega.{arith}
 use native.Mathlib.Numerals.{add-one}
-use borrow.Author.Tests.{eqb-true, leb-true, ltb-true, ltb-false, le-leb, lt-leb, ne-eqb}
+use borrow.Author.Tests.{eqb-true, leb-true, ltb-true, ltb-false, le-leb, lt-leb}
 use lib.Dec.{eqb, leb, ltb}
-use lib.ListN.{length, replicate}
+use lib.ListN.{length, length-append, replicate, take}
 use Rattle.bits.specs.Every.{and-left, and-right, and-both}
 use Rattle.refusal.specs.Refusal.{badKind, numberTooLarge, notTheLineDue, brokenLine}
 use Rattle.line_code.specs.declared.Kind.the-variants.{BL, VL, SOF, EOF}
@@ -20,8 +21,8 @@ use Rattle.frame.specs.declared.Judge.the-variants.{Waiting, Due}
 use Rattle.frame.specs.declared.Verdict.{Verdict}
 use Rattle.frame.specs.declared.Verdict.the-variants as verdict
 use Rattle.frame.specs.declared.Judged.{Judged}
-use Rattle.frame.specs.Frame.{layout, lastPlace, settlingPlace, kindAt, standsAt, kindDue, lineDue, settled, within, passes, gives, opens, begun, brokenKind, broken, whole, judgeOf}
-use Rattle.frame.specs.Calls.{Line, line, called, after, verdicts, accepts, acceptedOne, accepted, numberedFrom, frameLines}
+use Rattle.frame.specs.Frame.{layout, lastPlace, endPlace, settlingPlace, kindAt, standsAt, kindDue, numberDue, lineDue, settled, within, passes, gives, refuses, opens, begun, brokenKind, broken, astray, whole, judgeOf}
+use Rattle.frame.specs.Calls.{Line, line, called, after, verdicts, accepts, acceptedOne, accepted, fits, laidFrom, FirstLines, IsFrame, numberedFrom, frameLines}
 use Rattle.frame.specs.Agree.{agree}
 
 -- The layout.
@@ -36,6 +37,42 @@ pub alike : ((place : ℕ) → place < settlingPlace → kindAt On place ≡ kin
 unfolding kindAt
 alike = (agree (kindAt On) (kindAt Off) settlingPlace refl, refl, refl)
 
+-- below the settling place a line fits both layouts or none
+fits-alike : (b : Borders) (place : ℕ) → place < settlingPlace → fits Unsettled place ≡ fits b place
+unfolding kindAt
+fits-alike Unsettled place h = refl
+fits-alike On place h = refl
+fits-alike Off place h = agree (fits Unsettled) (fits Off) settlingPlace refl place h
+
+-- the EOF line stands at its place
+pub end-place : (b : Borders) → kindAt b (endPlace b) ≡ EOF
+unfolding kindAt
+end-place Unsettled = refl
+end-place On = refl
+end-place Off = refl
+
+-- an SOF is due at no place but the first
+sof-not-due : (b : Borders) (place : ℕ) → place < lastPlace → kindDue b (suc place) (kindNumber SOF) ≡ false
+unfolding kindAt
+sof-not-due Unsettled = agree (λ (n : ℕ). kindDue Unsettled (suc n) (kindNumber SOF)) (λ (n : ℕ). false) lastPlace refl
+sof-not-due On = agree (λ (n : ℕ). kindDue On (suc n) (kindNumber SOF)) (λ (n : ℕ). false) lastPlace refl
+sof-not-due Off = agree (λ (n : ℕ). kindDue Off (suc n) (kindNumber SOF)) (λ (n : ℕ). false) lastPlace refl
+
+-- a frame may count on to its last line
+pub frame-counted : (b : Borders) → IsFrame b (frameLines b)
+unfolding kindAt
+frame-counted Unsettled = (refl, refl)
+frame-counted On = (refl, refl)
+frame-counted Off = (refl, refl)
+
+-- or hold the EOF line's number
+pub frame-held : (b : Borders)
+    → IsFrame b (numberedFrom 0 (take (endPlace b + 1) (layout b)) ++ replicate (lastPlace - endPlace b) (line (kindNumber BL) (endPlace b)))
+unfolding kindAt
+frame-held Unsettled = (refl, refl)
+frame-held On = (refl, refl)
+frame-held Off = (refl, refl)
+
 -- the line at a place, and the lines before it
 abbrev lineAt : Borders → ℕ → Line
 lineAt b place = line (kindNumber (kindAt b place)) place
@@ -43,12 +80,6 @@ lineAt b place = line (kindNumber (kindAt b place)) place
 abbrev linesBefore : Borders → ℕ → List Line
 linesBefore b zero = []
 linesBefore b (suc n) = linesBefore b n ++ (lineAt b n ∷ [])
-
-frame-lines : (b : Borders) → linesBefore b (lastPlace + 1) ≡ frameLines b
-unfolding kindAt
-frame-lines Unsettled = refl
-frame-lines On = refl
-frame-lines Off = refl
 
 -- The judge's own test.
 
@@ -70,46 +101,6 @@ passes-high : (place : ℕ) (b : Borders) → passes (Due place b) ≡ true → 
 passes-high place Unsettled h = omega (arith, within-high 1 settlingPlace place h)
 passes-high place On h = within-high (settlingPlace + 1) lastPlace place h
 passes-high place Off h = within-high (settlingPlace + 1) lastPlace place h
-
--- A whole frame.
-
--- an SOF numbered 0 opens a frame from any judge
-opened : (j : Judge) → passes j ≡ true → called j (line (kindNumber SOF) 0) .judge ≡ begun
-unfolding judgeOf
-opened Waiting h = refl
-opened (Due place b) h = simp (h, ne-eqb 0 place (λ e. omega (arith, passes-low place b h)))
-
-from-begun : (j : Judge) (l : Line) (ls : List Line) → called j l .judge ≡ begun
-    → (verdicts j (l ∷ ls) ≡ called j l .verdict ∷ verdicts begun ls) × (after j (l ∷ ls) ≡ after begun ls)
-from-begun j l ls e = (ap (λ (s : Judge). called j l .verdict ∷ verdicts s ls) e, ap (λ (s : Judge). after s ls) e)
-
-first-line : (b : Borders) → line (kindNumber SOF) 0 ∷ numberedFrom 1 (tail (layout b)) ≡ frameLines b
-first-line Unsettled = refl
-first-line On = refl
-first-line Off = refl
-
-rest-complete : (b : Borders) → (verdicts begun (numberedFrom 1 (tail (layout b))) ≡ replicate (lastPlace - 1) verdict.Going ++ (verdict.Complete ∷ []))
-    × (after begun (numberedFrom 1 (tail (layout b))) ≡ Waiting)
-unfolding kindAt judgeOf
-rest-complete Unsettled = (refl, refl)
-rest-complete On = (refl, refl)
-rest-complete Off = (refl, refl)
-
--- the lines are answered v, then Going up to the last, which is Complete; then the judge waits
-abbrev pub Completes : Judge → Verdict → List Line → Type 0
-Completes j v ls = (verdicts j ls ≡ v ∷ (replicate (lastPlace - 1) verdict.Going ++ (verdict.Complete ∷ []))) × (after j ls ≡ Waiting)
-
--- a whole frame is Complete wherever the judge is: in another frame its first line is refused, and opens it
-pub frame-complete-anywhere : (j : Judge) → passes j ≡ true → (b : Borders) → Completes j (called j (line (kindNumber SOF) 0) .verdict) (frameLines b)
-frame-complete-anywhere j h b =
-    let v : Verdict = called j (line (kindNumber SOF) 0) .verdict in
-    let f = from-begun j (line (kindNumber SOF) 0) (numberedFrom 1 (tail (layout b))) (opened j h) in
-    subst (Completes j v) (first-line b) (f .0 ∙ ap (λ (vs : List Verdict). v ∷ vs) (rest-complete b .0), f .1 ∙ rest-complete b .1)
-
--- from a waiting judge: Going 303 times, then Complete
-pub frame-complete : (b : Borders) → (verdicts Waiting (frameLines b) ≡ replicate lastPlace verdict.Going ++ (verdict.Complete ∷ [])) × (after Waiting (frameLines b) ≡ Waiting)
-unfolding judgeOf
-frame-complete b = frame-complete-anywhere Waiting refl b
 
 -- Runs of calls, one call longer.
 
@@ -164,6 +155,111 @@ passes-reached (Due (suc n) On) h =
 passes-reached (Due (suc n) Off) h =
     (linesBefore Off (suc n), reach Off (suc n) (passes-high (suc n) Off h) ∙ simp (lt-leb (suc n) settlingPlace (within-low (settlingPlace + 1) lastPlace (suc n) h)))
 
+-- A whole frame.
+
+-- an SOF numbered 0 within a frame, after the EOF line too, is not due and opens a new frame
+pub sof-within : (place : ℕ) (b : Borders) → passes (Due place b) ≡ true → called (Due place b) (line (kindNumber SOF) 0) ≡ refuses begun notTheLineDue
+unfolding judgeOf
+sof-within zero b h = absurd (let z = passes-low zero b h in omega arith)
+sof-within (suc n) b h = simp (h, sof-not-due b n (passes-high (suc n) b h))
+
+-- an SOF numbered 0 opens a frame from any judge
+opened : (j : Judge) → passes j ≡ true → called j (line (kindNumber SOF) 0) .judge ≡ begun
+unfolding judgeOf
+opened Waiting h = refl
+opened (Due place b) h = ap (λ (r : Judged). r .judge) (sof-within place b h)
+
+opens-is : (l : Line) → opens (l .kind) (l .number) ≡ true → l ≡ line (kindNumber SOF) 0
+opens-is l h =
+    let sof : Bool = eqb (l .kind) (kindNumber SOF) in
+    ap₂ line (eqb-true (l .kind) (kindNumber SOF) (and-left sof _ h)) (eqb-true (l .number) 0 (and-right sof _ h))
+
+either : {P : Type 0} (a b : Bool) → (a || b) ≡ true → (a ≡ true → P) → (b ≡ true → P) → P
+either true b h f g = f refl
+either false b h f g = g h
+
+first-is : (b : Borders) (l : Line) → fits b 0 l ≡ true → l ≡ line (kindNumber SOF) 0
+unfolding kindAt
+first-is b l h =
+    let sof : Bool = eqb (l .kind) (kindNumber SOF) in
+    let f : fits Unsettled 0 l ≡ true = ap (λ (t : Line → Bool). t l) (fits-alike b 0 (omega arith)) ∙ h in
+    let n : (eqb (l .number) 0 || ltb (endPlace Unsettled) 0) ≡ true = and-left _ _ (and-right sof _ f) in
+    opens-is l (and-both sof _ (and-left sof _ f) (either (eqb (l .number) 0) _ n (λ e. e) (λ e. absurd (true≢false (sym e)))))
+
+-- what a line of the kind laid out at a place is answered, by its number
+abbrev byNumber : Borders → ℕ → Judged → ℕ → Judged
+byNumber b place r n = cond (leb n greatest) (cond (numberDue b place n) r (astray (kindNumber (kindAt b place)) n)) (refuses (judgeAt b place) numberTooLarge)
+
+abbrev answered : Borders → ℕ → ℕ → Judged
+answered b place n = judgeOf (judgeAt b place) (kindNumber (kindAt b place)) n
+
+abbrev Answers : Borders → ℕ → Judged → Type 0
+Answers b place r = answered b place ≡ byNumber b place r
+
+abbrev goesOn : Borders → ℕ → Judged
+goesOn b place = gives (judgeAt b (suc place)) verdict.Going
+
+answers-going : (b : Borders) (n : ℕ) → n < lastPlace - 1 → Answers b (suc n) (goesOn b (suc n))
+unfolding kindAt judgeOf
+answers-going Unsettled = agree (λ (n : ℕ). answered Unsettled (suc n)) (λ (n : ℕ). byNumber Unsettled (suc n) (goesOn Unsettled (suc n))) (lastPlace - 1) refl
+answers-going On = agree (λ (n : ℕ). answered On (suc n)) (λ (n : ℕ). byNumber On (suc n) (goesOn On (suc n))) (lastPlace - 1) refl
+answers-going Off = agree (λ (n : ℕ). answered Off (suc n)) (λ (n : ℕ). byNumber Off (suc n) (goesOn Off (suc n))) (lastPlace - 1) refl
+
+answers-last : (b : Borders) → Answers b lastPlace (gives Waiting verdict.Complete)
+unfolding kindAt judgeOf
+answers-last Unsettled = refl
+answers-last On = refl
+answers-last Off = refl
+
+-- a line that fits is answered so
+fitting : (b : Borders) (place : ℕ) (l : Line) (r : Judged) → fits b place l ≡ true → Answers b place r → called (judgeAt b place) l ≡ r
+fitting b place l r h a =
+    let n : numberDue b place (l .number) ≡ true = and-left _ _ (and-right (standsAt b place (l .kind)) _ h) in
+    let g : leb (l .number) greatest ≡ true = and-right (numberDue b place (l .number)) _ (and-right (standsAt b place (l .kind)) _ h) in
+    ap (λ (k : ℕ). judgeOf (judgeAt b place) k (l .number)) (eqb-true (l .kind) _ (and-left _ _ h))
+    ∙ ap (λ (f : ℕ → Judged). f (l .number)) a
+    ∙ ap₂ (λ (s t : Bool). cond s (cond t r (astray (kindNumber (kindAt b place)) (l .number))) (refuses (judgeAt b place) numberTooLarge)) g n
+
+from-call : (j : Judge) (l : Line) (r : Judged) (ls : List Line) → called j l ≡ r
+    → (verdicts j (l ∷ ls) ≡ r .verdict ∷ verdicts (r .judge) ls) × (after j (l ∷ ls) ≡ after (r .judge) ls)
+from-call j l r ls e = (ap (λ (x : Judged). x .verdict ∷ verdicts (x .judge) ls) e, ap (λ (x : Judged). after (x .judge) ls) e)
+
+-- so many lines are Going, the last one Complete
+abbrev pub toComplete : ℕ → List Verdict
+toComplete n = replicate n verdict.Going ++ (verdict.Complete ∷ [])
+
+rest-complete : (b : Borders) (n : ℕ) (l : Line) (ls : List Line) → suc n + length ls ≡ lastPlace → laidFrom b (suc n) (l ∷ ls) ≡ true
+    → (verdicts (judgeAt b (suc n)) (l ∷ ls) ≡ toComplete (length ls)) × (after (judgeAt b (suc n)) (l ∷ ls) ≡ Waiting)
+rest-complete b n l [] e h =
+    let a : Answers b (suc n) (gives Waiting verdict.Complete) = subst (λ (p : ℕ). Answers b p (gives Waiting verdict.Complete)) (omega arith) (answers-last b) in
+    from-call (judgeAt b (suc n)) l (gives Waiting verdict.Complete) [] (fitting b (suc n) l (gives Waiting verdict.Complete) (and-left _ _ h) a)
+rest-complete b n l (m ∷ ls) e h =
+    let f = from-call (judgeAt b (suc n)) l (goesOn b (suc n)) (m ∷ ls) (fitting b (suc n) l (goesOn b (suc n)) (and-left _ _ h) (answers-going b n (omega arith))) in
+    let r = rest-complete b (suc n) m ls (omega arith) (and-right (fits b (suc n) l) _ h) in
+    (f .0 ∙ ap (λ (vs : List Verdict). verdict.Going ∷ vs) (r .0), f .1 ∙ r .1)
+
+-- the lines are answered v, then Going up to the last, which is Complete; then the judge waits
+abbrev pub Completes : Judge → Verdict → List Line → Type 0
+Completes j v ls = (verdicts j ls ≡ v ∷ toComplete (lastPlace - 1)) × (after j ls ≡ Waiting)
+
+-- a whole frame is Complete wherever the judge is: in another frame its first line is refused, and opens it
+pub frame-complete-anywhere : (j : Judge) → passes j ≡ true → (b : Borders) (ls : List Line) → IsFrame b ls → Completes j (called j (line (kindNumber SOF) 0) .verdict) ls
+frame-complete-anywhere j h b [] f = absurd (let e = f .0 in omega arith)
+frame-complete-anywhere j h b (l ∷ []) f = absurd (let e = f .0 in omega arith)
+frame-complete-anywhere j h b (l ∷ m ∷ ls) f =
+    let s : Line = line (kindNumber SOF) 0 in
+    let v : Verdict = called j s .verdict in
+    let e : length ls ≡ lastPlace - 1 = (let e = f .0 in omega arith) in
+    let c = from-call j s (gives begun v) (m ∷ ls) (ap (λ (x : Judge). gives x v) (opened j h)) in
+    let r = rest-complete b 0 m ls (omega arith) (and-right (fits b 0 l) _ (f .1)) in
+    subst (λ (x : Line). Completes j v (x ∷ m ∷ ls)) (sym (first-is b l (and-left _ _ (f .1))))
+    (c .0 ∙ ap (λ (vs : List Verdict). v ∷ vs) (r .0 ∙ ap toComplete e), c .1 ∙ r .1)
+
+-- from a waiting judge: Going 303 times, then Complete
+pub frame-complete : (b : Borders) (ls : List Line) → IsFrame b ls → (verdicts Waiting ls ≡ toComplete lastPlace) × (after Waiting ls ≡ Waiting)
+unfolding judgeOf
+frame-complete b ls f = frame-complete-anywhere Waiting refl b ls f
+
 -- What one call does.
 
 abbrev complete : Verdict → Bool
@@ -172,14 +268,18 @@ complete verdict.Going = false
 complete verdict.Complete = true
 complete (verdict.Refused r) = false
 
+-- the line is due at the place, and its number is not too large
+abbrev IsDue : Borders → ℕ → Line → Type 0
+IsDue b place l = (lineDue b place (l .kind) (l .number) ≡ true) × (leb (l .number) greatest ≡ true)
+
 -- a call changes nothing; or the judge waits; or the line opens a frame; or it is due, and not the last; or the last
 data Effect (j : Judge) (l : Line) : Judged → Type 0 where
   nothing : (v : Verdict) → accepts v ≡ false → Effect j l (gives j v)
   waits : (v : Verdict) → accepts v ≡ true → complete v ≡ false → Effect j l (gives Waiting v)
   starts : (v : Verdict) → accepts v ≡ true → complete v ≡ false → opens (l .kind) (l .number) ≡ true → Effect j l (gives begun v)
-  goes : (place : ℕ) (b : Borders) → j ≡ Due place b → lineDue b place (l .kind) (l .number) ≡ true → place < lastPlace
+  goes : (place : ℕ) (b : Borders) → j ≡ Due place b → IsDue b place l → place < lastPlace
       → Effect j l (gives (Due (place + 1) (settled b place (l .kind))) verdict.Going)
-  ends : (place : ℕ) (b : Borders) → j ≡ Due place b → lineDue b place (l .kind) (l .number) ≡ true → lastPlace ≤ place → Effect j l (gives Waiting verdict.Complete)
+  ends : (place : ℕ) (b : Borders) → j ≡ Due place b → IsDue b place l → lastPlace ≤ place → Effect j l (gives Waiting verdict.Complete)
 
 pick : {j : Judge} {l : Line} {x y : Judged} (t : Bool) → (t ≡ true → Effect j l x) → (t ≡ false → Effect j l y) → Effect j l (cond t x y)
 pick true f g = f refl
@@ -189,11 +289,11 @@ effect-broken : (j : Judge) (l : Line) → Effect j l (broken j)
 effect-broken Waiting l = waits verdict.Waiting refl refl
 effect-broken (Due place b) l = waits (verdict.Refused brokenLine) refl refl
 
-effect-whole : (j : Judge) (l : Line) → Effect j l (whole j (l .kind) (l .number))
-effect-whole Waiting l = pick (opens (l .kind) (l .number)) (λ o. starts verdict.Going refl refl o) (λ o. waits verdict.Waiting refl refl)
-effect-whole (Due place b) l =
+effect-whole : (j : Judge) (l : Line) → leb (l .number) greatest ≡ true → Effect j l (whole j (l .kind) (l .number))
+effect-whole Waiting l n = pick (opens (l .kind) (l .number)) (λ o. starts verdict.Going refl refl o) (λ o. waits verdict.Waiting refl refl)
+effect-whole (Due place b) l n =
     pick (lineDue b place (l .kind) (l .number))
-    (λ d. pick (ltb place lastPlace) (λ t. goes place b refl d (ltb-true place lastPlace t)) (λ t. ends place b refl d (ltb-false place lastPlace t)))
+    (λ d. pick (ltb place lastPlace) (λ t. goes place b refl (d, n) (ltb-true place lastPlace t)) (λ t. ends place b refl (d, n) (ltb-false place lastPlace t)))
     (λ d. pick (opens (l .kind) (l .number)) (λ o. starts (verdict.Refused notTheLineDue) refl refl o) (λ o. waits (verdict.Refused notTheLineDue) refl refl))
 
 effect : (j : Judge) (l : Line) → passes j ≡ true → Effect j l (called j l)
@@ -202,7 +302,7 @@ effect j l h =
     pick (passes j)
     (λ p. pick (leb (l .kind) (kindNumber EOF))
     (λ k. pick (eqb (l .kind) brokenKind) (λ z. effect-broken j l)
-    (λ z. pick (leb (l .number) greatest) (λ n. effect-whole j l) (λ n. nothing (verdict.Refused numberTooLarge) refl)))
+    (λ z. pick (leb (l .number) greatest) (λ n. effect-whole j l n) (λ n. nothing (verdict.Refused numberTooLarge) refl)))
     (λ k. nothing (verdict.Refused badKind) refl))
     (λ p. absurd (true≢false (sym h ∙ p)))
 
@@ -249,69 +349,77 @@ reached-passes ls = passes-after Waiting ls refl
 
 -- Which lines came before.
 
-line-is : (l : Line) (k n : ℕ) → l .kind ≡ k → l .number ≡ n → l ≡ line k n
-line-is l k n e f = ap (λ (x : ℕ). line x (l .number)) e ∙ ap (λ (x : ℕ). line k x) f
+-- a line of a layout's kind, while the borders are not settled: it fits the layout that it leaves open or settles
+abbrev settling : Borders → ℕ → ℕ → Bool
+settling c place n = fits (settled Unsettled place (kindNumber (kindAt c place))) place (line (kindNumber (kindAt c place)) n)
 
-opens-is : (l : Line) → opens (l .kind) (l .number) ≡ true → l ≡ lineAt Unsettled 0
+abbrev numbered : ℕ → ℕ → Bool
+numbered place n = numberDue Unsettled place n && leb n greatest
+
+fits-settling : (c : Borders) (place : ℕ) → place < settlingPlace + 1 → settling c place ≡ numbered place
 unfolding kindAt
-opens-is l h =
-    line-is l (kindNumber SOF) 0 (eqb-true (l .kind) (kindNumber SOF) (and-left _ _ h))
-    (eqb-true (l .number) 0 (and-right (eqb (l .kind) (kindNumber SOF)) _ h))
+fits-settling Unsettled = agree (settling Unsettled) numbered (settlingPlace + 1) refl
+fits-settling On = agree (settling On) numbered (settlingPlace + 1) refl
+fits-settling Off = agree (settling Off) numbered (settlingPlace + 1) refl
 
--- the line is the next one of the layout that it leaves open or settles
-abbrev Next : Borders → ℕ → Line → Type 0
-Next b place l = linesBefore b place ++ (l ∷ []) ≡ linesBefore (settled b place (l .kind)) (suc place)
-
--- the two sides of that, for the line of a layout while the borders are not settled
-abbrev joined : Borders → ℕ → List Line
-joined c place = linesBefore Unsettled place ++ (lineAt c place ∷ [])
-
-abbrev settling : Borders → ℕ → List Line
-settling c place = linesBefore (settled Unsettled place (lineAt c place .kind)) (suc place)
-
-next-unsettled : (c : Borders) (place : ℕ) → place < settlingPlace + 1 → Next Unsettled place (lineAt c place)
-unfolding kindAt
-next-unsettled Unsettled = agree (joined Unsettled) (settling Unsettled) (settlingPlace + 1) refl
-next-unsettled On = agree (joined On) (settling On) (settlingPlace + 1) refl
-next-unsettled Off = agree (joined Off) (settling Off) (settlingPlace + 1) refl
-
-either : {P : Type 0} (a b : Bool) → (a || b) ≡ true → (a ≡ true → P) → (b ≡ true → P) → P
-either true b h f g = f refl
-either false b h f g = g h
-
--- a line that is due is the next one
-due-is : (place : ℕ) (b : Borders) (l : Line) → passes (Due place b) ≡ true → lineDue b place (l .kind) (l .number) ≡ true → Next b place l
-due-is place b l h d = by b h (and-right (eqb (l .number) place) _ d)
+-- a line that is due fits
+due-fits : (place : ℕ) (b : Borders) (l : Line) → passes (Due place b) ≡ true → IsDue b place l → fits (settled b place (l .kind)) place l ≡ true
+due-fits place b l h d = by b h (and-left _ _ (d .0)) (and-both _ _ (and-right (kindDue b place (l .kind)) _ (d .0)) (d .1))
   where
-    at : (c : Borders) → standsAt c place (l .kind) ≡ true → l ≡ lineAt c place
-    at c s = line-is l (kindNumber (kindAt c place)) place (eqb-true (l .kind) _ s) (eqb-true (l .number) place (and-left _ _ d))
+    unsettled : (c : Borders) → place ≤ settlingPlace → numbered place (l .number) ≡ true → standsAt c place (l .kind) ≡ true
+        → fits (settled Unsettled place (l .kind)) place l ≡ true
+    unsettled c p n s =
+        ap (λ (k : ℕ). fits (settled Unsettled place k) place (line k (l .number))) (eqb-true (l .kind) _ s)
+        ∙ ap (λ (f : ℕ → Bool). f (l .number)) (fits-settling c place (omega arith))
+        ∙ n
 
-    unsettled : (c : Borders) → place ≤ settlingPlace → standsAt c place (l .kind) ≡ true → Next Unsettled place l
-    unsettled c p s = subst (Next Unsettled place) (sym (at c s)) (next-unsettled c place (omega arith))
-
-    by : (b : Borders) → passes (Due place b) ≡ true → kindDue b place (l .kind) ≡ true → Next b place l
-    by Unsettled p k =
+    by : (b : Borders) → passes (Due place b) ≡ true → kindDue b place (l .kind) ≡ true
+        → (numberDue b place (l .number) && leb (l .number) greatest) ≡ true → fits (settled b place (l .kind)) place l ≡ true
+    by Unsettled p k n =
         let q = within-high 1 settlingPlace place p in
-        either (standsAt On place (l .kind)) (standsAt Off place (l .kind)) k (unsettled On q) (unsettled Off q)
-    by On p k = ap (λ (x : Line). linesBefore On place ++ (x ∷ [])) (at On k)
-    by Off p k = ap (λ (x : Line). linesBefore Off place ++ (x ∷ [])) (at Off k)
+        either (standsAt On place (l .kind)) (standsAt Off place (l .kind)) k (unsettled On q n) (unsettled Off q n)
+    by On p k n = and-both _ _ k n
+    by Off p k n = and-both _ _ k n
+
+laid-alike : (c : Borders) (place : ℕ) (ls : List Line) → place + length ls ≤ settlingPlace → laidFrom Unsettled place ls ≡ laidFrom c place ls
+laid-alike c place [] h = refl
+laid-alike c place (l ∷ ls) h = ap₂ _&&_ (ap (λ (f : Line → Bool). f l) (fits-alike c place (omega arith))) (laid-alike c (suc place) ls (omega arith))
+
+laid-settled : (place : ℕ) (b : Borders) (k : ℕ) (ls : List Line) → passes (Due place b) ≡ true → FirstLines b place ls → laidFrom (settled b place k) 0 ls ≡ true
+laid-settled place Unsettled k ls h f =
+    sym (laid-alike (settled Unsettled place k) 0 ls (omega (arith, f .0, within-high 1 settlingPlace place h))) ∙ f .1
+laid-settled place On k ls h f = f .1
+laid-settled place Off k ls h f = f .1
+
+laid-snoc : (b : Borders) (place end : ℕ) (ls : List Line) (l : Line) → place + length ls ≡ end → laidFrom b place ls ≡ true → fits b end l ≡ true → laidFrom b place (ls ++ (l ∷ [])) ≡ true
+laid-snoc b place end [] l e h f = and-both _ _ (subst (λ (p : ℕ). fits b p l ≡ true) (omega arith) f) refl
+laid-snoc b place end (a ∷ ls) l e h f =
+    and-both (fits b place a) _ (and-left (fits b place a) _ h) (laid-snoc b (suc place) end ls l (omega arith) (and-right (fits b place a) _ h) f)
+
+-- the first lines of a frame, one line longer
+first-longer : (place : ℕ) (b : Borders) (ls : List Line) (l : Line) → passes (Due place b) ≡ true → IsDue b place l → FirstLines b place ls
+    → FirstLines (settled b place (l .kind)) (suc place) (ls ++ (l ∷ []))
+first-longer place b ls l h d f = (
+  simp length-append (omega (arith, f .0)),
+  laid-snoc (settled b place (l .kind)) 0 place ls l (omega (arith, f .0)) (laid-settled place b (l .kind) ls h f) (due-fits place b l h d),
+)
 
 -- the lines accepted so far end in those of the frame that the judge is in
 abbrev Traced : List Line → Judge → Type 0
 Traced past Waiting = Unit {0}
-Traced past (Due place b) = (earlier : List Line) × (past ≡ earlier ++ linesBefore b place)
+Traced past (Due place b) = (earlier : List Line) × (ls : List Line) × (past ≡ earlier ++ ls) × FirstLines b place ls
 
 -- the lines accepted so far, one line longer
-longer : (past : List Line) (place : ℕ) (b : Borders) (l : Line) → passes (Due place b) ≡ true → lineDue b place (l .kind) (l .number) ≡ true
+longer : (past : List Line) (place : ℕ) (b : Borders) (l : Line) → passes (Due place b) ≡ true → IsDue b place l
     → Traced past (Due place b) → Traced (past ++ (l ∷ [])) (Due (suc place) (settled b place (l .kind)))
-longer past place b l h d t =
-    (t .0, ap (λ (x : List Line). x ++ (l ∷ [])) (t .1) ∙ append-assoc (t .0) (linesBefore b place) (l ∷ []) ∙ ap (λ (x : List Line). t .0 ++ x) (due-is place b l h d))
+longer past place b l h d (earlier, ls, e, f) =
+    (earlier, ls ++ (l ∷ []), ap (λ (x : List Line). x ++ (l ∷ [])) e ∙ append-assoc earlier ls (l ∷ []), first-longer place b ls l h d f)
 
 traced-effect : (past : List Line) (j : Judge) (l : Line) (r : Judged) → Effect j l r → passes j ≡ true → Traced past j → Traced (past ++ cond (accepts (r .verdict)) (l ∷ []) []) (r .judge)
 unfolding kindAt
 traced-effect past j l _ (nothing v a) h t = simp (a, append-nil) t
 traced-effect past j l _ (waits v a c) h t = tt
-traced-effect past j l _ (starts v a c o) h t = (past, simp a (ap (λ (x : Line). past ++ (x ∷ [])) (opens-is l o)))
+traced-effect past j l _ (starts v a c o) h t = (past, l ∷ [], simp a refl, (refl, subst (λ (x : Line). laidFrom Unsettled 0 (x ∷ []) ≡ true) (sym (opens-is l o)) refl))
 traced-effect past j l _ (goes place b e d g) h t =
     simp add-one (longer past place b l (subst (λ (s : Judge). passes s ≡ true) e h) d (subst (λ (s : Judge). Traced past s) e t))
 traced-effect past j l _ (ends place b e d g) h t = tt
@@ -325,17 +433,22 @@ traced past j (l ∷ ls) h t =
 
 -- only a line that is due at the last place is answered Complete
 ends-only : (j : Judge) (l : Line) (r : Judged) → Effect j l r → r .verdict ≡ verdict.Complete
-    → (place : ℕ) × (b : Borders) × (j ≡ Due place b) × (lineDue b place (l .kind) (l .number) ≡ true) × (lastPlace ≤ place)
+    → (place : ℕ) × (b : Borders) × (j ≡ Due place b) × (IsDue b place l) × (lastPlace ≤ place)
 ends-only j l _ (nothing v a) e = absurd (true≢false (sym (ap accepts e) ∙ a))
 ends-only j l _ (waits v a c) e = absurd (true≢false (sym (ap complete e) ∙ c))
 ends-only j l _ (starts v a c o) e = absurd (true≢false (sym (ap complete e) ∙ c))
 ends-only j l _ (goes place b q d g) e = absurd (true≢false (sym (ap complete e)))
 ends-only j l _ (ends place b q d g) e = (place, b, q, d, g)
 
+-- the lines of a judge past the last place end in a whole frame
+traced-whole : (ls past : List Line) (place : ℕ) (b : Borders) → ls ≡ past → place ≡ lastPlace → Traced past (Due (suc place) b)
+    → (c : Borders) × (earlier : List Line) × (frame : List Line) × (ls ≡ earlier ++ frame) × IsFrame c frame
+traced-whole ls past place b a e (earlier, frame, t, f) = (b, earlier, frame, a ∙ t, subst (λ (n : ℕ). FirstLines b (suc n) frame) e f)
+
 -- if a call is answered Complete, the accepted lines up to it end in exactly the 304 lines of a frame, borders on (Unsettled has the same) or
 -- off: no damaged frame is Complete
 pub complete-frame : (ls : List Line) (l : Line) → called (after Waiting ls) l .verdict ≡ verdict.Complete
-    → (b : Borders) × (earlier : List Line) × (accepted Waiting (ls ++ (l ∷ [])) ≡ earlier ++ frameLines b)
+    → (b : Borders) × (earlier : List Line) × (frame : List Line) × (accepted Waiting (ls ++ (l ∷ [])) ≡ earlier ++ frame) × IsFrame b frame
 complete-frame ls l v =
     let j : Judge = after Waiting ls in
     let past : List Line = accepted Waiting ls in
@@ -343,10 +456,5 @@ complete-frame ls l v =
     let f = ends-only j l (called j l) (effect j l p) v in
     let q : passes (Due (f .0) (f .1)) ≡ true = subst (λ (s : Judge). passes s ≡ true) (f .2) p in
     let t = longer past (f .0) (f .1) l q (f .3) (subst (λ (s : Judge). Traced past s) (f .2) (traced [] Waiting ls refl tt)) in
-    let b : Borders = settled (f .1) (f .0) (l .kind) in
-    let e : f .0 ≡ lastPlace = omega (arith, passes-high (f .0) (f .1) q) in (
-      b,
-      t .0,
-      accepted-snoc Waiting ls l ∙ ap (λ (a : Verdict). past ++ cond (accepts a) (l ∷ []) []) v ∙ t .1
-          ∙ ap (λ (n : ℕ). t .0 ++ linesBefore b (suc n)) e ∙ ap (λ (x : List Line). t .0 ++ x) (frame-lines b),
-    )
+    traced-whole (accepted Waiting (ls ++ (l ∷ []))) (past ++ (l ∷ [])) (f .0) (settled (f .1) (f .0) (l .kind))
+    (accepted-snoc Waiting ls l ∙ ap (λ (a : Verdict). past ++ cond (accepts a) (l ∷ []) []) v) (omega (arith, passes-high (f .0) (f .1) q)) t

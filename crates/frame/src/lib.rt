@@ -2,9 +2,10 @@
 //
 // In: the kind number and number of each line given out, or kind 0 for a broken line (answers 1 to 7), in order. Out: beside the next
 // judge, Waiting, Going, Complete or a refusal: 18 the line is not the one due, 19 a broken line; and, changing nothing: 11 a judge state
-// that no calls can reach, 13 a kind above 5, 14 a number above 4095. Cost: constant.
+// that no calls can reach, 13 a kind above 5, 14 a number above 4095. After the EOF line a line's number is not compared (paper 02, A3).
+// Cost: constant.
 ghost use mathlib.Core.Path.{_≡_};
-ghost use Rattle.frame.specs.Frame.{kindAt, standsAt, kindDue, lineDue, settled, within, passes, refuses, opens, broken, onward, astray, whole, judgeOf};
+ghost use Rattle.frame.specs.Frame.{kindAt, endPlace, standsAt, kindDue, numberDue, lineDue, settled, within, passes, refuses, opens, broken, onward, astray, whole, judgeOf};
 ghost use Rattle.frame.specs.Places.{kindWithin};
 use line_code::Kind;
 
@@ -161,12 +162,33 @@ impl Borders {
         }
     }
 
+    // The place of the EOF line.
+    fn end_place(self) -> u16
+        ensures { λ r. ⌜ r ≡ endPlace self ⌝ }
+    {
+        match self {
+            Borders::Unsettled => END_ON,
+            Borders::On => END_ON,
+            Borders::Off => END_OFF,
+        }
+    }
+
+    // Whether this number is due at a place: the place's own, or, after the EOF line, any.
+    fn number_due(self, place: u16, number: u16) -> bool
+        ensures { λ r. ⌜ r ≡ numberDue self place number ⌝ }
+    {
+        if number == place {
+            return true;
+        }
+        place > self.end_place()
+    }
+
     // Whether this is the line due at a place.
     fn line_due(self, place: u16, kind: u8, number: u16) -> bool
         ensures { λ r. ⌜ r ≡ lineDue self place kind number ⌝ }
     {
-        if number == place {
-            return self.kind_due(place, kind);
+        if self.kind_due(place, kind) {
+            return self.number_due(place, number);
         }
         false
     }

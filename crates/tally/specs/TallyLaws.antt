@@ -19,7 +19,7 @@ use Rattle.frame.specs.declared.Judge.the-variants.{Waiting, Due}
 use Rattle.frame.specs.declared.Verdict.{Verdict}
 use Rattle.frame.specs.declared.Verdict.the-variants as verdict
 use Rattle.frame.specs.Frame.{lastPlace, brokenKind, judgeOf}
-use Rattle.frame.specs.Calls.{Line, line, called, after, verdicts, frameLines}
+use Rattle.frame.specs.Calls.{Line, line, called, after, verdicts, IsFrame}
 use Rattle.frame.specs.FrameLaws.{frame-complete}
 use Rattle.tally.specs.declared.Tally.{Tally}
 use Rattle.tally.specs.declared.Told.{Told}
@@ -163,13 +163,13 @@ handed-lines [] = refl
 handed-lines (f ∷ fs) = ap (λ (ls : List Line). line (kindNumber (f .kind)) (f .number) ∷ ls) (handed-lines fs)
 
 -- the lines of a frame, repaired or not, each with its gap, from a fresh tally
-pub frame-good : (b : Borders) (fs : List LineFacts) → linesOf fs ≡ frameLines b
+pub frame-good : (b : Borders) (fs : List LineFacts) → IsFrame b (linesOf fs)
     → (tallied freshTally (withGaps fs) .complete ≡ 1) × (tallied freshTally (withGaps fs) .broken ≡ 0) × (isGood (tallied freshTally (withGaps fs)) ≡ true)
 unfolding isGood oneMore
 frame-good b fs e =
     let p = judged-as-said freshTally (withGaps fs) in
     let v : verdicts Waiting (allHanded (withGaps fs)) ≡ replicate lastPlace verdict.Going ++ (verdict.Complete ∷ []) =
-    ap (verdicts Waiting) (handed-lines fs ∙ e) ∙ frame-complete b .0 in
+    ap (verdicts Waiting) (handed-lines fs) ∙ frame-complete b (linesOf fs) e .0 in
     let c : tallied freshTally (withGaps fs) .complete ≡ 1 = p .complete ∙ ap (counting isComplete 0) v in
     let d : tallied freshTally (withGaps fs) .broken ≡ 0 = p .broken ∙ ap (counting isBreak 0) v in
     (c, d, simp (c, d))
