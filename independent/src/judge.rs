@@ -14,8 +14,18 @@ pub struct Judge {
     due: Option<(u16, Option<bool>)>,
 }
 
+/// The place of the EOF line.
+fn eof_at(borders: bool) -> u16 {
+    if borders {
+        302
+    } else {
+        300
+    }
+}
+
 fn kind_at(place: u16, borders: bool) -> u8 {
-    let (visible, eof) = if borders { (10, 302) } else { (12, 300) };
+    let visible = if borders { 10 } else { 12 };
+    let eof = eof_at(borders);
     match place {
         0 => 4,
         1 | 2 => 2,
@@ -55,9 +65,11 @@ impl Judge {
             },
             None => (kind == kind_at(place, true)).then_some(None),
         };
+        // After the EOF line no number is compared.
+        let numbered = number == place || borders.is_some_and(|b| place > eof_at(b));
         match settled {
-            Some(_) if number == place && place == 303 => Verdict::Complete,
-            Some(b) if number == place => {
+            Some(_) if numbered && place == 303 => Verdict::Complete,
+            Some(b) if numbered => {
                 self.due = Some((place + 1, b));
                 Verdict::Going
             }
