@@ -70,21 +70,26 @@ pub fn gap_start(profile: Profile) -> u32
     }
 }
 
-// Puts the oldest nibble of a window, which is the text's nibble at the place, into the body, if it belongs there.
-pub fn store(body: &mut [u8; 356], place: u32, window: u32)
+// Puts the oldest nibble of a window, which is the text's nibble at the place, into the body, if it belongs there and the body reaches so
+// far.
+pub fn store(body: &mut [u8], place: u32, window: u32)
     ensures { λ _. ⌜ now (body .exit) ≡ bodyAt place (window / topPlace) (now (body .entry)) ⌝ }
 {
     if place < BODY_PLACE {
         return;
     }
     let i = ((place - BODY_PLACE) / 2) as usize;
-    if i < Profile::LONGEST {
-        let nibble = top(window);
-        if place % 2 == 0 {
-            body[i] = 16 * nibble;
-        } else {
-            body[i] = with_low(body[i], nibble);
-        }
+    if Profile::LONGEST <= i {
+        return;
+    }
+    if body.len() <= i {
+        return;
+    }
+    let nibble = top(window);
+    if place % 2 == 0 {
+        body[i] = 16 * nibble;
+    } else {
+        body[i] = with_low(body[i], nibble);
     }
 }
 
@@ -94,7 +99,7 @@ pub fn at_mark(
     mark: Mark,
     length: u32,
     kept: Kept,
-    body: &[u8; 356],
+    body: &[u8],
     next: u8,
 ) -> Answer
     ensures { λ r. ⌜ r ≡ answerFor (judge profile mark length kept (now (body .entry)) (some next)) ⌝ }
@@ -198,7 +203,7 @@ fn meaning_answer(
     repaired: bool,
     length: u32,
     kept: Kept,
-    body: &[u8; 356],
+    body: &[u8],
     next: u8,
 ) -> Answer
     ensures { λ r. ⌜ r ≡ answerFor (judgeMeaning profile before m repaired length kept (now (body .entry)) (some next)) ⌝ }
@@ -262,7 +267,7 @@ fn line_answer(
     repaired: bool,
     length: u32,
     kept: Kept,
-    body: &[u8; 356],
+    body: &[u8],
     next: u8,
 ) -> Answer
     ensures { λ r. ⌜ r ≡ answerFor (judgeLine profile kind repaired length kept (now (body .entry)) (readingOf next)) ⌝ }
@@ -284,14 +289,16 @@ fn body_answer(
     kind: Kind,
     repaired: bool,
     number: u16,
-    body: &[u8; 356],
+    body: &[u8],
     next: u8,
 ) -> Answer
     ensures { λ r. ⌜ r ≡ answerFor (judgeBody profile kind repaired number (now (body .entry)) (readingOf next)) ⌝ }
 {
     let n = profile.body_length();
-    let all: &[u8] = body;
-    if profile.body_fits(kind, &all[..n]) {
+    if body.len() < n {
+        return Answer::Refused(refusal::BAD_BODY);
+    }
+    if profile.body_fits(kind, &body[..n]) {
         let reading = line_code::read(next);
         if reading.is_end() {
             let facts = LineFacts {

@@ -1,3 +1,5 @@
 pub mod Window
 pub mod Copy
 pub mod Told
+pub mod Pairs
+pub mod Running

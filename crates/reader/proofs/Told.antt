@@ -1,10 +1,10 @@
 -- An answer and a list tell the outcome: before a line is handed out the reader's body, after it the lent buffer, whose front is then
 -- the line's body. That body fits its rules, so it has the profile's length.
-use mathlib.Core.Path.{_≡_, refl, _∙_}
+use mathlib.Core.Path.{_≡_, refl, _∙_, ap, sym, subst}
 use mathlib.Core.Bool.{Bool, true, false, _||_, cond}
-use mathlib.Core.List.{List}
+use mathlib.Core.List.{List, [], _∷_}
 use mathlib.Core.Option.{Option, none, some}
-use Prim.Native.Nat.{ℕ, _-_, _%_}
+use Prim.Native.Nat.{ℕ, _+_, _-_, _%_}
 use lib.Dec.{leb}
 use lib.ListN.{length, take, drop}
 use lib.Seq.{take-at}
@@ -29,7 +29,9 @@ use Rattle.mark_answer.specs.declared.Kept.{Kept}
 use Rattle.mark_answer.specs.Judge.{judge, judgeReading, judgeMeaning, judgeEnd, judgeGap, judgeLine}
 use Rattle.reader.specs.declared.Head.{Head}
 use Rattle.reader.specs.declared.Reader.{Reader}
-use Rattle.reader.specs.Reader.{isMark, slide, leaveKept, leaveBody, passes, taking, refusing, takeOutcome, feedOf}
+use Rattle.reader.specs.Reader.{Took, isMark, slide, leaveKept, leaveBody, shifted, opened, passes, taking, refusing, takeHead, takeOutcome, feedOf}
+use Rattle.reader.specs.Run.{ran, isAnswer, upToStop}
+use Rattle.reader.specs.RunLaws.{onward, up-to-stop}
 use Rattle.reader.specs.Parts.{completeOutcome}
 
 -- what holds of nothing, of refusals, of gaps and of lines whose body fits holds of every answer of a mark
@@ -107,3 +109,32 @@ told r n room buffer = go (passes (r .head)) (leb n 15) (leb (bodyLength (r .hea
     go true true false = refl
     go true false c = refl
     go false b c = refl
+
+-- A run.
+
+pub take-profile : (h : Head) (n : ℕ) → takeHead h n .profile ≡ h .profile
+unfolding takeHead
+take-profile h n = go (isMark (slide (h .window) n)) (slide (h .window) n % 256)
+  where
+    go : (b : Bool) (c : ℕ) → cond b (opened h c) (shifted h n) .profile ≡ h .profile
+    go true c = refl
+    go false c = refl
+
+told-onward : (w : List ℕ) (r : Reader) (i : ℕ) (buffer : List ℕ) → Told (r .head .profile) buffer (onward r w i .outcome)
+told-onward [] r i buffer = refl
+told-onward (n ∷ w) r i buffer =
+    go (leb n 15) (isAnswer (t .outcome))
+    (subst (λ p. Told p buffer (onward (t .reader) w (i + 1) .outcome)) (take-profile (r .head) n) (told-onward w (t .reader) (i + 1) buffer))
+  where
+    t : Took
+    t = taking r n
+
+    go : (a b : Bool) → Told (r .head .profile) buffer (onward (t .reader) w (i + 1) .outcome)
+        → Told (r .head .profile) buffer
+        (cond a (cond b (ran (t .reader) (t .outcome) (i + 1)) (onward (t .reader) w (i + 1))) (ran r (refused notANibble) i) .outcome)
+    go true true h = told-take (r .head) (r .body) n buffer
+    go true false h = h
+    go false b h = refl
+
+pub told-run : (r : Reader) (w buffer : List ℕ) → Told (r .head .profile) buffer (upToStop r w .outcome)
+told-run r w buffer = subst (λ t. Told (r .head .profile) buffer (t .outcome)) (sym (up-to-stop r w)) (told-onward w r 0 buffer)

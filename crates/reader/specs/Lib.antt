@@ -1,2 +1,4 @@
 pub mod Reader
 pub mod Parts
+pub mod Run
+pub mod RunLaws

@@ -8,11 +8,15 @@ ghost use mathlib.Core.Path.{_≡_};
 ghost use Prim.Native.Nat.{_≤_, _<_, _-_};
 ghost use lib.ListN.{length};
 ghost use Rattle.line_code.specs.declared.LineKind.{LineKind};
-ghost use Rattle.profile.specs.Profile.{bodyLength};
+ghost use Rattle.profile.specs.Profile.{bodyLength, longest};
 ghost use Rattle.stream.specs.declared.Mark.the-variants.{NoMark, Open};
 ghost use Rattle.stream.specs.Answers.{outcomeOf, answerFor, bufferAfter, refused};
 ghost use Rattle.reader.specs.Reader.{isMark, slide, bump, leaveKept, leaveBody, shifted, opened, aged, windowFits, passes, freshReader, newOf, takeHead, takeOutcome, feedOf, flushed, finishOf};
 ghost use Rattle.reader.specs.Parts.{fedOf, completeOutcome, copied};
+ghost use Rattle.reader.specs.Run.{runOf, lentRunOf};
+
+mod run;
+
 use mark_answer::Kept;
 use profile::Numbered;
 use profile::Profile;
@@ -42,6 +46,20 @@ pub struct Reader {
 pub struct Fed {
     pub reader: Reader,
     pub answer: Answer,
+}
+
+// A reader after a run of nibbles, the run's answer, and how many nibbles it took.
+pub struct Ran {
+    pub reader: Reader,
+    pub answer: Answer,
+    pub taken: usize,
+}
+
+// The same of a reader whose body is lent.
+pub struct LentRan {
+    pub head: Head,
+    pub answer: Answer,
+    pub taken: usize,
 }
 
 impl Reader {
@@ -102,6 +120,25 @@ impl Reader {
         Fed { reader, answer }
     }
 
+    // Takes a run of nibbles up to the first answer. Refused: 11, 12, in this order, before anything is taken; then 10, where an input
+    // above 15 stops the run: what stands before it is taken.
+    pub fn run(self, nibbles: &[u8], buffer: &mut [u8]) -> Ran
+        ensures { λ r. ⌜ (r .reader ≡ runOf self (now (nibbles .entry)) (length (now (buffer .entry))) .reader) × (r .taken ≡ runOf self (now (nibbles .entry)) (length (now (buffer .entry))) .taken) × (outcomeOf (self .head .profile) (r .answer) (now (buffer .exit)) ≡ runOf self (now (nibbles .entry)) (length (now (buffer .entry))) .outcome) × (now (buffer .exit) ≡ bufferAfter (runOf self (now (nibbles .entry)) (length (now (buffer .entry))) .outcome) (now (buffer .entry))) ⌝ }
+    {
+        let h = self.head;
+        let mut body = self.body;
+        let t = h.run(&mut body, nibbles, buffer);
+        let head = t.head;
+        let answer = t.answer;
+        let taken = t.taken;
+        let reader = Reader { head, body };
+        Ran {
+            reader,
+            answer,
+            taken,
+        }
+    }
+
     // Answers the last mark, if there is one, and leaves a fresh reader. Refused: 11, and then the reader stays as it was.
     pub fn finish(self) -> Fed
         ensures { λ r. ⌜ (r .reader ≡ finishOf self .reader) × (r .answer ≡ answerFor (finishOf self .outcome)) ⌝ }
@@ -125,6 +162,24 @@ impl Reader {
 }
 
 impl Head {
+    // A run of nibbles of the reader whose body is lent, so that calls in a row copy no body. Refused as Reader::run is, and 11 also where
+    // the lent body is not as long as the longest.
+    pub fn run(self, body: &mut [u8], nibbles: &[u8], buffer: &mut [u8]) -> LentRan
+        ensures { λ r. ⌜ (r .head ≡ lentRunOf self (now (body .entry)) (now (nibbles .entry)) (length (now (buffer .entry))) .reader .head) × (r .taken ≡ lentRunOf self (now (body .entry)) (now (nibbles .entry)) (length (now (buffer .entry))) .taken) × (outcomeOf (self .profile) (r .answer) (now (buffer .exit)) ≡ lentRunOf self (now (body .entry)) (now (nibbles .entry)) (length (now (buffer .entry))) .outcome) × (now (body .exit) ≡ lentRunOf self (now (body .entry)) (now (nibbles .entry)) (length (now (buffer .entry))) .reader .body) × (now (buffer .exit) ≡ bufferAfter (lentRunOf self (now (body .entry)) (now (nibbles .entry)) (length (now (buffer .entry))) .outcome) (now (buffer .entry))) ⌝ }
+    {
+        if body.len() != Profile::LONGEST {
+            return run::refuse(self, refusal::BAD_STATE);
+        }
+        if self.passes() {
+            let p = self.profile;
+            if buffer.len() < p.body_length() {
+                return run::refuse(self, refusal::NO_ROOM);
+            }
+            return run::up_to_stop(self, body, nibbles, buffer);
+        }
+        run::refuse(self, refusal::BAD_STATE)
+    }
+
     // The reader's own test: constant time, and no look at the body.
     pub fn passes(self) -> bool
         ensures { λ r. ⌜ r ≡ passes self ⌝ }
@@ -166,7 +221,8 @@ struct Stepped {
 }
 
 // Feeding, with the body beside the rest of the state.
-fn step(h: Head, body: &mut [u8; 356], nibble: u8, buffer: &mut [u8]) -> Stepped
+fn step(h: Head, body: &mut [u8], nibble: u8, buffer: &mut [u8]) -> Stepped
+    requires { ⌜ length (now body) ≡ longest ⌝ }
     ensures { λ r. ⌜ (r .head ≡ fedOf h (now (body .entry)) nibble (now (buffer .entry)) .reader .head) × (r .answer ≡ answerFor (fedOf h (now (body .entry)) nibble (now (buffer .entry)) .outcome)) × (now (body .exit) ≡ fedOf h (now (body .entry)) nibble (now (buffer .entry)) .reader .body) × (now (buffer .exit) ≡ bufferAfter (fedOf h (now (body .entry)) nibble (now (buffer .entry)) .outcome) (now (buffer .entry))) ⌝ }
 {
     if h.passes() {
@@ -190,8 +246,8 @@ fn refuse(h: Head, number: u8) -> Stepped
 }
 
 // Takes a nibble: the oldest of a full window leaves it, and a mark is complete or not.
-fn take(h: Head, body: &mut [u8; 356], nibble: u8, buffer: &mut [u8]) -> Stepped
-    requires { ⌜ (nibble < 16) × (bodyLength (h .profile) ≤ length (now buffer)) ⌝ }
+fn take(h: Head, body: &mut [u8], nibble: u8, buffer: &mut [u8]) -> Stepped
+    requires { ⌜ (nibble < 16) × (bodyLength (h .profile) ≤ length (now buffer)) × (length (now body) ≡ longest) ⌝ }
     ensures { λ r. ⌜ (r .head ≡ takeHead h nibble) × (r .answer ≡ answerFor (takeOutcome h (now (body .entry)) nibble)) × (now (body .exit) ≡ leaveBody h (now (body .entry))) × (now (buffer .exit) ≡ bufferAfter (takeOutcome h (now (body .entry)) nibble) (now (buffer .entry))) ⌝ }
 {
     leave_body(h, body);
@@ -205,8 +261,8 @@ fn take(h: Head, body: &mut [u8; 356], nibble: u8, buffer: &mut [u8]) -> Stepped
 }
 
 // A mark with this code is complete: the mark before it is answered, and a line handed out.
-fn complete(h: Head, body: &[u8; 356], code: u8, buffer: &mut [u8]) -> Stepped
-    requires { ⌜ bodyLength (h .profile) ≤ length (now buffer) ⌝ }
+fn complete(h: Head, body: &[u8], code: u8, buffer: &mut [u8]) -> Stepped
+    requires { ⌜ (bodyLength (h .profile) ≤ length (now buffer)) × (length (now body) ≡ longest) ⌝ }
     ensures { λ r. ⌜ (r .head ≡ opened h code) × (r .answer ≡ answerFor (completeOutcome h (now (body .entry)) code)) × (now (buffer .exit) ≡ bufferAfter (completeOutcome h (now (body .entry)) code) (now (buffer .entry))) ⌝ }
 {
     let p = h.profile;
@@ -229,14 +285,13 @@ fn text_length(count: u32) -> u32
 }
 
 // A line's body goes to the front of the buffer.
-fn hand_out(p: Profile, answer: Answer, body: &[u8; 356], buffer: &mut [u8])
-    requires { ⌜ bodyLength p ≤ length (now buffer) ⌝ }
+fn hand_out(p: Profile, answer: Answer, body: &[u8], buffer: &mut [u8])
+    requires { ⌜ (bodyLength p ≤ length (now buffer)) × (length (now body) ≡ longest) ⌝ }
     ensures { λ _. ⌜ now (buffer .exit) ≡ bufferAfter (outcomeOf p answer (now (body .entry))) (now (buffer .entry)) ⌝ }
 {
-    let all: &[u8] = body;
     match answer {
         Answer::Nothing => {}
-        Answer::Line(_) => copy_front(buffer, all, p.body_length()),
+        Answer::Line(_) => copy_front(buffer, body, p.body_length()),
         Answer::Gap(_, _) => {}
         Answer::Refused(_) => {}
     }
@@ -283,7 +338,7 @@ fn leave_kept(h: Head) -> Kept
     kept.commit(p, h.count - WINDOW, h.window)
 }
 
-fn leave_body(h: Head, body: &mut [u8; 356])
+fn leave_body(h: Head, body: &mut [u8])
     ensures { λ _. ⌜ now (body .exit) ≡ leaveBody h (now (body .entry)) ⌝ }
 {
     if h.count < WINDOW {

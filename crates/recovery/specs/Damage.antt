@@ -23,7 +23,7 @@ use Rattle.recovery.specs.ReadBack.{seven, outcomes-append, comes-back}
 
 -- Lines among outcomes.
 
-line-in-append : (o : Outcome) (k l : List LineOut) → lineIn o (k ++ l) ≡ lineIn o k ++ l
+pub line-in-append : (o : Outcome) (k l : List LineOut) → lineIn o (k ++ l) ≡ lineIn o k ++ l
 line-in-append nothing k l = refl
 line-in-append (line x n r b) k l = refl
 line-in-append (gap a b) k l = refl

@@ -4,6 +4,8 @@ pub mod Sound
 pub mod Passes
 pub mod Refine
 pub mod ReaderCalls
+pub mod Runs
+pub mod RunsLaws
 pub mod Agree
 pub mod Equivalent
 pub mod Reachable

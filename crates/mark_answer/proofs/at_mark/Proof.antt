@@ -36,17 +36,17 @@ returns c = simp (c .enum-told .given .1)
 
 returns-2 : tie.Need-returns-2
 returns-2 c =
-    let a = c .before .before .before .before .before .before .before .before .args in
+    let a = c .before .before .before .before .before .before .before .before .before .args in
     simp (by-reading (a .profile) (a .length) (a .kept) (now (a .body)) (some (a .next)) (c .before .before .before .before .before .before .mark .given .1) (c .before .before .before .before .read .ensures), c .before .before .reading .given .1, c .meaning-answer .ensures)
 
 returns-3 : tie.Need-returns-3
 returns-3 c =
-    let a = c .before .before .before .before .before .before .before .before .args in
+    let a = c .before .before .before .before .before .before .before .before .before .args in
     simp (by-reading (a .profile) (a .length) (a .kept) (now (a .body)) (some (a .next)) (c .before .before .before .before .before .before .mark .given .1) (c .before .before .before .before .read .ensures), c .before .before .reading2 .given .1, c .meaning-answer2 .ensures)
 
 returns-4 : tie.Need-returns-4
 returns-4 c =
-    let a = c .before .before .before .before .before .before .args in
+    let a = c .before .before .before .before .before .before .before .args in
     simp (by-reading (a .profile) (a .length) (a .kept) (now (a .body)) (some (a .next)) (c .before .before .before .before .mark .given .1) (c .before .before .read .ensures), c .enum-told2 .given .1)
 
 pub at-mark-spec : {M : Type 1} → statement M

@@ -1,17 +1,40 @@
-use mathlib.Core.Path.{sym}
+use mathlib.Core.Path.{_≡_, refl, sym, _∙_}
+use mathlib.Core.Bool.{Bool, true, false}
+use mathlib.Core.List.{List}
+use Prim.Native.Nat.{ℕ, _<_}
 use native.Mathlib.Omega.{arith}
+use lib.ListN.{length, take, length-take}
 use lib.Seq.{length-take-le}
-use Rattle.profile.specs.LayoutLaws.{body-small}
+use denote.Ref.{now}
+use Rattle.line_code.specs.declared.Kind.{Kind}
+use Rattle.profile.specs.declared.Profile.{Profile}
+use Rattle.profile.specs.Profile.{bodyLength}
+use Rattle.profile.specs.Layout.{rules, fits}
+use Rattle.profile.specs.LayoutLaws.{rules-length, fits-length}
 use Rattle.stream.specs.Answers.{require}
 use borrow.Author.Needs.{needs}
 use Rattle.mark_answer.proofs.body_answer.Statement.{statement}
 use Rattle.mark_answer.proofs.body_answer.Tie as tie
 
+-- a body that is too short doesn't fit
+short : (p : Profile) (k : Kind) (body : List ℕ) → length body < bodyLength p → fits (rules p k) (take (bodyLength p) body) ≡ false
+short p k body h = go (fits (rules p k) (take (bodyLength p) body)) refl
+  where
+    go : (t : Bool) → fits (rules p k) (take (bodyLength p) body) ≡ t → t ≡ false
+    go false e = refl
+    go true e = absurd (omega (arith, fits-length (rules p k) _ e ∙ rules-length p k, length-take (bodyLength p) body, h))
+
 body-length-requires : tie.Need-body-length-requires
 body-length-requires c κs = search needs
 
+returns : tie.Need-returns
+unfolding require
+returns c =
+    let a = c .before .before .before .args in
+    simp (short (a .profile) (a .kind) (now (a .body)) (omega (arith, c .if1 .taken, c .before .body-length .ensures)))
+
 slice-aggregate-body-fits : tie.Need-slice-aggregate-body-fits
-slice-aggregate-body-fits c = sym (length-take-le _ _ (omega (arith, c .before .before .body-length .ensures, body-small (c .before .before .before .args .profile))))
+slice-aggregate-body-fits c = sym (length-take-le _ _ (c .before .if1 .left))
 
 body-fits-requires : tie.Need-body-fits-requires
 body-fits-requires c κs = search needs
@@ -28,29 +51,30 @@ is-repaired-requires c κs = search needs
 either-requires : tie.Need-either-requires
 either-requires c κs = search needs
 
-returns : tie.Need-returns
-unfolding require
-returns c = simp (← c .before .before .before .before .before .before .before .before .before .body-length .ensures, ← c .before .before .before .before .before .before .body-fits .ensures, c .before .before .before .before .before .if1 .taken, ← c .before .before .before .before .read .ensures, ← c .before .before .before .is-end .ensures, c .before .before .if2 .taken, c .either .ensures, c .before .is-repaired .ensures)
-
 returns-2 : tie.Need-returns-2
 unfolding require
-returns-2 c = simp (← c .before .before .before .before .before .before .before .body-length .ensures, ← c .before .before .before .before .body-fits .ensures, c .before .before .before .if1 .taken, ← c .before .before .read .ensures, ← c .before .is-end .ensures, c .if2 .left)
+returns-2 c = simp (← c .before .before .before .before .before .before .before .before .before .body-length .ensures, ← c .before .before .before .before .before .before .body-fits .ensures, c .before .before .before .before .before .if2 .taken, ← c .before .before .before .before .read .ensures, ← c .before .before .before .is-end .ensures, c .before .before .if3 .taken, c .either .ensures, c .before .is-repaired .ensures)
 
 returns-3 : tie.Need-returns-3
 unfolding require
-returns-3 c = simp (← c .before .before .before .before .body-length .ensures, ← c .before .body-fits .ensures, c .if1 .left)
+returns-3 c = simp (← c .before .before .before .before .before .before .before .body-length .ensures, ← c .before .before .before .before .body-fits .ensures, c .before .before .before .if2 .taken, ← c .before .before .read .ensures, ← c .before .is-end .ensures, c .if3 .left)
+
+returns-4 : tie.Need-returns-4
+unfolding require
+returns-4 c = simp (← c .before .before .before .before .body-length .ensures, ← c .before .body-fits .ensures, c .if2 .left)
 
 pub body-answer-spec : {M : Type 1} → statement M
 body-answer-spec =
     tie.close
     (tie.spec
     body-length-requires
+    returns
     slice-aggregate-body-fits
     body-fits-requires
     read-requires
     is-end-requires
     is-repaired-requires
     either-requires
-    returns
     returns-2
-    returns-3)
+    returns-3
+    returns-4)

@@ -30,13 +30,13 @@ body-length-requires : tie.Need-body-length-requires
 body-length-requires c κs = search needs
 
 mul-wanted : tie.Need-mul-wanted
-mul-wanted c = omega (arith, c .body-length .ensures, body-small (c .before .args .profile))
+mul-wanted c = omega (arith, c .body-length .ensures, body-small (c .before .before .args .profile))
 
 cast-wanted : tie.Need-cast-wanted
 cast-wanted c = search needs
 
 add-wanted : tie.Need-add-wanted
-add-wanted c = omega (arith, c .body-length .ensures, body-small (c .before .args .profile))
+add-wanted c = omega (arith, c .body-length .ensures, body-small (c .before .before .args .profile))
 
 decode-requires : tie.Need-decode-requires
 decode-requires c κs = search needs
@@ -53,14 +53,14 @@ enum-told c = search needs
 returns : tie.Need-returns
 unfolding require
 returns c =
-    let t = c .before .before .before .before .before .before .before .args .kept in
+    let t = c .before .before .before .before .before .before .before .before .args .kept in
     let k = known (t .first) (t .second) _ (sym (c .before .before .before .before .decode .ensures) ∙ c .before .before .d .given .1) in
     simp (← c .before .before .before .before .before .before .body-length .ensures, eq-eqb _ _ (c .before .before .before .before .before .if1 .taken), k .0, k .1, c .body-answer .ensures)
 
 returns-2 : tie.Need-returns-2
 unfolding require
 returns-2 c =
-    let t = c .before .before .before .before .before .args .kept in
+    let t = c .before .before .before .before .before .before .args .kept in
     let k = unknown (t .first) (t .second) (sym (c .before .before .decode .ensures) ∙ c .enum-told .given .1) in
     simp (← c .before .before .before .before .body-length .ensures, eq-eqb _ _ (c .before .before .before .if1 .taken), k)
 

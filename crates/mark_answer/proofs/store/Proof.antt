@@ -1,8 +1,21 @@
+use lib.Seq.{set-out}
 use borrow.Author.Tests.{lt-ltb, le-ltb, le-leb, lt-leb, eq-eqb, ne-eqb}
-use Rattle.mark_answer.specs.Kept.{bodyAt}
+use Prim.Native.Nat.{ℕ, _-_, _/_, _%_}
+use mathlib.Core.Path.{_≡_, refl, sym}
+use mathlib.Core.Bool.{Bool, true, false, cond}
+use mathlib.Core.List.{List}
+use denote.Ref.{now}
+use lib.ListN.{getD, set}
+use lib.Dec.{eqb}
+use Rattle.mark_answer.specs.Kept.{bodyAt, bodyPlace, topPlace}
 use borrow.Author.Needs.{needs}
 use Rattle.mark_answer.proofs.store.Statement.{statement}
 use Rattle.mark_answer.proofs.store.Tie as tie
+
+-- what is put past a list's end changes nothing
+either-out : (t : Bool) (b x y : List ℕ) → x ≡ b → y ≡ b → b ≡ cond t x y
+either-out true b x y e f = sym e
+either-out false b x y e f = sym f
 
 returns : tie.Need-returns
 unfolding bodyAt
@@ -11,35 +24,51 @@ returns c = simp (lt-leb _ _ (c .if1 .taken))
 cast-i : tie.Need-cast-i
 cast-i c = search needs
 
+returns-2 : tie.Need-returns-2
+unfolding bodyAt
+returns-2 c = simp (le-leb _ _ (c .before .if1 .left), le-ltb _ _ (c .if2 .taken))
+
+returns-3 : tie.Need-returns-3
+unfolding bodyAt
+returns-3 c =
+    let a = c .before .before .before .before .args in
+    let i : ℕ = (a .place - bodyPlace) / 2 in
+    let b : List ℕ = now (a .body) in
+    let out = c .if3 .taken in
+    simp (le-leb _ _ (c .before .before .if1 .left), lt-ltb _ _ (c .before .if2 .left))
+    (either-out (eqb (a .place % 2) 0) b _ _ (set-out b i _ out) (set-out b i _ out))
+
 top-requires : tie.Need-top-requires
 top-requires c κs = search needs
 
 mul-body : tie.Need-mul-body
 mul-body c = search needs
 
-element-write-body : tie.Need-element-write-body
-element-write-body c = search needs
+slice-write-body : tie.Need-slice-write-body
+slice-write-body c = search needs
 
-element-copy-out-with-low : tie.Need-element-copy-out-with-low
-element-copy-out-with-low c = search needs
+slice-read-with-low : tie.Need-slice-read-with-low
+slice-read-with-low c = search needs
 
 with-low-requires : tie.Need-with-low-requires
 with-low-requires c κs = search needs
 
-element-write-body-2 : tie.Need-element-write-body-2
-element-write-body-2 c = search needs
+slice-write-body-2 : tie.Need-slice-write-body-2
+slice-write-body-2 c = search needs
 
-returns-2 : tie.Need-returns-2
-unfolding bodyAt
-returns-2 c = simp (le-leb _ _ (c .before .before .before .if1 .left), lt-ltb _ _ (c .before .before .if2 .taken), eq-eqb _ _ (c .if3 .taken), c .before .top .ensures .0)
-
-returns-3 : tie.Need-returns-3
-unfolding bodyAt
-returns-3 c = simp (le-leb _ _ (c .before .before .before .before .before .if1 .left), lt-ltb _ _ (c .before .before .before .before .if2 .taken), ne-eqb _ _ (c .before .before .if3 .left), c .with-low .ensures, c .before .before .before .top .ensures .0)
+same-length : tie.Need-same-length
+same-length c = search needs
 
 returns-4 : tie.Need-returns-4
 unfolding bodyAt
-returns-4 c = simp (le-leb _ _ (c .before .if1 .left), le-ltb _ _ (c .if2 .left))
+returns-4 c = simp (le-leb _ _ (c .before .before .before .before .if1 .left), lt-ltb _ _ (c .before .before .before .if2 .left), eq-eqb _ _ (c .if4 .taken), c .before .top .ensures .0)
+
+same-length-2 : tie.Need-same-length-2
+same-length-2 c = search needs
+
+returns-5 : tie.Need-returns-5
+unfolding bodyAt
+returns-5 c = simp (le-leb _ _ (c .before .before .before .before .before .before .if1 .left), lt-ltb _ _ (c .before .before .before .before .before .if2 .left), ne-eqb _ _ (c .before .before .if4 .left), c .with-low .ensures, c .before .before .before .top .ensures .0)
 
 pub store-spec : {M : Type 1} → statement M
 store-spec =
@@ -47,12 +76,15 @@ store-spec =
     (tie.spec
     returns
     cast-i
-    top-requires
-    mul-body
-    element-write-body
-    element-copy-out-with-low
-    with-low-requires
-    element-write-body-2
     returns-2
     returns-3
-    returns-4)
+    top-requires
+    mul-body
+    slice-write-body
+    slice-read-with-low
+    with-low-requires
+    slice-write-body-2
+    same-length
+    returns-4
+    same-length-2
+    returns-5)

@@ -40,15 +40,18 @@ take-requires c κs = search needs
 same-length : tie.Need-same-length
 same-length c = search needs
 
+same-length-2 : tie.Need-same-length-2
+same-length-2 c = search needs
+
 returns-3 : tie.Need-returns-3
 unfolding feedOf
 returns-3 c =
-    let v = c .before .before .before .before .before .before .before .before .before .passes .ensures in
-    let t = c .before .before .before .before .before .before .before .before .if1 .taken in
-    let n = le-leb _ _ (c .before .before .before .before .before .before .before .if2 .left) in
-    let l = c .before .before .before .before .before .before .body-length .ensures in
-    let m = le-leb _ _ (c .before .before .before .before .before .if3 .left) in
-    let e = c .before .before .take .ensures in
+    let v = c .before .before .before .before .before .before .before .before .before .before .before .passes .ensures in
+    let t = c .before .before .before .before .before .before .before .before .before .before .if1 .taken in
+    let n = le-leb _ _ (c .before .before .before .before .before .before .before .before .before .if2 .left) in
+    let l = c .before .before .before .before .before .before .before .before .body-length .ensures in
+    let m = le-leb _ _ (c .before .before .before .before .before .before .before .if3 .left) in
+    let e = c .before .before .before .before .take .ensures in
     (simp (← v, t, n, ← l, m, e .0), simp (← v, t, n, ← l, m, e .1), simp (← v, t, n, ← l, m, e .2), simp (← v, t, n, ← l, m, e .3))
 
 refuse-requires-3 : tie.Need-refuse-requires-3
@@ -73,6 +76,7 @@ step-spec =
     returns-2
     take-requires
     same-length
+    same-length-2
     returns-3
     refuse-requires-3
     returns-4)

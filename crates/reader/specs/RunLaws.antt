@@ -1,0 +1,75 @@
+-- A run, step by step: what is left of it after each nibble.
+use mathlib.Core.Path.{_≡_, refl, sym, ap, _∙_}
+use mathlib.Core.Bool.{Bool, true, false, cond}
+use mathlib.Core.List.{List, [], _∷_}
+use Prim.Native.Nat.{ℕ, suc, _+_, _≤_, _<_}
+use native.Mathlib.Nat.{zero-add, add-zero}
+use native.Mathlib.Numerals.{add-one}
+use native.Mathlib.Omega.{arith}
+use borrow.Author.Tests.{le-leb, lt-leb}
+use lib.Dec.{leb}
+use lib.ListN.{length, take, drop, getD, drop-of-length-le}
+use lib.Seq.{drop-cons}
+use Rattle.refusal.specs.Refusal.{notANibble}
+use Rattle.stream.specs.Answers.{Outcome, nothing, line, gap, refused}
+use Rattle.reader.specs.declared.Reader.{Reader}
+use Rattle.reader.specs.Reader.{Took, taking}
+use Rattle.reader.specs.Run.{Ran, ran, isAnswer, stops, stopPlace, takingAll, stopping, upToStop}
+
+-- a run of which i nibbles are taken, from there on
+abbrev pub onward : Reader → List ℕ → ℕ → Ran
+onward r [] i = ran r nothing i
+onward r (n ∷ w) i =
+    cond (leb n 15)
+    (cond (isAnswer (taking r n .outcome))
+    (ran (taking r n .reader) (taking r n .outcome) (i + 1))
+    (onward (taking r n .reader) w (i + 1)))
+    (ran r (refused notANibble) i)
+
+-- it is a run up to its stop
+onward-stops : (w : List ℕ) (r : Reader) (i : ℕ)
+    → onward r w i ≡ stopping (takingAll r (take (stopPlace r w) w)) (drop (stopPlace r w) w) (i + stopPlace r w)
+unfolding stops
+onward-stops [] r i = ap (ran r nothing) (sym (add-zero i))
+onward-stops (n ∷ w) r i = go (leb n 15) (isAnswer (taking r n .outcome)) refl refl (onward-stops w (taking r n .reader) (i + 1))
+  where
+    t : Took
+    t = taking r n
+
+    p : ℕ
+    p = stopPlace (t .reader) w
+
+    go : (a b : Bool) → leb n 15 ≡ a → isAnswer (t .outcome) ≡ b
+        → onward (t .reader) w (i + 1) ≡ stopping (takingAll (t .reader) (take p w)) (drop p w) (i + 1 + p)
+        → onward r (n ∷ w) i
+        ≡ stopping (takingAll r (take (stopPlace r (n ∷ w)) (n ∷ w))) (drop (stopPlace r (n ∷ w)) (n ∷ w)) (i + stopPlace r (n ∷ w))
+    go false b e f h = simp (e, add-zero i)
+    go true true e f h = simp (e, f, add-zero i)
+    go true false e f h =
+        simp (e, f)
+        (h
+        ∙ ap (stopping (takingAll (t .reader) (take p w)) (drop p w)) (let z : i + 1 + p ≡ i + suc p = omega arith in z))
+
+pub up-to-stop : (r : Reader) (w : List ℕ) → upToStop r w ≡ onward r w 0
+up-to-stop r w =
+    ap (stopping (takingAll r (take (stopPlace r w) w)) (drop (stopPlace r w) w)) (sym (zero-add (stopPlace r w))) ∙ sym (onward-stops w r 0)
+
+-- One nibble at the place i.
+
+module _ (r : Reader) (s : List ℕ) (i : ℕ) where
+  pub onward-end : length s ≤ i → onward r (drop i s) i ≡ ran r nothing i
+  onward-end h = ap (λ l. onward r l i) (drop-of-length-le s h)
+
+  there : i < length s → onward r (drop i s) i ≡ onward r (getD s i 0 ∷ drop (i + 1) s) i
+  there h = ap (λ l. onward r l i) (drop-cons s i 0 h) ∙ ap (λ k. onward r (getD s i 0 ∷ drop k s) i) (sym (add-one i))
+
+  pub onward-above : i < length s → 15 < getD s i 0 → onward r (drop i s) i ≡ ran r (refused notANibble) i
+  onward-above h g = there h ∙ simp (lt-leb _ _ g)
+
+  pub onward-answered : i < length s → getD s i 0 < 16 → isAnswer (taking r (getD s i 0) .outcome) ≡ true
+      → onward r (drop i s) i ≡ ran (taking r (getD s i 0) .reader) (taking r (getD s i 0) .outcome) (i + 1)
+  onward-answered h g f = there h ∙ simp (le-leb (getD s i 0) 15 (omega arith), f)
+
+  pub onward-on : i < length s → getD s i 0 < 16 → isAnswer (taking r (getD s i 0) .outcome) ≡ false
+      → onward r (drop i s) i ≡ onward (taking r (getD s i 0) .reader) (drop (i + 1) s) (i + 1)
+  onward-on h g f = there h ∙ simp (le-leb (getD s i 0) 15 (omega arith), f)

@@ -1,0 +1,101 @@
+-- Lists of calls that hold runs too (02, A5), and demand 3 over them: definitions only. A run counts as its nibbles up to its stop, fed one by
+-- one with its buffer, and the input at which it stops, if there is one, as one call more.
+use mathlib.Core.Path.{_≡_}
+use mathlib.Core.Bool.{Bool, _&&_, cond}
+use mathlib.Core.List.{List, [], _∷_, _++_, map}
+use Prim.Native.Nat.{ℕ, suc, _≤_}
+use lib.Dec.{leb}
+use lib.ListN.{length, take}
+use Rattle.profile.specs.declared.Profile.{Profile}
+use Rattle.profile.specs.Profile.{bodyLength}
+use Rattle.stream.specs.Answers.{outcomeOf, answerFor, bufferAfter}
+use Rattle.stream.specs.Written.{Sent, AllWritable, stream}
+use Rattle.reader.specs.declared.Reader.{Reader}
+use Rattle.reader.specs.Reader.{passes}
+use Rattle.reader.specs.Run.{stopPlace, runOf}
+use Rattle.recovery.specs.Calls.{Call, feed, done, FinishLast, Gives, takenBy, changed, LineOut, lineIn, onRun, onTaken, onLines, DemandThree}
+use Rattle.refinement.specs.ReaderCalls.{readerCall}
+
+-- a run of inputs with the buffer lent to it; or a call as before
+pub data RunCall : Type 0 where
+  run : List ℕ → List ℕ → RunCall
+  one : Call → RunCall
+
+-- what a call gives back
+abbrev pub runGives : Reader → RunCall → Gives Reader
+runGives r (run w buffer) =
+    record {
+      reader = runOf r w (length buffer) .reader;
+      answer = answerFor (runOf r w (length buffer) .outcome);
+      buffer = bufferAfter (runOf r w (length buffer) .outcome) buffer;
+    }
+runGives r (one c) = readerCall r c
+
+-- the nibbles it takes, in front of those taken later
+abbrev pub runTakes : Reader → RunCall → List ℕ → List ℕ
+runTakes r (run w buffer) later = take (runOf r w (length buffer) .taken) w ++ later
+runTakes r (one c) later = takenBy c (readerCall r c .answer) later
+
+-- The whole list: each call gets the reader that the call before returned.
+
+abbrev pub onRuns : Reader → List RunCall → Reader
+onRuns r [] = r
+onRuns r (c ∷ cs) = onRuns (runGives r c .reader) cs
+
+-- the nibbles taken, in order
+abbrev pub runsTaken : Reader → List RunCall → List ℕ
+runsTaken r [] = []
+runsTaken r (c ∷ cs) = runTakes r c (runsTaken (runGives r c .reader) cs)
+
+-- the lines that come out, in order
+abbrev pub runsLines : Profile → Reader → List RunCall → List LineOut
+runsLines p r [] = []
+runsLines p r (c ∷ cs) = lineIn (outcomeOf p (runGives r c .answer) (runGives r c .buffer)) (runsLines p (runGives r c .reader) cs)
+
+-- One by one.
+
+-- inputs fed one by one, each with the same buffer
+abbrev pub feeds : List ℕ → List ℕ → List Call
+feeds buffer w = map (λ n. feed n buffer) w
+
+-- a run that is refused neither 11 nor 12
+abbrev pub starts : Reader → ℕ → Bool
+starts r room = passes (r .head) && leb (bodyLength (r .head .profile)) room
+
+-- the calls that a call counts as
+abbrev pub oneByOne : Reader → RunCall → List Call
+oneByOne r (run w buffer) = cond (starts r (length buffer)) (feeds buffer (take (suc (stopPlace r w)) w)) []
+oneByOne r (one c) = c ∷ []
+
+abbrev pub allOneByOne : Reader → List RunCall → List Call
+allOneByOne r [] = []
+allOneByOne r (c ∷ cs) = oneByOne r c ++ allOneByOne (runGives r c .reader) cs
+
+-- Demand 3.
+
+-- at most one finish, as the last call
+pub data FinishLastRun : List RunCall → Type 0 where
+  no-call : FinishLastRun []
+  done-last : FinishLastRun (one done ∷ [])
+  feed-first : {n : ℕ} {buffer : List ℕ} {cs : List RunCall} → FinishLastRun cs → FinishLastRun (one (feed n buffer) ∷ cs)
+  run-first : {w : List ℕ} {buffer : List ℕ} {cs : List RunCall} → FinishLastRun cs → FinishLastRun (run w buffer ∷ cs)
+
+-- a list with runs does what its calls one by one do: it leaves the same reader, takes the same nibbles, and the same lines come out
+pub record SameAsFeeds (p : Profile) (r : Reader) (cs : List RunCall) : Type 0 where
+  pub same-reader : onRuns r cs ≡ onRun readerCall r (allOneByOne r cs)
+  pub same-taken : runsTaken r cs ≡ onTaken readerCall r (allOneByOne r cs)
+  pub same-lines : runsLines p r cs ≡ onLines readerCall p r (allOneByOne r cs)
+
+-- demand 3 of the reader r over lists with runs: where they take the changed stream, they do what their calls one by one do, and of those
+-- demand 3 holds
+abbrev pub RunsMeetDemandThree : Profile → Reader → Type 0
+RunsMeetDemandThree p r =
+    (ss : List Sent)
+    → AllWritable p ss
+    → (i j : ℕ)
+    → i ≤ j
+    → j ≤ length (stream ss)
+    → (new : List ℕ) (cs : List RunCall)
+    → FinishLastRun cs
+    → runsTaken r cs ≡ changed ss i j new
+    → SameAsFeeds p r cs × DemandThree readerCall p r ss i j new (allOneByOne r cs)
