@@ -1,3 +1,4 @@
 pub mod Part
-pub mod Step
+pub mod Nibbles
+pub mod Runs
 pub mod Upto

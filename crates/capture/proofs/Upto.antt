@@ -1,119 +1,132 @@
--- A piece listed up to a byte, and on to its end or to where the buffer has too little room.
-use mathlib.Core.Path.{_≡_, refl, _∙_}
-use mathlib.Core.List.{List, [], _∷_, _++_, append-nil, append-assoc}
-use Prim.Native.Nat.{ℕ, zero, suc, _+_, _-_, _*_, _/_, _%_, _<_, _≤_}
-use native.Mathlib.Numerals.{add-one}
-use native.Mathlib.Nat.{zero-add, sub-zero, le-of-suc-le-suc, not-suc-le-zero}
+-- A piece listed up to a byte, portion by portion, and on to its end or to where the buffer has too little room.
+use mathlib.Core.Path.{_≡_, refl, _∙_, ap, ap₂, sym, subst}
+use mathlib.Core.Bool.{true, false}
+use mathlib.Core.List.{List, [], _∷_, _++_, append-assoc}
+use Prim.Native.Nat.{ℕ, zero, suc, _+_, _-_, _*_, _/_, _%_, _<_, _≤_, min}
+use native.Mathlib.Nat.{zero-add, add-zero, sub-zero}
 use native.Mathlib.Omega.{arith}
-use lib.ListN.{length, take, drop, getD, drop-of-length-le}
-use lib.Seq.{drop-cons}
+use lib.ListN.{length, take, drop, length-append, length-drop}
+use lib.Seq.{take-add, drop-drop}
 use borrow.Author.Tests.{lt-ltb, le-ltb}
 use Rattle.stream.specs.Written.{nibbles}
-use Rattle.reader.specs.declared.Fed.{Fed}
-use Rattle.tally.specs.declared.Told.{Told}
+use Rattle.reader.specs.Reader.{passes}
+use Rattle.refinement.specs.Passes.{Ok}
 use Rattle.listing.specs.Rows.{rowRoom, onFront}
 use Rattle.listing.specs.Put.{Put}
 use Rattle.listing.specs.PutLaws.{none, joined, on-front}
 use Rattle.capture.specs.declared.Lister.{Lister}
-use Rattle.capture.specs.Listed.{textOf, afterNibble, nibbleText, listAfter, listText, takenOf, listedText, listedOf}
-use Rattle.capture.proofs.Step.{Step}
+use Rattle.capture.specs.Listed.{answerTo, afterNibble, nibbleText, listAfter, listText, takenFrom, takenOf, listedText, listedOf}
+use Rattle.capture.specs.ListedLaws.{text-short}
+use Rattle.capture.proofs.Nibbles.{nibbles-append}
+use Rattle.capture.specs.Portions.{byteRoom, portionOf, Lists}
 
--- One byte more.
+-- Nibbles, and nibbles after them.
 
--- the lister after a byte, and its text
-abbrev afterByte : Lister → ℕ → Lister
-afterByte l b = afterNibble (afterNibble l (b / 16)) (b % 16)
+after-append : (v w : List ℕ) (l : Lister) → listAfter l (v ++ w) ≡ listAfter (listAfter l v) w
+after-append [] w l = refl
+after-append (n ∷ v) w l = after-append v w (afterNibble l n)
 
-abbrev byteText : Lister → ℕ → List ℕ
-byteText l b = nibbleText l (b / 16) ++ nibbleText (afterNibble l (b / 16)) (b % 16)
+text-append : (v w : List ℕ) (l : Lister) → listText l (v ++ w) ≡ listText l v ++ listText (listAfter l v) w
+text-append [] w l = refl
+text-append (n ∷ v) w l =
+    ap (λ x. nibbleText l n ++ x) (text-append v w (afterNibble l n)) ∙ sym (append-assoc (nibbleText l n) (listText (afterNibble l n) v) _)
 
-after-more :
-    (l : Lister) (bs : List ℕ) (i : ℕ)
-    → i < length bs → listAfter l (nibbles (take (suc i) bs)) ≡ afterByte (listAfter l (nibbles (take i bs))) (getD bs i 0)
-after-more l [] i h = absurd (not-suc-le-zero h)
-after-more l (b ∷ bs) zero h = refl
-after-more l (b ∷ bs) (suc i) h = after-more (afterByte l b) bs i (le-of-suc-le-suc h)
+-- How much text there can be.
 
-text-more :
-    (l : Lister) (bs : List ℕ) (i : ℕ)
-    → i < length bs
-    → listText l (nibbles (take (suc i) bs)) ≡ listText l (nibbles (take i bs)) ++ byteText (listAfter l (nibbles (take i bs))) (getD bs i 0)
-text-more l [] i h = absurd (not-suc-le-zero h)
-text-more l (b ∷ bs) zero h = simp append-nil
-text-more l (b ∷ bs) (suc i) h = rw (text-more (afterByte l b) bs i (le-of-suc-le-suc h)) (simp append-assoc)
+nibble-short : (l : Lister) (n : ℕ) → length (nibbleText l n) ≤ rowRoom
+unfolding nibbleText
+nibble-short l n = text-short (l .mode) _ (answerTo l n)
+
+byte-short : (l : Lister) (b : ℕ) → length (listText l (nibbles (b ∷ []))) ≤ byteRoom
+byte-short l b =
+    let m = afterNibble l (b / 16) in
+    let e = length-append (nibbleText l (b / 16)) (nibbleText m (b % 16) ++ []) in
+    let f = length-append (nibbleText m (b % 16)) [] in
+    let x = nibble-short l (b / 16) in
+    let y = nibble-short m (b % 16) in
+    omega arith
+
+plus-more : (i k x : ℕ) → i + (k + x) ≡ i + k + x
+plus-more i k x = omega arith
+
+suc-plus : (k x : ℕ) → suc (k + x) ≡ suc k + x
+suc-plus k x = omega arith
+
+-- a portion with room for its text is taken whole
+taken-portion : (k : ℕ) (l : Lister) (room : ℕ) (bs : List ℕ) → k ≤ length bs → k * byteRoom ≤ room
+    → takenFrom l room bs ≡ k + takenFrom (listAfter l (nibbles (take k bs))) (room - length (listText l (nibbles (take k bs)))) (drop k bs)
+taken-portion zero l room bs h g = sym (zero-add _ ∙ ap (λ (x : ℕ). takenFrom l x bs) (sub-zero room))
+taken-portion (suc k) l room [] h g = absurd (omega arith)
+taken-portion (suc k) l room (b ∷ bs) h g =
+    let m = listAfter l (nibbles (b ∷ [])) in
+    let t = listText l (nibbles (b ∷ [])) in
+    let short = byte-short l b in
+    let i = taken-portion k m (room - length t) bs (omega arith) (omega arith) in
+    let e : length (listText l (nibbles (b ∷ take k bs))) ≡ length t + length (listText m (nibbles (take k bs))) =
+    ap length (text-append (nibbles (b ∷ [])) (nibbles (take k bs)) l) ∙ length-append t _ in
+    let f : room - length t - length (listText m (nibbles (take k bs))) ≡ room - length (listText l (nibbles (b ∷ take k bs))) = omega arith in
+    simp (le-ltb room byteRoom (omega arith))
+    (ap suc (i ∙ ap (λ (x : ℕ). k + takenFrom (listAfter m (nibbles (take k bs))) x (drop k bs)) f) ∙ suc-plus k _)
 
 -- A piece up to byte i.
 
 -- a lister l has listed the first i bytes of a piece into a buffer d: the lister and the buffer then, and the bytes still to be taken
 pub record Upto (l : Lister) (bs d : List ℕ) (i : ℕ) (m : Lister) (used : ℕ) (after : List ℕ) : Type 0 where
   pub within : i ≤ length bs
-  pub lister : m ≡ listAfter l (nibbles (take i bs))
-  pub text : Put d 0 (listText l (nibbles (take i bs))) used after
-  pub rest : takenOf l (length d) bs ≡ i + takenOf m (length d - used) (drop i bs)
+  pub lister-then : m ≡ listAfter l (nibbles (take i bs))
+  pub text-then : Put d 0 (listText l (nibbles (take i bs))) used after
+  pub rest : takenFrom l (length d) bs ≡ i + takenFrom m (length d - used) (drop i bs)
+  pub sound : Ok (m .reader .head)
 
-pub start : (l : Lister) (bs d : List ℕ) → Upto l bs d 0 l 0 d
-start l bs d = record { within = omega arith; lister = refl; text = none d 0 0 (omega arith) refl; rest = simp (zero-add, sub-zero) }
+pub start : (l : Lister) (bs d : List ℕ) → Ok (l .reader .head) → Upto l bs d 0 l 0 d
+start l bs d ok =
+    record { within = omega arith; lister-then = refl; text-then = none d 0 0 (omega arith) refl; rest = simp (zero-add, sub-zero); sound = ok }
 
-taken-more :
-    (m : Lister) (room b : ℕ) (bs : List ℕ)
-    → 2 * rowRoom ≤ room → takenOf m room (b ∷ bs) ≡ suc (takenOf (afterByte m b) (room - length (byteText m b)) bs)
-taken-more m room b bs h = simp (le-ltb room (2 * rowRoom) h, append-nil)
-
-taken-full : (m : Lister) (room b : ℕ) (bs : List ℕ) → room < 2 * rowRoom → takenOf m room (b ∷ bs) ≡ 0
-taken-full m room b bs h = simp (lt-ltb room (2 * rowRoom) h)
-
-byte-more :
-    {l m : Lister} {bs d d₁ d₂ d₃ : List ℕ} {i used u₁ u₂ : ℕ}
-    → Upto l bs d i m used d₁
-    → i < length bs → 2 * rowRoom ≤ length d - used
-    → Put d₁ used (nibbleText m (getD bs i 0 / 16)) u₁ d₂
-    → Put d₂ u₁ (nibbleText (afterNibble m (getD bs i 0 / 16)) (getD bs i 0 % 16)) u₂ d₃
-    → Upto l bs d (i + 1) (afterByte m (getD bs i 0)) u₂ d₃
-byte-more {l} {m} {bs} {d} {d₁} {d₂} {d₃} {i} {used} {u₁} {u₂} p h room p₁ p₂ =
-    let b = getD bs i 0 in
-    let q = joined p₁ p₂ in
-    let e : length d - used - length (byteText m b) ≡ length d - u₂ = omega (arith, q .place) in
-    let e₁ : i + suc (takenOf (afterByte m b) (length d - u₂) (drop (suc i) bs)) ≡ i + 1 + takenOf (afterByte m b) (length d - u₂) (drop (suc i) bs) = omega arith in
+-- a portion more
+pub next-portion : {l m m′ : Lister} {bs d d₁ d₂ : List ℕ} {i used used′ : ℕ} (k : ℕ) → Upto l bs d i m used d₁ → i + k ≤ length bs
+    → k * byteRoom ≤ length d - used → Lists m (nibbles (take k (drop i bs))) m′ d₁ used used′ d₂ → Upto l bs d (i + k) m′ used′ d₂
+next-portion {l} {m} {m′} {bs} {d} {d₁} {d₂} {i} {used} {used′} k p h room q =
+    let w = nibbles (take k (drop i bs)) in
+    let e : nibbles (take (i + k) bs) ≡ nibbles (take i bs) ++ w = ap nibbles (take-add i k bs) ∙ nibbles-append (take i bs) (take k (drop i bs)) in
     record {
-      within = omega arith;
-      lister = rw (add-one i, after-more l bs i h, p .lister);
-      text = rw (add-one i, text-more l bs i h, ← p .lister) (joined (p .text) q);
-      rest = p .rest ∙ rw (drop-cons bs i 0 h, taken-more m (length d - used) b (drop (suc i) bs) room, e) (e₁ ∙ rw (add-one i) refl);
+      within = h;
+      lister-then = q .lister-after ∙ ap (λ (x : Lister). listAfter x w) (p .lister-then) ∙ sym (ap (listAfter l) e ∙ after-append (nibbles (take i bs)) w l);
+      text-then =
+          subst (λ (v : List ℕ). Put d 0 v used′ d₂)
+          (ap (λ (x : Lister). listText l (nibbles (take i bs)) ++ listText x w) (p .lister-then) ∙ sym (ap (listText l) e ∙ text-append (nibbles (take i bs)) w l))
+          (joined (p .text-then) (q .text-put));
+      rest =
+          p .rest
+          ∙ ap (λ (x : ℕ). i + x) (taken-portion k m (length d - used) (drop i bs) (omega (arith, length-drop i bs, h)) room)
+          ∙ plus-more i k _
+          ∙ ap₂ (λ (x : Lister) (y : ℕ). i + k + takenFrom x y (drop k (drop i bs))) (sym (q .lister-after))
+          (let z : length d - used - length (listText m w) ≡ length d - used′ = omega (arith, q .text-put .place) in z)
+          ∙ ap (λ (v : List ℕ). i + k + takenFrom m′ (length d - used′) v) (drop-drop k i bs);
+      sound = q .sound;
     }
-
--- a byte more, by what is told of its nibbles
-pub next-byte :
-    {l m : Lister} {bs d d₁ d₂ d₃ : List ℕ} {i used u₁ u₂ : ℕ} {r₁ r₂ : Fed} {k₁ k₂ : Told}
-    → Upto l bs d i m used d₁
-    → i < length bs → 2 * rowRoom ≤ length d - used
-    → Step m (getD bs i 0 / 16) r₁ k₁ → Put d₁ used (textOf (m .mode) k₁ (r₁ .answer)) u₁ d₂
-    → Step (record { mode = m .mode; reader = r₁ .reader; tally = k₁ .tally }) (getD bs i 0 % 16) r₂ k₂
-    → Put d₂ u₁ (textOf (m .mode) k₂ (r₂ .answer)) u₂ d₃
-    → Upto l bs d (i + 1) (record { mode = m .mode; reader = r₂ .reader; tally = k₂ .tally }) u₂ d₃
-next-byte {l} {m} {bs} {d} {d₁} {d₂} {d₃} {i} {used} {u₁} {u₂} {r₁} {r₂} {k₁} {k₂} p h room t₁ p₁ t₂ p₂ =
-    rw (t₂ .lister, t₁ .lister) (byte-more p h room (rw (t₁ .text) at p₁) (rw (t₂ .text, t₁ .lister) at p₂))
 
 -- The end.
 
 -- the piece is at its end, or the buffer has too little room: the result
-done :
-    {l m : Lister} {bs d d₁ : List ℕ} {i used : ℕ}
-    → Upto l bs d i m used d₁ → takenOf l (length d) bs ≡ i
+done : {l m : Lister} {bs d d₁ : List ℕ} {i used : ℕ} → Upto l bs d i m used d₁ → passes (l .reader .head) ≡ true → takenFrom l (length d) bs ≡ i
     → (record { lister = m; taken = i; used = used } ≡ listedOf l (length d) bs) × (d₁ ≡ onFront (listedText l (length d) bs) d)
 unfolding listedOf listedText
-done {l} {m} {bs} {d} {d₁} {i} {used} p e =
-    let f = on-front (p .text) in
-    simp e (simp (p .lister, f .0), f .1)
+done {l} {m} {bs} {d} {d₁} {i} {used} p t e =
+    let f = on-front (p .text-then) in
+    simp (t, e) (simp (p .lister-then, f .0), f .1)
 
-pub at-end :
-    {l m : Lister} {bs d d₁ : List ℕ} {i used : ℕ}
-    → Upto l bs d i m used d₁ → length bs ≤ i
+-- no portion is left: no byte, or no room for a byte's text
+pub no-portion : {l m : Lister} {bs d d₁ : List ℕ} {i used : ℕ} → Upto l bs d i m used d₁ → passes (l .reader .head) ≡ true
+    → portionOf (length bs - i) (length d - used) ≡ 0
     → (record { lister = m; taken = i; used = used } ≡ listedOf l (length d) bs) × (d₁ ≡ onFront (listedText l (length d) bs) d)
-at-end {l} {m} {bs} {d} {d₁} {i} {used} p h = done p (p .rest ∙ rw (drop-of-length-le bs {i = i} h) (omega arith))
+no-portion {l} {m} {bs} {d} {d₁} {i} {used} p t e = done p t (p .rest ∙ ap (λ (x : ℕ). i + x) (none-taken (drop i bs) (length-drop i bs)) ∙ add-zero i)
+  where
+    none-taken : (w : List ℕ) → length w ≡ length bs - i → takenFrom m (length d - used) w ≡ 0
+    none-taken [] h = refl
+    none-taken (b ∷ w) h = simp (lt-ltb (length d - used) byteRoom (omega arith))
 
-pub at-full :
-    {l m : Lister} {bs d d₁ : List ℕ} {i used : ℕ}
-    → Upto l bs d i m used d₁ → i < length bs → length d - used < 2 * rowRoom
-    → (record { lister = m; taken = i; used = used } ≡ listedOf l (length d) bs) × (d₁ ≡ onFront (listedText l (length d) bs) d)
-at-full {l} {m} {bs} {d} {d₁} {i} {used} p h full =
-    done p (p .rest ∙ rw (drop-cons bs i 0 h, taken-full m (length d - used) (getD bs i 0) (drop (suc i) bs) full) (omega arith))
+-- a reader that fails its own test: nothing is taken
+pub nothing-listed : (l : Lister) (bs d : List ℕ) → passes (l .reader .head) ≡ false
+    → (record { lister = l; taken = 0; used = 0 } ≡ listedOf l (length d) bs) × (d ≡ onFront (listedText l (length d) bs) d)
+unfolding listedOf listedText
+nothing-listed l bs d e = simp e (refl, refl)

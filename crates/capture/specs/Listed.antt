@@ -9,7 +9,7 @@ use Rattle.profile.specs.Profile.{longest}
 use Rattle.stream.specs.declared.Answer.{Answer}
 use Rattle.stream.specs.Answers.{answerFor}
 use Rattle.stream.specs.Written.{nibbles}
-use Rattle.reader.specs.Reader.{freshReader, feedOf, finishOf}
+use Rattle.reader.specs.Reader.{passes, freshReader, feedOf, finishOf}
 use Rattle.tally.specs.declared.Tally.{Tally}
 use Rattle.tally.specs.declared.Told.{Told}
 use Rattle.tally.specs.Tally.{freshTally, takeOf, closeOf, isGood}
@@ -70,12 +70,16 @@ listText l (n ∷ w) = nibbleText l n ++ listText (afterNibble l n) w
 
 -- Bytes, with a buffer.
 
--- how many bytes are taken: as long as there is room for the text of two nibbles
-abbrev pub takenOf : Lister → ℕ → List ℕ → ℕ
-takenOf l room [] = 0
-takenOf l room (b ∷ bs) =
+-- how many bytes are taken of a reader that passes its own test: as long as there is room for the text of two nibbles
+abbrev pub takenFrom : Lister → ℕ → List ℕ → ℕ
+takenFrom l room [] = 0
+takenFrom l room (b ∷ bs) =
     cond (ltb room (2 * rowRoom)) 0
-    (suc (takenOf (listAfter l (nibbles (b ∷ []))) (room - length (listText l (nibbles (b ∷ [])))) bs))
+    (suc (takenFrom (listAfter l (nibbles (b ∷ []))) (room - length (listText l (nibbles (b ∷ [])))) bs))
+
+-- none of any other
+abbrev pub takenOf : Lister → ℕ → List ℕ → ℕ
+takenOf l room bs = cond (passes (l .reader .head)) (takenFrom l room bs) 0
 
 -- the nibbles of the bytes that are taken
 abbrev pub takenNibbles : Lister → ℕ → List ℕ → List ℕ

@@ -1,12 +1,12 @@
 -- How much of a piece is taken, and how long a text can be.
 use mathlib.Core.Bool.{Bool, true, false, cond}
 use mathlib.Core.List.{List, [], _∷_}
-use Prim.Native.Nat.{ℕ, suc, _-_, _*_, _<_, _≤_}
+use Prim.Native.Nat.{ℕ, suc, _-_, _*_, _≤_}
 use native.Mathlib.Omega.{arith}
 use lib.Dec.{ltb}
 use lib.ListN.{length}
-use borrow.Author.Tests.{le-ltb}
 use Rattle.stream.specs.Written.{nibbles}
+use Rattle.reader.specs.Reader.{passes}
 use Rattle.stream.specs.declared.Answer.{Answer}
 use Rattle.tally.specs.declared.Told.{Told}
 use Rattle.listing.specs.Rows.{rowRoom}
@@ -15,22 +15,25 @@ use Rattle.listing.specs.FramesLaws.{news-short}
 use Rattle.capture.specs.declared.Mode.{Mode}
 use Rattle.capture.specs.declared.Mode.the-variants.{Rows, Frames}
 use Rattle.capture.specs.declared.Lister.{Lister}
-use Rattle.capture.specs.Listed.{textOf, listAfter, listText, takenOf}
+use Rattle.capture.specs.Listed.{textOf, listAfter, listText, takenFrom, takenOf}
 
 -- no more than there are
-pub taken-within : (l : Lister) (room : ℕ) (bs : List ℕ) → takenOf l room bs ≤ length bs
-taken-within l room [] = omega arith
-taken-within l room (b ∷ bs) =
-    either (ltb room (2 * rowRoom)) (taken-within (listAfter l (nibbles (b ∷ []))) (room - length (listText l (nibbles (b ∷ [])))) bs)
+
+from-within : (l : Lister) (room : ℕ) (bs : List ℕ) → takenFrom l room bs ≤ length bs
+from-within l room [] = omega arith
+from-within l room (b ∷ bs) =
+    either (ltb room (2 * rowRoom)) (from-within (listAfter l (nibbles (b ∷ []))) (room - length (listText l (nibbles (b ∷ [])))) bs)
   where
     either : (full : Bool) {n : ℕ} → n ≤ length bs → cond full 0 (suc n) ≤ suc (length bs)
     either true h = omega arith
     either false h = omega arith
 
--- at least one, of a buffer with room for the text of a byte
-pub taken-some : (l : Lister) (room : ℕ) (bs : List ℕ) → 2 * rowRoom ≤ room → 0 < length bs → 0 < takenOf l room bs
-taken-some l room [] h some = omega arith
-taken-some l room (b ∷ bs) h some = rw (le-ltb room (2 * rowRoom) h) (omega arith)
+pub taken-within : (l : Lister) (room : ℕ) (bs : List ℕ) → takenOf l room bs ≤ length bs
+taken-within l room bs = either (passes (l .reader .head)) (from-within l room bs)
+  where
+    either : (b : Bool) {n : ℕ} → n ≤ length bs → cond b n 0 ≤ length bs
+    either true h = h
+    either false h = omega arith
 
 -- no text of an answer is longer than the room that is asked for it
 pub text-short : (m : Mode) (d : Told) (a : Answer) → length (textOf m d a) ≤ rowRoom

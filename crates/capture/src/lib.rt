@@ -2,19 +2,27 @@
 //
 // In: the bytes of a capture, piece after piece, each byte its two nibbles, the high one first; finish at the end. Out: the text of the
 // marks that are answered, at the front of a lent buffer, and how many bytes were taken and used. A piece is taken as far as the buffer
-// has room for the text of one byte more. Nothing is refused. Cost: that of feeding the reader, and linear in the text.
+// has room for the text of one byte more. Nothing is refused. Cost: that of the reader's runs, and linear in the text.
 ghost use mathlib.Core.Path.{_≡_};
-ghost use Prim.Native.Nat.{_+_, _≤_};
-ghost use lib.ListN.{length};
+ghost use mathlib.Core.List.{_++_};
+ghost use Prim.Native.Nat.{_+_, _*_, _/_, _≤_, _<_, min};
+ghost use lib.ListN.{length, drop};
+ghost use Rattle.profile.specs.Profile.{longest};
+ghost use Rattle.stream.specs.Written.{nibbles};
+ghost use Rattle.reader.specs.Reader.{passes};
+ghost use Rattle.refinement.specs.Window.{Small};
+ghost use Rattle.refinement.specs.Passes.{Byte, Ok};
 ghost use Rattle.tally.specs.Tally.{isGood};
 ghost use Rattle.listing.specs.Rows.{rowOf, rowRoom, ifRoom, onFront};
 ghost use Rattle.listing.specs.Frames.{newsLine, summaryLines};
 ghost use Rattle.listing.specs.Put.{Put};
+ghost use Rattle.capture.specs.Portions.{byteRoom, portionOf, lister, Lists};
 ghost use Rattle.capture.specs.Listed.{freshLister, headText, textOf, reportOf, listedOf, listedText, finishedOf, lastText};
 use profile::Profile;
-use reader::Fed;
+use reader::Head;
 use reader::Reader;
 use stream::Answer;
+use stream::Mark;
 use tally::News;
 use tally::Tally;
 use tally::Told;
@@ -64,61 +72,54 @@ impl Lister {
         }
     }
 
-    // Lists the bytes of a piece, as far as the buffer has room.
+    // Lists the bytes of a piece, as far as the buffer has room. A reader that fails its own test takes nothing.
     pub fn list(self, input: &[u8], out: &mut [u8]) -> Listed
         ensures { λ r. ⌜ (r ≡ listedOf self (length (now (out .entry))) (now (input .entry))) × (now (out .exit) ≡ onFront (listedText self (length (now (out .entry))) (now (input .entry))) (now (out .entry))) ⌝ }
     {
         let mode = self.mode;
-        let mut line = [0u8; Profile::LONGEST];
         let reader = self.reader;
-        let answer = Answer::Nothing;
-        let mut fed = Fed { reader, answer };
-        let tally = self.tally;
-        let news = News::Nothing;
-        let mut told = Told { tally, news };
-        let mut used: usize = 0;
-        let mut i: usize = 0;
-        while i < input.len() {
-            if out.len() - used < BYTE {
-                let reader = fed.reader;
-                let tally = told.tally;
-                let lister = Lister {
+        let mut head = reader.head;
+        if is_sound(head) {
+            let mut body = reader.body;
+            let mut line = [0u8; Profile::LONGEST];
+            let mut tally = self.tally;
+            let mut used: usize = 0;
+            let mut i: usize = 0;
+            let mut n = portion(input.len(), out.len());
+            while 0 < n {
+                let end = i + n;
+                let t = list_portion(
                     mode,
-                    reader,
+                    head,
+                    &mut body,
                     tally,
-                };
-                return Listed {
-                    lister,
-                    taken: i,
+                    &input[i..end],
+                    &mut line,
+                    out,
                     used,
-                };
+                );
+                head = t.head;
+                tally = t.tally;
+                used = t.used;
+                i = end;
+                n = portion(input.len() - i, out.len() - used);
             }
-            let byte = input[i];
-            let reader = fed.reader;
-            fed = reader.feed(byte / 16, &mut line);
-            let answer = fed.answer;
-            let tally = told.tally;
-            told = tally.take(answer);
-            used = put_text(mode, told, answer, out, used);
-            let reader = fed.reader;
-            fed = reader.feed(byte % 16, &mut line);
-            let answer = fed.answer;
-            let tally = told.tally;
-            told = tally.take(answer);
-            used = put_text(mode, told, answer, out, used);
-            i += 1;
+            let reader = Reader { head, body };
+            let lister = Lister {
+                mode,
+                reader,
+                tally,
+            };
+            return Listed {
+                lister,
+                taken: i,
+                used,
+            };
         }
-        let reader = fed.reader;
-        let tally = told.tally;
-        let lister = Lister {
-            mode,
-            reader,
-            tally,
-        };
         Listed {
-            lister,
-            taken: i,
-            used,
+            lister: self,
+            taken: 0,
+            used: 0,
         }
     }
 
@@ -160,6 +161,101 @@ impl Lister {
 
 // Room for the text of one byte: each of its nibbles can bring an answer.
 pub const BYTE: usize = 2 * listing::ROW;
+
+// The most bytes whose nibbles are fed at once.
+const PORTION: usize = 256;
+
+// How many bytes are fed at once: as many as there are, as a buffer's room has text for, and no more than a portion.
+fn portion(bytes: usize, room: usize) -> usize
+    ensures { λ r. ⌜ r ≡ portionOf bytes room ⌝ }
+{
+    let most = room / BYTE;
+    if bytes < most {
+        return lesser(bytes, PORTION);
+    }
+    lesser(most, PORTION)
+}
+
+fn lesser(a: usize, b: usize) -> usize
+    ensures { λ r. ⌜ r ≡ min a b ⌝ }
+{
+    if a < b {
+        return a;
+    }
+    b
+}
+
+// Whether a reader passes its own test. That its code is a byte is a fact of its type.
+fn is_sound(h: Head) -> bool
+    ensures { λ r. ⌜ (r ≡ passes h) × Byte (h .at) ⌝ }
+{
+    let at = h.at;
+    match at {
+        Mark::NoMark => h.passes(),
+        Mark::Open(_, _code) => h.passes(),
+    }
+}
+
+// What is left after a portion: the reader but for its body, the tally, and the place after the text.
+struct Portioned {
+    head: Head,
+    tally: Tally,
+    used: usize,
+}
+
+// Lists a portion: its nibbles are fed in runs, each up to an answer, whose text is put at the place.
+fn list_portion(
+    mode: Mode,
+    start: Head,
+    body: &mut [u8],
+    first: Tally,
+    bytes: &[u8],
+    line: &mut [u8],
+    out: &mut [u8],
+    at: usize,
+) -> Portioned
+    requires { ⌜ Ok start × (length (now body) ≡ longest) × (length (now line) ≡ longest) × (length (now bytes) ≤ 256) × (at + length (now bytes) * byteRoom ≤ length (now out)) ⌝ }
+    ensures { λ r. ⌜ Lists (lister mode start (now (body .entry)) first) (nibbles (now (bytes .entry))) (lister mode (r .head) (now (body .exit)) (r .tally)) (now (out .entry)) at (r .used) (now (out .exit)) ⌝ }
+{
+    let mut nibbles = [0u8; 2 * PORTION];
+    unpack(bytes, &mut nibbles);
+    let n = 2 * bytes.len();
+    let all: &[u8] = &nibbles[..n];
+    let mut head = start;
+    let mut tally = first;
+    let mut used = at;
+    let mut i: usize = 0;
+    while i < n {
+        let t = head.run(body, &all[i..], line);
+        head = t.head;
+        let answer = t.answer;
+        i += t.taken;
+        let told = tally.take(answer);
+        tally = told.tally;
+        used = put_text(mode, told, answer, out, used);
+    }
+    Portioned { head, tally, used }
+}
+
+// Puts the nibbles of bytes, the high one of each first, at the front of a buffer.
+fn unpack(bytes: &[u8], to: &mut [u8])
+    requires { ⌜ 2 * length (now bytes) ≤ length (now to) ⌝ }
+    ensures { λ _. ⌜ (now (to .exit) ≡ nibbles (now (bytes .entry)) ++ drop (2 * length (now (bytes .entry))) (now (to .entry))) × Small (nibbles (now (bytes .entry))) ⌝ }
+{
+    let mut i: usize = 0;
+    while i < bytes.len() {
+        let b = bytes[i];
+        to[2 * i] = high(b);
+        to[2 * i + 1] = b % 16;
+        i += 1;
+    }
+}
+
+fn high(byte: u8) -> u8
+    ensures { λ r. ⌜ (r ≡ byte / 16) × (r < 16) ⌝ }
+{
+    byte / 16
+}
 
 // Puts the text of an answer at a place, and gives the place after it.
 fn put_text(mode: Mode, told: Told, answer: Answer, out: &mut [u8], at: usize) -> usize

@@ -1,7 +1,7 @@
 // Standard input listed on standard output, in large pieces: what the programs list and frames share.
 //
 // In: what to list. Read: the bytes of a profile 0 capture. Written: their text, as capture says it. A read or a write that fails is told
-// on standard error, and ends the list.
+// on standard error, and ends the list: nothing is then said of the whole.
 use capture::Lister;
 use capture::Mode;
 use libc::STDIN_FILENO;
@@ -14,32 +14,41 @@ pub fn run(mode: Mode) {
     let lister = Lister::new(mode, Profile::VV5404);
     let used = lister.head(&mut out);
     write(&out[..used]);
-    let lister = list_all(lister);
+    let end = list_all(lister);
+    if end.failed {
+        return;
+    }
+    let lister = end.lister;
     let last = lister.finish(&mut out);
     let used = last.used;
     write(&out[..used]);
 }
 
-// A lister, and whether to go on.
+// A lister, whether to go on, and whether a read or a write has failed.
 struct Turn {
     lister: Lister,
     more: bool,
+    failed: bool,
 }
 
 // Lists the input. Nothing says that an input ends, so the loop counts its turns down, from a number that no run uses up.
-fn list_all(lister: Lister) -> Lister {
-    let mut turn = Turn { lister, more: true };
+fn list_all(lister: Lister) -> Turn {
+    let mut turn = Turn {
+        lister,
+        more: true,
+        failed: false,
+    };
     let mut turns = u64::MAX;
     while turns > 0 {
         let l = turn.lister;
         if turn.more {
             turn = list_some(l);
         } else {
-            return l;
+            return turn;
         }
         turns -= 1;
     }
-    turn.lister
+    turn
 }
 
 // Reads once, and lists what came.
@@ -51,12 +60,14 @@ fn list_some(lister: Lister) -> Turn {
         return Turn {
             lister,
             more: false,
+            failed: true,
         };
     }
     if got == 0 {
         return Turn {
             lister,
             more: false,
+            failed: false,
         };
     }
     let n = io::count(got, &buf);
@@ -73,17 +84,26 @@ fn list_piece(lister: Lister, piece: &[u8]) -> Turn {
         let used = done.used;
         l = done.lister;
         if write(&out[..used]) {
+            if done.taken == 0 {
+                return failed(l);
+            }
             at += done.taken;
         } else {
-            return Turn {
-                lister: l,
-                more: false,
-            };
+            return failed(l);
         }
     }
     Turn {
         lister: l,
         more: true,
+        failed: false,
+    }
+}
+
+fn failed(lister: Lister) -> Turn {
+    Turn {
+        lister,
+        more: false,
+        failed: true,
     }
 }
 

@@ -1,13 +1,13 @@
 use mathlib.Core.Path.{sym, ap, _∙_, _≡_}
 use mathlib.Core.List.{List}
-use Prim.Native.Nat.{ℕ, _+_, _<_, _≤_, _-_}
+use Prim.Native.Nat.{ℕ, _+_, _≤_, _-_}
 use native.Mathlib.Omega.{arith}
 use lib.ListN.{take, drop, length-take, length-drop, length}
 use lib.Seq.{length-take-le}
 use borrow.Author.Needs.{needs}
 use Rattle.capture.specs.declared.Listed.{Listed}
 use Rattle.capture.specs.Listed.{listedText, listedOf}
-use Rattle.capture.specs.ListedLaws.{taken-within, taken-some}
+use Rattle.capture.specs.ListedLaws.{taken-within}
 use Rattle.listing.specs.PutLaws.{front-within}
 use Rattle.standard.proofs.list_piece.Statement.{statement}
 use Rattle.standard.proofs.list_piece.Tie as tie
@@ -33,18 +33,17 @@ used-fits c =
     let u = ap (λ (r : Listed). r .used) (c .list .ensures .0) in
     front-within (l .out) (listedText (l .l) (length (l .out)) (rest c)) u (c .list .ensures .1) (c .list .kept .1 .1 .0)
 
--- it takes a byte or more, and no more than are left
+-- it takes no more bytes than are left
 taken-fits :
     (c : tie.After-list Inv-loop μ-loop)
-    → (0 < c .list .result .taken) × (c .before .before .before .before .loop .at + c .list .result .taken ≤ length (c .before .before .before .before .before .before .before .args .piece .now))
+    → c .before .before .before .before .loop .at + c .list .result .taken ≤ length (c .before .before .before .before .before .before .before .args .piece .now)
 unfolding listedOf
 taken-fits c =
     let l = c .before .before .before .before .loop in
     let e : length (rest c) ≡ length (c .before .before .before .before .before .before .before .args .piece .now) - l .at = simp (length-take, length-drop) (omega arith) in
     let t = ap (λ (r : Listed). r .taken) (c .list .ensures .0) in
     let w = taken-within (l .l) (length (l .out)) (rest c) in
-    let s = taken-some (l .l) (length (l .out)) (rest c) (omega (arith, l .inv .1)) (omega (arith, e, c .before .before .before .loop-test .taken)) in
-    (omega (arith, t, s), omega (arith, t, w, e, c .before .before .before .loop-test .taken))
+    omega (arith, t, w, e, c .before .before .before .loop-test .taken)
 
 large-buffer-requires : tie.Need-large-buffer-requires Inv-loop μ-loop
 large-buffer-requires c κs = search needs
@@ -76,20 +75,29 @@ slice-aggregate-write c = sym (length-take-le _ _ (used-fits (c .before .before 
 write-requires : tie.Need-write-requires Inv-loop μ-loop
 write-requires c κs = search needs
 
-add-at : tie.Need-add-at Inv-loop μ-loop
-add-at c = omega (arith, taken-fits (c .before .before .before .before .before .before) .1, c .before .before .before .before .before .before .before .before .before .before .before .before .before .good .1 .0 .0)
-
-loop-less : tie.Need-loop-less Inv-loop μ-loop
-loop-less c = omega (arith, taken-fits (c .before .before .before .before .before .before) .0, c .before .before .before .before .before .before .before .before .before .loop-test .taken)
-
-loop-again : tie.Need-loop-again Inv-loop μ-loop
-loop-again c = (taken-fits (c .before .before .before .before .before .before) .1, c .before .before .before .before .before .before .before .before .before .before .loop .inv .1 ∙ sym (c .before .before .before .before .before .before .list .kept .1 .1 .0))
+failed-requires : tie.Need-failed-requires Inv-loop μ-loop
+failed-requires c κs = search needs
 
 returns : tie.Need-returns Inv-loop μ-loop
 returns c = search needs
 
+add-at : tie.Need-add-at Inv-loop μ-loop
+add-at c = omega (arith, taken-fits (c .before .before .before .before .before .before .before .before), c .before .before .before .before .before .before .before .before .before .before .before .before .before .before .before .good .1 .0 .0)
+
+loop-less : tie.Need-loop-less Inv-loop μ-loop
+loop-less c = omega (arith, c .before .if2 .left, taken-fits (c .before .before .before .before .before .before .before .before), c .before .before .before .before .before .before .before .before .before .before .before .loop-test .taken)
+
+loop-again : tie.Need-loop-again Inv-loop μ-loop
+loop-again c = (taken-fits (c .before .before .before .before .before .before .before .before), c .before .before .before .before .before .before .before .before .before .before .before .before .loop .inv .1 ∙ sym (c .before .before .before .before .before .before .before .before .list .kept .1 .1 .0))
+
+failed-requires-2 : tie.Need-failed-requires-2 Inv-loop μ-loop
+failed-requires-2 c κs = search needs
+
 returns-2 : tie.Need-returns-2 Inv-loop μ-loop
 returns-2 c = search needs
+
+returns-3 : tie.Need-returns-3 Inv-loop μ-loop
+returns-3 c = search needs
 
 pub list-piece-spec : {M : Type 1} → statement M
 list-piece-spec =
@@ -107,8 +115,11 @@ list-piece-spec =
     array-share-prefix-out
     slice-aggregate-write
     write-requires
+    failed-requires
+    returns
     add-at
     loop-less
     loop-again
-    returns
-    returns-2)
+    failed-requires-2
+    returns-2
+    returns-3)

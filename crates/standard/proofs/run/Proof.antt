@@ -28,65 +28,54 @@ head-fits c =
 last-fits : (c : tie.After-finish) → c .finish .result .used ≤ length (c .finish .last .1 .0)
 unfolding finishedOf
 last-fits c =
-    let d = c .before .before .before .before .before .before .head .last .1 .0 in
+    let d = c .before .before .before .before .before .before .before .before .head .last .1 .0 in
     let u = ap (λ (r : Listed). r .used) (c .finish .ensures .0) in
-    front-within d (lastText (c .before .before .list-all .result) (length d)) u (c .finish .ensures .1) (c .finish .kept .1 .0)
+    front-within d (lastText (c .before .before .before .before .list-all .result .lister) (length d)) u (c .finish .ensures .1) (c .finish .kept .1 .0)
 
--- src/lib.rt:13:19
 buffer-requires : tie.Need-buffer-requires
 buffer-requires c κs = search needs
 
--- src/lib.rt:14:9
 new-requires : tie.Need-new-requires
 new-requires c κs = search needs
 
--- src/lib.rt:15:28
 slice-aggregate-head : tie.Need-slice-aggregate-head
 slice-aggregate-head c = search needs
 
--- src/lib.rt:15:9
 head-requires : tie.Need-head-requires
 head-requires c κs = search needs
 
--- src/lib.rt:16:11
 array-share-prefix-out : tie.Need-array-share-prefix-out
 array-share-prefix-out c = head-fits (c .before)
 
--- src/lib.rt:16:11
 slice-aggregate-write : tie.Need-slice-aggregate-write
 slice-aggregate-write c = sym (length-take-le _ _ (head-fits (c .before .before)))
 
--- src/lib.rt:16:5
 write-requires : tie.Need-write-requires
 write-requires c κs = search needs
 
--- src/lib.rt:17:9
 list-all-requires : tie.Need-list-all-requires
 list-all-requires c κs = search needs
 
--- src/lib.rt:18:30
+returns : tie.Need-returns
+returns c = search needs
+
 slice-aggregate-finish : tie.Need-slice-aggregate-finish
 slice-aggregate-finish c = search needs
 
--- src/lib.rt:18:9
 finish-requires : tie.Need-finish-requires
 finish-requires c κs = search needs
 
--- src/lib.rt:20:11
 array-share-prefix-out-2 : tie.Need-array-share-prefix-out-2
 array-share-prefix-out-2 c = last-fits (c .before)
 
--- src/lib.rt:20:11
 slice-aggregate-write-2 : tie.Need-slice-aggregate-write-2
 slice-aggregate-write-2 c = sym (length-take-le _ _ (last-fits (c .before .before)))
 
--- src/lib.rt:20:5
 write-requires-2 : tie.Need-write-requires-2
 write-requires-2 c κs = search needs
 
--- src/lib.rt:12:1
-returns : tie.Need-returns
-returns c = search needs
+returns-2 : tie.Need-returns-2
+returns-2 c = search needs
 
 pub run-spec : {M : Type 1} → statement M
 run-spec =
@@ -100,9 +89,10 @@ run-spec =
     slice-aggregate-write
     write-requires
     list-all-requires
+    returns
     slice-aggregate-finish
     finish-requires
     array-share-prefix-out-2
     slice-aggregate-write-2
     write-requires-2
-    returns)
+    returns-2)

@@ -1,0 +1,140 @@
+use mathlib.Core.Path.{_≡_, refl, sym, ap, subst, _∙_}
+use Prim.Native.Nat.{_+_, _-_, _*_, _≤_, _<_}
+use native.Mathlib.Omega.{arith}
+use lib.ListN.{length, drop}
+use denote.Ref.{now}
+use borrow.Author.Needs.{needs}
+use Rattle.profile.specs.Profile.{longest}
+use Rattle.refinement.specs.Window.{Small}
+use Rattle.listing.specs.Rows.{rowRoom}
+use Rattle.listing.specs.PutLaws.{put-length}
+use Rattle.capture.specs.Portions.{lister}
+use Rattle.capture.proofs.Nibbles.{nibbles-length, front-nibbles}
+use Rattle.capture.proofs.Runs.{Along, along-start, along-next, along-count, along-end, answer-of, lent-onward, lists-of}
+use Rattle.capture.proofs.list_portion.Statement.{statement}
+use Rattle.capture.proofs.list_portion.Tie as tie
+
+abbrev Inv-loop : tie.InvT-loop
+Inv-loop mode body₀ bytes line₀ out₀ at n all head₀ tally₀ used₀ i₀ body line out head tally used i =
+    Along (lister mode head₀ body₀ tally₀) all i (lister mode head body tally) out₀ at used out × (length body ≡ longest) × (length line ≡ longest) × Small all
+    × (length all ≡ n) × (at + n * rowRoom ≤ length out₀) × (n ≤ 512)
+
+abbrev μ-loop : tie.MeasureT-loop
+μ-loop mode body₀ bytes line₀ out₀ at n all head₀ tally₀ used₀ i₀ body line out head tally used i = n - i
+
+slice-aggregate-unpack : tie.Need-slice-aggregate-unpack Inv-loop μ-loop
+slice-aggregate-unpack c = search needs
+
+unpack-requires : tie.Need-unpack-requires Inv-loop μ-loop
+unpack-requires c κs = search needs
+
+mul-n : tie.Need-mul-n Inv-loop μ-loop
+mul-n c = search needs
+
+array-share-prefix-nibbles : tie.Need-array-share-prefix-nibbles Inv-loop μ-loop
+array-share-prefix-nibbles c = search needs
+
+slice-aggregate-all : tie.Need-slice-aggregate-all Inv-loop μ-loop
+slice-aggregate-all c = let a = c .before .before .before .before .before .before .before .before .args in sym (ap length (front-nibbles (now (c .before .before .before .before .before .before .before .before .args .bytes)) _ _ (c .before .before .unpack .ensures .0)) ∙ nibbles-length (now (a .bytes)))
+
+loop-holds : tie.Need-loop-holds Inv-loop μ-loop
+loop-holds c =
+    let a = c .before .before .before .before .before .before .before .before .args in
+    let e = front-nibbles (now (c .before .before .before .before .before .before .before .before .args .bytes)) _ _ (c .before .before .unpack .ensures .0) in
+    (along-start _ _ _ _ (omega arith) (c .before .before .before .before .before .before .before .before .pre .0), search needs, search needs, subst Small (sym e) (c .before .before .unpack .ensures .1), ap length e ∙ nibbles-length (now (a .bytes)), omega arith, omega arith)
+
+sub-run : tie.Need-sub-run Inv-loop μ-loop
+sub-run c = c .before .before .loop .inv .0 .within
+
+part-run-start : tie.Need-part-run-start Inv-loop μ-loop
+part-run-start c = search needs
+
+part-run-end : tie.Need-part-run-end Inv-loop μ-loop
+part-run-end c = search needs
+
+run-requires : tie.Need-run-requires Inv-loop μ-loop
+run-requires c κs = search needs
+
+add-i : tie.Need-add-i Inv-loop μ-loop
+add-i c =
+    let l = c .before .before .before .before .before .before .before .before .before .before .before .loop in
+    let e = c .before .before .before .before .before .before .run .ensures in
+    let t = lent-onward (l .head) (l .body) _ (l .i) _ (l .inv .0 .sound) (l .inv .1) (l .inv .2) in
+    let lt = subst (λ n. l .i < n) (sym (l .inv .4)) (c .before .before .before .before .before .before .before .before .before .before .loop-test .taken) in
+    let n = along-count (l .inv .0) (l .inv .3) lt _ t (e .1) in
+    omega (arith, n .1, l .inv .4, l .inv .6)
+
+take-requires : tie.Need-take-requires Inv-loop μ-loop
+take-requires c κs = search needs
+
+put-text-requires : tie.Need-put-text-requires Inv-loop μ-loop
+put-text-requires c κs =
+    let l = c .before .before .before .before .before .before .before .before .before .before .before .before .before .before .loop in
+    let p = l .inv .0 in
+    omega (arith, p .text-put .place, p .short, c .before .before .before .before .before .before .before .before .before .before .before .before .before .loop-test .taken, l .inv .5, put-length (p .text-put))
+
+loop-less : tie.Need-loop-less Inv-loop μ-loop
+loop-less c =
+    let l = c .before .before .before .before .before .before .before .before .before .before .before .before .before .before .before .before .before .loop in
+    let e = c .before .before .before .before .before .before .before .before .before .before .before .before .run .ensures in
+    let t = lent-onward (l .head) (l .body) _ (l .i) _ (l .inv .0 .sound) (l .inv .1) (l .inv .2) in
+    let lt = subst (λ n. l .i < n) (sym (l .inv .4)) (c .before .before .before .before .before .before .before .before .before .before .before .before .before .before .before .before .loop-test .taken) in
+    let n = along-count (l .inv .0) (l .inv .3) lt _ t (e .1) in
+    omega (arith, n .0, n .1, l .inv .4, lt)
+
+loop-again : tie.Need-loop-again Inv-loop μ-loop
+loop-again c =
+    let l = c .before .before .before .before .before .before .before .before .before .before .before .before .before .before .before .before .before .loop in
+    let e = c .before .before .before .before .before .before .before .before .before .before .before .before .run .ensures in
+    let t = lent-onward (l .head) (l .body) _ (l .i) _ (l .inv .0 .sound) (l .inv .1) (l .inv .2) in
+    let lt = subst (λ n. l .i < n) (sym (l .inv .4)) (c .before .before .before .before .before .before .before .before .before .before .before .before .before .before .before .before .loop-test .taken) in
+    let told = answer-of _ _ _ _ (e .2) in (
+      along-next (l .inv .0) (l .inv .3) lt _ t (e .0) (e .3) (e .1) told (c .before .before .before .before .before .take .ensures) (c .before .before .put-text .ensures),
+      search needs,
+      search needs,
+      l .inv .3,
+      l .inv .4,
+      l .inv .5,
+      l .inv .6,
+    )
+
+same-length : tie.Need-same-length Inv-loop μ-loop
+same-length c = search needs
+
+same-length-2 : tie.Need-same-length-2 Inv-loop μ-loop
+same-length-2 c = search needs
+
+same-length-3 : tie.Need-same-length-3 Inv-loop μ-loop
+same-length-3 c = put-length (c .before .loop .inv .0 .text-put)
+
+returns : tie.Need-returns Inv-loop μ-loop
+returns c =
+    let l = c .before .loop in
+    let e = front-nibbles (now (c .before .before .before .before .before .before .before .before .before .before .args .bytes)) _ _ (c .before .before .before .before .unpack .ensures .0) in
+    lists-of e (along-end (l .inv .0) (omega (arith, c .loop-test .left, l .inv .4)))
+
+pub list-portion-spec : {M : Type 1} → statement M
+list-portion-spec =
+    tie.close
+    (tie.spec
+    Inv-loop
+    μ-loop
+    slice-aggregate-unpack
+    unpack-requires
+    mul-n
+    array-share-prefix-nibbles
+    slice-aggregate-all
+    loop-holds
+    sub-run
+    part-run-start
+    part-run-end
+    run-requires
+    add-i
+    take-requires
+    put-text-requires
+    loop-less
+    loop-again
+    same-length
+    same-length-2
+    same-length-3
+    returns)
