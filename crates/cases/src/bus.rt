@@ -1,13 +1,19 @@
 // A reader on the bus, fed by hand: each answer is written as its row of a listing, numbered from 1 in each case.
 use crate::buffer::UNTOUCHED;
+use crate::buffer::say_changed;
+use crate::text::nibble_of;
+use crate::text::number;
 use crate::text::say;
 use crate::text::say_front;
 use crate::text::say_hex;
-use crate::text::say_number;
+use crate::text::until;
+use mark_answer::Kept;
 use profile::Profile;
 use reader::Fed;
+use reader::Head;
 use reader::Reader;
 use stream::Answer;
+use stream::Mark;
 
 // A reader, and how many answers it has given.
 pub struct Bus {
@@ -15,55 +21,39 @@ pub struct Bus {
     pub answers: u64,
 }
 
-// A case of one line: its front, a unit of its body so many times, and the rest, each in hexadecimal; then finish.
-pub fn read(profile: u8, title: &[u8], front: &[u8], unit: &[u8], times: usize, rest: &[u8]) {
-    Bus::case(profile, title)
-        .line(front, unit, times, rest)
-        .finish();
-}
-
-// A case of a BL line numbered 303 with a whole body, and the rest.
-pub fn read_blank(profile: u8, title: &[u8], rest: &[u8]) {
-    read(
-        profile,
-        title,
-        b"FFFF00 9D 085E",
-        b"07",
-        body_length(profile),
-        rest,
-    );
-}
-
-// A case of few nibbles, whose title they are; then finish.
-pub fn read_few(profile: u8, nibbles: &[u8]) {
-    Bus::case(profile, nibbles).hex(nibbles).finish();
-}
-
 impl Bus {
-    // A case: its title, and a new reader of the profile with this number.
-    pub fn case(profile: u8, title: &[u8]) -> Bus {
-        say(b"# profile ");
-        say_number(profile as u64);
-        say(b": ");
-        say(title);
-        say(b"\n");
-        Bus::new(profile)
-    }
-
+    // A new reader of the profile with this number.
     pub fn new(profile: u8) -> Bus {
         let made = Reader::new(profile);
         answered(made, 0)
     }
 
-    // A line.
-    pub fn line(self, front: &[u8], unit: &[u8], times: usize, rest: &[u8]) -> Bus {
-        self.hex(front).repeat(unit, times).hex(rest)
+    // The words of a line after its first: nibbles, or, as 07*356, nibbles so many times.
+    pub fn feed(self, line: &[u8]) -> Bus {
+        let mut bus = self;
+        let mut i = until(line, 0, b' ');
+        while i < line.len() {
+            let start = i + 1;
+            let end = until(line, start, b' ');
+            bus = bus.word(&line[start..end]);
+            i = end;
+        }
+        bus
+    }
+
+    fn word(self, word: &[u8]) -> Bus {
+        let star = until(word, 0, b'*');
+        let unit = &word[..star];
+        if star == word.len() {
+            return self.hex(unit);
+        }
+        self.repeat(unit, number(&word[star + 1..]))
     }
 
     // The same nibbles, so many times.
-    pub fn repeat(self, unit: &[u8], times: usize) -> Bus {
+    fn repeat(self, unit: &[u8], times: u64) -> Bus {
         let mut bus = self;
-        let mut i: usize = 0;
+        let mut i: u64 = 0;
         while i < times {
             bus = bus.hex(unit);
             i += 1;
@@ -72,7 +62,7 @@ impl Bus {
     }
 
     // The nibbles that a text has as hexadecimal digits; its other signs are passed over.
-    pub fn hex(self, text: &[u8]) -> Bus {
+    fn hex(self, text: &[u8]) -> Bus {
         let mut bus = self;
         let mut i: usize = 0;
         while i < text.len() {
@@ -97,10 +87,25 @@ impl Bus {
     }
 
     // One input, with the line buffer that is lent.
-    pub fn lent(self, nibble: u8, line: &mut [u8]) -> Bus {
+    fn lent(self, nibble: u8, line: &mut [u8]) -> Bus {
         let reader = self.reader;
         let fed = reader.feed(nibble, line);
         answered(fed, self.answers)
+    }
+
+    // One input, with a line buffer of so many bytes, which is looked at afterwards.
+    pub fn lend(self, size: u64, nibble: u8) -> Bus {
+        let mut line = [UNTOUCHED; 360];
+        let bus = self.front_lent(nibble, &mut line, size);
+        say_changed(&line);
+        bus
+    }
+
+    fn front_lent(self, nibble: u8, line: &mut [u8], size: u64) -> Bus {
+        if (line.len() as u64) < size {
+            return self;
+        }
+        self.lent(nibble, &mut line[..size as usize])
     }
 
     // The nibbles that were written to a buffer, with the line buffer that is lent.
@@ -132,29 +137,22 @@ impl Bus {
     }
 }
 
-// The bytes of a body.
-fn body_length(profile: u8) -> usize {
-    if profile == 1 {
-        return 168;
-    }
-    356
-}
-
-// The nibble of a hexadecimal digit; 16 for any other sign.
-fn nibble_of(sign: u8) -> u8 {
-    if sign < b'0' {
-        return 16;
-    }
-    if sign <= b'9' {
-        return sign - b'0';
-    }
-    if sign < b'A' {
-        return 16;
-    }
-    if sign <= b'F' {
-        return sign - b'A' + 10;
-    }
-    16
+// A reader of profile 0 with this count and window.
+pub fn in_state(count: u32, window: u32) -> Bus {
+    let at = Mark::NoMark;
+    let kept = Kept::nothing();
+    let head = Head {
+        profile: Profile::VV5404,
+        at,
+        count,
+        window,
+        kept,
+    };
+    let reader = Reader {
+        head,
+        body: [0; Profile::LONGEST],
+    };
+    Bus { reader, answers: 0 }
 }
 
 // The bus after a call, whose answer is written.

@@ -1,90 +1,194 @@
-// The cases of paper 01 that are run and compared, and more of the same kind. What each brings is in stdout, as worked out by hand.
+// The cases of paper 01 that are run and compared, and more of the same kind. They are lines of standard input: the file stdin says how to
+// read them. What each brings is in stdout, as worked out by hand.
 mod buffer;
 mod bus;
-mod calls;
 mod frames;
-mod gaps;
-mod lines;
-mod marks;
 mod text;
 mod written;
 
+use bus::Bus;
+use frames::Hearing;
+use libc::STDERR_FILENO;
+use libc::STDIN_FILENO;
+use text::byte;
+use text::numbers;
+use text::say;
+use text::say_front;
+use text::short;
+use text::until;
+use text::word;
+
+// The longest body that is written: one byte more than the longest that may be.
+const LONGEST: usize = 357;
+
+// What the lines work on: a reader, a judge, and a body for the writer.
+struct Bench {
+    bus: Bus,
+    hearing: Hearing,
+    length: usize,
+    body: [u8; LONGEST],
+}
+
 fn main() {
-    read_marks();
-    read_lines();
-    read_gaps();
-    refuse_calls();
-    write_lines();
-    judge_frames();
+    let mut input = io::large_buffer();
+    let n = io::read_full(STDIN_FILENO, &mut input);
+    if n == 65536 {
+        io::write_all(STDERR_FILENO, b"the input is longer than 65,535 bytes\n");
+        return;
+    }
+    run(&input[..n]);
 }
 
-fn read_marks() {
-    marks::none();
-    marks::overlapping();
-    marks::in_long_runs();
-    marks::at_odd_nibbles();
-    marks::with_start_codes();
-    marks::with_end_codes();
-    marks::with_reserved_codes();
+// Each line of a text.
+fn run(text: &[u8]) {
+    let bus = Bus::new(0);
+    let hearing = Hearing::new();
+    let mut bench = Bench {
+        bus,
+        hearing,
+        length: 0,
+        body: [0; LONGEST],
+    };
+    let mut start: usize = 0;
+    while start < text.len() {
+        let end = until(text, start, b'\n');
+        bench = bench.line(&text[start..end]);
+        if end == text.len() {
+            return;
+        }
+        start = end + 1;
+    }
 }
 
-fn read_lines() {
-    lines::of_a_length();
-    lines::of_a_length_in_profile_1();
-    lines::of_odd_length();
-    lines::numbered();
-    lines::numbered_badly();
-    lines::of_pixels();
-    lines::of_pixels_in_profile_1();
-    lines::of_fillers();
-    lines::of_registers();
-    lines::of_averages();
-    lines::wrong_twice();
-    lines::cut_by_finish();
-    lines::cut_by_a_line_start();
-    lines::without_a_line();
-}
+impl Bench {
+    // A line, by its first letter; any other line is passed over.
+    fn line(self, line: &[u8]) -> Bench {
+        if line.len() == 0 {
+            return self;
+        }
+        let command = line[0];
+        let n = numbers(line);
+        match command {
+            b'#' => self.title(line),
+            b'n' | b's' | b'f' | b'i' | b'l' | b'e' => self.reading(command, line, n),
+            b'b' | b'p' | b'w' | b'r' | b'h' => self.writing(command, n),
+            b'j' | b'd' | b'g' | b'o' => self.judging(command, n),
+            _ => self,
+        }
+    }
 
-fn read_gaps() {
-    gaps::of_profile_0();
-    gaps::cut_by_finish();
-    gaps::of_profile_1();
-    gaps::of_means();
-    gaps::after_refused_lines();
-}
+    fn title(self, line: &[u8]) -> Bench {
+        say(line);
+        say(b"\n");
+        self
+    }
 
-fn refuse_calls() {
-    calls::with_no_nibble();
-    calls::with_no_profile();
-    calls::with_a_bad_state();
-    calls::with_no_room();
-    calls::with_no_room_in_profile_1();
-    calls::with_no_room_and_no_nibble();
-    calls::with_more_room();
-}
+    // new, state, feed, input, lend, end.
+    fn reading(self, command: u8, line: &[u8], n: [u64; 8]) -> Bench {
+        let bus = self.bus;
+        match command {
+            b'n' => self.with_bus(Bus::new(byte(n[0]))),
+            b's' => self.with_bus(bus::in_state(word(n[0]), word(n[1]))),
+            b'f' => self.with_bus(bus.feed(line)),
+            b'i' => self.with_bus(bus.input(byte(n[0]))),
+            b'l' => self.with_bus(bus.lend(n[0], byte(n[1]))),
+            _ => self.with_bus(bus.finish()),
+        }
+    }
 
-fn write_lines() {
-    written::with_nulls();
-    written::with_nulls_in_profile_1();
-    written::refused_in_order();
-    written::refused_for_room();
-    written::refused_for_room_in_profile_1();
-    written::refused_for_kind_or_length();
-    written::refused_for_bytes();
-    written::refused_for_bytes_in_profile_1();
-    written::as_listed();
-    written::and_read_back();
-    written::and_read_back_in_profile_1();
-}
+    // body, put, write, read, header.
+    fn writing(self, command: u8, n: [u64; 8]) -> Bench {
+        match command {
+            b'b' => self.with_body(n[0], byte(n[1])),
+            b'p' => self.with_byte(n[0], byte(n[1])),
+            b'w' => self.write(n),
+            b'r' => self.read_back(n),
+            _ => self.header(),
+        }
+    }
 
-fn judge_frames() {
-    frames::whole();
-    frames::one_after_another();
-    frames::not_opened();
-    frames::with_another_number();
-    frames::with_another_kind();
-    frames::opened_anew();
-    frames::with_a_broken_line();
-    frames::with_bad_input();
-    frames::in_a_bad_state();
+    // judge, due, give, over.
+    fn judging(self, command: u8, n: [u64; 8]) -> Bench {
+        let hearing = self.hearing;
+        match command {
+            b'j' => self.with_hearing(Hearing::new()),
+            b'd' => self.with_hearing(frames::in_state(short(n[0]), n[1])),
+            b'g' => self.with_hearing(hearing.lines(byte(n[0]), short(n[1]), short(n[2]))),
+            _ => self.with_hearing(hearing.end()),
+        }
+    }
+
+    fn with_bus(self, bus: Bus) -> Bench {
+        let hearing = self.hearing;
+        let body = self.body;
+        Bench {
+            bus,
+            hearing,
+            length: self.length,
+            body,
+        }
+    }
+
+    fn with_hearing(self, hearing: Hearing) -> Bench {
+        let bus = self.bus;
+        let body = self.body;
+        Bench {
+            bus,
+            hearing,
+            length: self.length,
+            body,
+        }
+    }
+
+    // A body of so many bytes, all alike.
+    fn with_body(self, length: u64, byte: u8) -> Bench {
+        let bus = self.bus;
+        let hearing = self.hearing;
+        let body = [byte; LONGEST];
+        if length <= LONGEST as u64 {
+            return Bench {
+                bus,
+                hearing,
+                length: length as usize,
+                body,
+            };
+        }
+        self
+    }
+
+    // The body with another byte at a place.
+    fn with_byte(self, place: u64, byte: u8) -> Bench {
+        let bus = self.bus;
+        let hearing = self.hearing;
+        let mut body = self.body;
+        if place < LONGEST as u64 {
+            body[place as usize] = byte;
+        }
+        Bench {
+            bus,
+            hearing,
+            length: self.length,
+            body,
+        }
+    }
+
+    fn write(self, n: [u64; 8]) -> Bench {
+        let body = self.body;
+        written::write(&body, self.length, n);
+        self
+    }
+
+    fn read_back(self, n: [u64; 8]) -> Bench {
+        let body = self.body;
+        written::read_back(&body, self.length, n);
+        self
+    }
+
+    // The first row of a listing.
+    fn header(self) -> Bench {
+        let mut row = [0u8; listing::ROW];
+        let used = listing::header(&mut row);
+        say_front(&row, used);
+        self
+    }
 }

@@ -1,4 +1,6 @@
-// What the cases write.
+// What the cases read and write.
+ghost use Prim.Native.Nat.{_≤_};
+ghost use lib.ListN.{length};
 use libc::STDOUT_FILENO;
 
 // Writes a text.
@@ -21,4 +23,89 @@ pub fn say_number(n: u64) {
 // Writes a byte as two hexadecimal digits.
 pub fn say_hex(byte: u8) {
     io::print_hex(STDOUT_FILENO, byte as u64, 2);
+}
+
+// The place of the first such sign from a place on, or the text's end.
+pub fn until(text: &[u8], from: usize, sign: u8) -> usize
+    requires { ⌜ from ≤ length (now text) ⌝ }
+    ensures { λ r. ⌜ (from ≤ r) × (r ≤ length (now (text .entry))) ⌝ }
+{
+    let mut i = from;
+    while i < text.len() {
+        if text[i] == sign {
+            return i;
+        }
+        i += 1;
+    }
+    i
+}
+
+// The numbers that the words of a line are, after its first: up to eight.
+pub fn numbers(line: &[u8]) -> [u64; 8] {
+    let mut found = [0u64; 8];
+    let mut count: usize = 0;
+    let mut i = until(line, 0, b' ');
+    while i < line.len() {
+        let start = i + 1;
+        let end = until(line, start, b' ');
+        if count < 8 {
+            found[count] = number(&line[start..end]);
+            count += 1;
+        }
+        i = end;
+    }
+    found
+}
+
+// The number of a word, in decimal.
+pub fn number(word: &[u8]) -> u64 {
+    let mut n: u64 = 0;
+    let mut i: usize = 0;
+    while i < word.len() {
+        n = digit_onto(n, word[i]);
+        i += 1;
+    }
+    n
+}
+
+// A number with one digit more; another sign, and what makes the number too large, is passed over.
+fn digit_onto(n: u64, sign: u8) -> u64 {
+    let digit = nibble_of(sign);
+    if 10 <= digit {
+        return n;
+    }
+    if 1000000000000 < n {
+        return n;
+    }
+    10 * n + digit as u64
+}
+
+// The nibble of a hexadecimal digit; 16 for any other sign.
+pub fn nibble_of(sign: u8) -> u8 {
+    if sign < b'0' {
+        return 16;
+    }
+    if sign <= b'9' {
+        return sign - b'0';
+    }
+    if sign < b'A' {
+        return 16;
+    }
+    if sign <= b'F' {
+        return sign - b'A' + 10;
+    }
+    16
+}
+
+// Numbers of a line, as the calls take them.
+pub fn byte(n: u64) -> u8 {
+    (n % 256) as u8
+}
+
+pub fn short(n: u64) -> u16 {
+    (n % 65536) as u16
+}
+
+pub fn word(n: u64) -> u32 {
+    (n % 4294967296) as u32
 }

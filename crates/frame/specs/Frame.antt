@@ -89,12 +89,26 @@ passes (Due place Unsettled) = within 1 settlingPlace place
 passes (Due place On) = within (settlingPlace + 1) lastPlace place
 passes (Due place Off) = within (settlingPlace + 1) lastPlace place
 
+-- what the judge says, in 01's words: Waiting, Going, Complete, or a refusal with its number
+pub data Said : Type 0 where
+  still-waiting : Said
+  on-going : Said
+  whole-frame : Said
+  refused : ℕ → Said
+
+-- the program's verdict that says this
+abbrev pub verdictFor : Said → Verdict
+verdictFor still-waiting = verdict.Waiting
+verdictFor on-going = verdict.Going
+verdictFor whole-frame = verdict.Complete
+verdictFor (refused n) = verdict.Refused n
+
 -- a judge after a call, and what it answered
 abbrev pub gives : Judge → Verdict → Judged
 gives j v = record { judge = j; verdict = v }
 
 abbrev pub refuses : Judge → ℕ → Judged
-refuses j refusal = gives j (verdict.Refused refusal)
+refuses j n = gives j (verdictFor (refused n))
 
 -- a frame opens with an SOF numbered 0
 abbrev pub opens : ℕ → ℕ → Bool
@@ -110,12 +124,12 @@ brokenKind = 0
 
 -- a broken line
 abbrev pub broken : Judge → Judged
-broken Waiting = gives Waiting verdict.Waiting
+broken Waiting = gives Waiting (verdictFor still-waiting)
 broken (Due place b) = refuses Waiting brokenLine
 
 -- a line that is due: Going, or Complete at the last place, then waiting
 abbrev pub onward : ℕ → Borders → ℕ → Judged
-onward place b k = cond (ltb place lastPlace) (gives (Due (place + 1) (settled b place k)) verdict.Going) (gives Waiting verdict.Complete)
+onward place b k = cond (ltb place lastPlace) (gives (Due (place + 1) (settled b place k)) (verdictFor on-going)) (gives Waiting (verdictFor whole-frame))
 
 -- a line that is not due: 18, then waiting; but an SOF numbered 0 opens a new frame at once
 abbrev pub astray : ℕ → ℕ → Judged
@@ -123,7 +137,7 @@ astray k n = cond (opens k n) (refuses begun notTheLineDue) (refuses Waiting not
 
 -- a whole line of a kind and number
 abbrev pub whole : Judge → ℕ → ℕ → Judged
-whole Waiting k n = cond (opens k n) (gives begun verdict.Going) (gives Waiting verdict.Waiting)
+whole Waiting k n = cond (opens k n) (gives begun (verdictFor on-going)) (gives Waiting (verdictFor still-waiting))
 whole (Due place b) k n = cond (lineDue b place k n) (onward place b k) (astray k n)
 
 -- one call: 11, 13, 14, which change nothing; a broken line (kind 0), whose number isn't looked at; or a whole line

@@ -44,7 +44,8 @@ impl Judge {
     pub fn new() -> Judge
         ensures { λ r. ⌜ r ≡ Judge.Waiting ⌝ }
     {
-        Judge::Waiting
+        let fresh = Judge::Waiting;
+        fresh
     }
 
     // Takes a line, or kind 0 for a broken one. Refused, in this order: 11, 13, 14; then 19, 18.
@@ -67,7 +68,7 @@ impl Judge {
     }
 
     // The judge's own test: true of the states that calls reach from a fresh judge, and of no other.
-    pub fn passes(self) -> bool
+    fn passes(self) -> bool
         ensures { λ r. ⌜ r ≡ passes self ⌝ }
     {
         match self {

@@ -73,7 +73,7 @@ impl Profile {
     }
 
     // The image bytes of a body.
-    pub fn image_length(self) -> usize
+    fn image_length(self) -> usize
         ensures { λ r. ⌜ r ≡ imageLength self ⌝ }
     {
         match self {
@@ -83,7 +83,7 @@ impl Profile {
     }
 
     // What a body of this kind may hold at a place; past the body's end: the filler.
-    pub fn rule_at(self, kind: Kind, place: usize) -> Rule
+    fn rule_at(self, kind: Kind, place: usize) -> Rule
         ensures { λ r. ⌜ r ≡ getD (rules self kind) place Filler ⌝ }
     {
         match kind {
@@ -133,7 +133,7 @@ impl Profile {
 
 impl Rule {
     // Whether a place under this rule may hold the byte.
-    pub fn allows(self, byte: u8) -> bool
+    fn allows(self, byte: u8) -> bool
         ensures { λ r. ⌜ r ≡ allows self byte ⌝ }
     {
         match self {
@@ -236,7 +236,10 @@ pub fn is_pixel(byte: u8) -> bool
     if byte == 0 {
         return false;
     }
-    byte < 255
+    if byte == 255 {
+        return false;
+    }
+    true
 }
 
 // Whether both bytes are x.

@@ -48,15 +48,15 @@ pub enum Written {
 // The first byte of a write, and of a read.
 pub const WRITE_ADDRESS: u8 = 32;
 
-pub const READ_ADDRESS: u8 = 33;
+const READ_ADDRESS: u8 = 33;
 
 // How many registers there are, and the last one's index.
 const REGISTERS: u8 = 128;
 
-pub const LAST_INDEX: u8 = 127;
+const LAST_INDEX: u8 = 127;
 
 // The registers below this one are the sensor's own.
-pub const FIRST_SETTABLE: u8 = 5;
+const FIRST_SETTABLE: u8 = 5;
 
 // The increment flag in a message's second byte: its top bit.
 const INCREMENT: u8 = 128;

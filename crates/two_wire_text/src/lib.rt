@@ -23,7 +23,7 @@ use two_wire::Sensor;
 use two_wire::register;
 
 // What a setting asks for: a register's index and value, or two registers', high byte first.
-pub enum Setting {
+enum Setting {
     Single(u8, u8),
     Double(u8, u8, u8, u8),
     Unknown,
@@ -75,7 +75,7 @@ pub fn line_end(text: &[u8], start: usize) -> usize
 }
 
 // The setting that a line is: `settingOf`.
-pub fn read_setting(line: &[u8]) -> Setting
+fn read_setting(line: &[u8]) -> Setting
     ensures { λ r. ⌜ r ≡ settingOf (now (line .entry)) ⌝ }
 {
     if begins(line, b"fine ") {

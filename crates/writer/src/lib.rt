@@ -28,7 +28,7 @@ pub enum Written {
 }
 
 // The most null bytes after a line.
-pub const MOST_NULLS: u32 = 255;
+const MOST_NULLS: u32 = 255;
 
 // The nibbles around a body: two marks of eight, the number's two bytes and the gap's.
 const AROUND: usize = 24;
