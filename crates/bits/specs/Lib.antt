@@ -1,2 +1,3 @@
 pub mod Bits
 pub mod Every
+pub mod Agree

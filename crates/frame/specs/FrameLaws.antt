@@ -23,7 +23,7 @@ use Rattle.frame.specs.declared.Verdict.the-variants as verdict
 use Rattle.frame.specs.declared.Judged.{Judged}
 use Rattle.frame.specs.Frame.{layout, lastPlace, endPlace, settlingPlace, kindAt, standsAt, kindDue, numberDue, lineDue, settled, within, passes, gives, refuses, opens, begun, brokenKind, broken, astray, whole, judgeOf}
 use Rattle.frame.specs.Calls.{Line, line, called, after, verdicts, accepts, acceptedOne, accepted, fits, laidFrom, FirstLines, IsFrame, numberedFrom, frameLines}
-use Rattle.frame.specs.Agree.{agree}
+use Rattle.bits.specs.Agree.{agree}
 
 -- The layout.
 

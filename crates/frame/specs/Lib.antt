@@ -1,5 +1,4 @@
 pub mod Frame
 pub mod Places
 pub mod Calls
-pub mod Agree
 pub mod FrameLaws

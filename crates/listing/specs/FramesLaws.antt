@@ -14,9 +14,6 @@ use Rattle.listing.specs.Rows.{decimal, rowRoom}
 use Rattle.listing.specs.RowLaws.{decimal-short}
 use Rattle.listing.specs.Frames.{frameWords, bordersWord, goodWords, notDueWords, brokenLineWords, closing, reasonWords, completeLine, brokenLineOf, newsLine, summaryLines}
 
-pub frame-short : (frame : ℕ) → length (frameWords frame) ≤ 26
-frame-short frame = simp length-append (omega (arith, decimal-short frame))
-
 pub borders-short : (b : Borders) → length (bordersWord b) ≤ 9
 borders-short Unsettled = omega arith
 borders-short On = omega arith

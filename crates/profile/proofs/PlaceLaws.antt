@@ -1,13 +1,13 @@
 -- The rule of a place, read off the list of rules, is the rule that the ranges give.
 -- For each profile and kind the list is computed from the ranges, place by place, and compared whole; past its end both give the filler.
-use mathlib.Core.Path.{_≡_, refl, sym, ap, _∙_}
+use mathlib.Core.Path.{_≡_, refl}
 use mathlib.Core.Bool.{Bool, true, false, cond}
-use mathlib.Core.List.{List, [], _∷_}
-use Prim.Native.Nat.{ℕ, zero, suc, _+_, _-_, _%_, _≤_, zero-le, suc-le-suc}
+use Prim.Native.Nat.{ℕ, _+_, _-_, _%_, _≤_, zero-le}
 use native.Mathlib.Omega.{arith}
 use borrow.Author.Tests.{le-ltb}
 use lib.Dec.{eqb, lit≤}
-use lib.ListN.{getD}
+use lib.ListN.{getD, List·getD-eq-default}
+use Rattle.bits.specs.Agree.{listed, agree-all}
 use Rattle.line_code.specs.declared.Kind.{Kind}
 use Rattle.line_code.specs.declared.Kind.the-variants.{BL, BK, SOF, EOF}
 use Rattle.profile.specs.declared.Profile.{Profile}
@@ -17,7 +17,7 @@ use Rattle.profile.specs.declared.Rule.the-variants.{Filler, Pixel, Any}
 use Rattle.profile.specs.Profile.{bodyLength, imageStart, imageLength}
 use Rattle.profile.specs.Layout.{rules}
 use Rattle.profile.specs.Places.{border, averagesReach, ruleWithin, imageWithin, evenly}
-use Rattle.profile.specs.LayoutLaws.{image-centred}
+use Rattle.profile.specs.LayoutLaws.{rules-length, image-centred}
 
 -- ---- the ranges stay within the body
 
@@ -51,50 +51,34 @@ evenly-filler i r h = either (eqb (i % 2) 1)
 
 -- ---- the list of rules and the rule of each place
 
--- the rules of the first n places
-abbrev listed : (ℕ → Rule) → ℕ → List Rule
-listed f zero = []
-listed f (suc n) = f 0 ∷ listed (λ i. f (suc i)) n
+abbrev ruleAt : Profile → Kind → ℕ → Rule
+ruleAt p k i = getD (rules p k) i Filler
 
-getD-listed : (f : ℕ → Rule) (n : ℕ) → ((i : ℕ) → n ≤ i → f i ≡ Filler) → (i : ℕ) → getD (listed f n) i Filler ≡ f i
-getD-listed f zero past i = sym (past i zero-le)
-getD-listed f (suc n) past zero = refl
-getD-listed f (suc n) past (suc i) = getD-listed (λ j. f (suc j)) n (λ j h. past (suc j) (suc-le-suc h)) i
+-- f lists the rules of a kind's places, up to the body's end
+abbrev Lists : Profile → Kind → (Profile → ℕ → Rule) → Type 0
+Lists p k f = listed (ruleAt p k) (bodyLength p) ≡ listed (f p) (bodyLength p)
 
--- a list of rules that f lists, with nothing but the filler past the body, has the rule f i at each place
-read-off : (p : Profile) (k : Kind) (f : ℕ → Rule) → rules p k ≡ listed f (bodyLength p)
-    → ((i : ℕ) → bodyLength p ≤ i → f i ≡ Filler) → (i : ℕ) → getD (rules p k) i Filler ≡ f i
-read-off p k f e past i = ap (λ (l : List Rule). getD l i Filler) e ∙ getD-listed f (bodyLength p) past i
+-- rules that f lists, with nothing but the filler past the body, are f i at each place
+module _ (k : Kind) (f : Profile → ℕ → Rule) (past : (p : Profile) (i : ℕ) → bodyLength p ≤ i → f p i ≡ Filler) where
+  by-list : (p : Profile) → Lists p k f → (i : ℕ) → ruleAt p k i ≡ f p i
+  by-list p e = agree-all (ruleAt p k) (f p) Filler (bodyLength p) e (λ i h. List·getD-eq-default (rules p k) Filler (omega (arith, rules-length p k))) (past p)
+
+  read-off : Lists VV5404 k f → Lists VV5300 k f → (p : Profile) (i : ℕ) → ruleAt p k i ≡ f p i
+  read-off e g VV5404 = by-list VV5404 e
+  read-off e g VV5300 = by-list VV5300 g
 
 pub filler-places : (p : Profile) (i : ℕ) → getD (rules p BL) i Filler ≡ Filler
-filler-places p = read-off p BL (λ i. Filler) (list p) (λ i h. refl)
-  where
-    list : (p : Profile) → rules p BL ≡ listed (λ i. Filler) (bodyLength p)
-    list VV5404 = refl
-    list VV5300 = refl
+filler-places = read-off BL (λ p i. Filler) (λ p i h. refl) refl refl
 
 pub pixel-places : (p : Profile) (i : ℕ) → getD (rules p BK) i Filler ≡ imageWithin p (border p) i Pixel
 unfolding ruleWithin
-pixel-places p = read-off p BK (λ i. imageWithin p (border p) i Pixel) (list p) (image-past p (border p) Pixel (border-outside p))
-  where
-    list : (p : Profile) → rules p BK ≡ listed (λ i. imageWithin p (border p) i Pixel) (bodyLength p)
-    list VV5404 = refl
-    list VV5300 = refl
+pixel-places = read-off BK (λ p i. imageWithin p (border p) i Pixel) (λ p. image-past p (border p) Pixel (border-outside p)) refl refl
 
 pub register-places : (p : Profile) (i : ℕ) → getD (rules p SOF) i Filler ≡ evenly i (imageWithin p 0 i Any)
 unfolding ruleWithin
-register-places p =
-    read-off p SOF (λ i. evenly i (imageWithin p 0 i Any)) (list p) (λ i h. evenly-filler i _ (image-past p 0 Any zero-le i h))
-  where
-    list : (p : Profile) → rules p SOF ≡ listed (λ i. evenly i (imageWithin p 0 i Any)) (bodyLength p)
-    list VV5404 = refl
-    list VV5300 = refl
+register-places = read-off SOF (λ p i. evenly i (imageWithin p 0 i Any)) (λ p i h. evenly-filler i _ (image-past p 0 Any zero-le i h)) refl refl
 
 pub average-places : (p : Profile) (i : ℕ) → getD (rules p EOF) i Filler ≡ evenly i (ruleWithin i (imageStart p) (imageStart p + averagesReach p) Pixel)
 unfolding ruleWithin
-average-places p =
-    read-off p EOF (λ i. evenly i (ruleWithin i (imageStart p) (imageStart p + averagesReach p) Pixel)) (list p) (λ i h. evenly-filler i _ (averages-past p i h))
-  where
-    list : (p : Profile) → rules p EOF ≡ listed (λ i. evenly i (ruleWithin i (imageStart p) (imageStart p + averagesReach p) Pixel)) (bodyLength p)
-    list VV5404 = refl
-    list VV5300 = refl
+average-places =
+    read-off EOF (λ p i. evenly i (ruleWithin i (imageStart p) (imageStart p + averagesReach p) Pixel)) (λ p i h. evenly-filler i _ (averages-past p i h)) refl refl

@@ -1,11 +1,11 @@
--- Laws of lines as written: how many nibbles they have, and that each is 0 to 15.
-use mathlib.Core.Path.{_≡_, refl, _∙_, sym}
+-- Laws of lines as written: each nibble is 0 to 15.
+use mathlib.Core.Path.{_≡_, sym}
 use mathlib.Core.Bool.{true, false, true≢false}
 use mathlib.Core.List.{List, [], _∷_, _++_}
-use Prim.Native.Nat.{ℕ, zero, suc, _+_, _*_, _/_, _%_, _≤_}
+use Prim.Native.Nat.{ℕ, zero, suc, _/_, _%_, _≤_}
 use native.Mathlib.Omega.{arith}
 use lib.Dec.{eqb, leb}
-use lib.ListN.{length, replicate, take, drop, length-append, length-replicate}
+use lib.ListN.{replicate, take, drop}
 use borrow.Author.Tests.{leb-true, eqb-true}
 use Rattle.bits.specs.Every.{and-left, and-right}
 use Rattle.line_code.specs.declared.Kind.{Kind}
@@ -19,33 +19,12 @@ use Rattle.profile.specs.declared.Profile.{Profile}
 use Rattle.profile.specs.declared.Profile.the-variants.{VV5404, VV5300}
 use Rattle.profile.specs.declared.Rule.{Rule}
 use Rattle.profile.specs.declared.Rule.the-variants.{Filler, Pixel, Any}
-use Rattle.profile.specs.Profile.{bodyLength, fillerByte, nullByte}
+use Rattle.profile.specs.Profile.{fillerByte, nullByte}
 use Rattle.profile.specs.Layout.{isPixel, allows, fits, rules, bothAre, gapFits}
-use Rattle.stream.specs.Written.{Sent, Writable, AllWritable, no-lines, and-line, nibbles, markOf, endMark, tail, written, stream}
+use Rattle.stream.specs.Written.{Sent, Writable, AllWritable, no-lines, and-line, nibbles, markOf, written, stream}
 use Rattle.line_number.specs.LineNumberLaws.{byte-small}
-use Rattle.profile.specs.LayoutLaws.{rules-length, fits-length}
 use Rattle.recovery.specs.Calls.{changed}
 use Rattle.recovery.specs.ReadBack.{read-small}
-
--- Lengths.
-
-nibbles-length : (bs : List ℕ) → length (nibbles bs) ≡ 2 * length bs
-nibbles-length [] = refl
-nibbles-length (b ∷ bs) = omega (arith, nibbles-length bs)
-
--- 736 + 2k nibbles or 360 + 2k
-pub written-length : (p : Profile) (s : Sent) → Writable p s → length (written s) ≡ 24 + 2 * bodyLength p + 2 * s .nulls
-written-length p s g =
-    let b : length (s .body) ≡ bodyLength p = fits-length (rules p (s .kind)) (s .body) (g .body-fits) ∙ rules-length p (s .kind) in
-    omega (
-      arith,
-      length-append (nibbles (s .body)) (endMark ++ tail s),
-      nibbles-length (s .body),
-      nibbles-length (replicate (s .nulls) nullByte),
-      length-replicate {A = ℕ} (s .nulls) nullByte,
-    )
-
--- Nibbles.
 
 -- each is 0 to 15
 pub data AllNibbles : List ℕ → Type 0 where

@@ -13,7 +13,8 @@ use Rattle.two_wire.specs.declared.Sensor.{Sensor}
 use Rattle.two_wire.specs.Registers.{registerCount, lastIndex, firstSettable, fresh, next, passes, reached, left, put, stored, differs, someDiffers}
 use Rattle.two_wire.specs.RegisterLaws.{passes-counts, passes-still, reached-counts, reached-still, or-left, or-right}
 use Rattle.two_wire.specs.Messages.{writeAddress, readAddress, topBit, indexByte, indexIn, incrementIn, Outcome, accepted, refused, refuseIf, writeData, readData, readBack, addressed, laidOut, messageOn, messagesOn, contents, readMessage, behind}
-use Rattle.two_wire.specs.Writing.{someIndexPast, message, messages, wrote, writeOf, inThrees, lastListed}
+use Rattle.two_wire.specs.Writing.{someIndexPast, message, messages, writeOf, inThrees, lastListed}
+use Rattle.lent_buffer.specs.Filled.{used}
 use Rattle.two_wire.specs.WritingLaws.{wrote-is, in-threes}
 
 -- a test's two sides
@@ -251,7 +252,7 @@ pairs-accepted (i ∷ v ∷ pairs) s held count p =
 
 -- reading what was written, from any state that is not answered 11
 pub written-read-back : (s : Sensor) (pairs bytes : List ℕ) (room n : ℕ) → s .index ≤ lastIndex → length (s .registers) ≡ registerCount
-    → writeOf pairs room ≡ wrote n bytes → SetAs pairs s (messagesOn (inThrees bytes) (accepted s))
+    → writeOf pairs room ≡ used n bytes → SetAs pairs s (messagesOn (inThrees bytes) (accepted s))
 written-read-back s pairs bytes room n held count h =
     let w = wrote-is pairs bytes room n h in
     rw (w .1, in-threes pairs) (pairs-accepted pairs s held count (w .0))

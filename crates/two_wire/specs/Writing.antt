@@ -1,12 +1,10 @@
 -- Messages written from a list of index and value pairs (02, A6): each pair one message of 32, index without increment, value.
-use mathlib.Core.Bool.{Bool, true, false, _||_, cond}
+use mathlib.Core.Bool.{Bool, true, false, not, _||_, cond}
 use mathlib.Core.List.{List, [], _∷_, _++_}
 use Prim.Native.Nat.{ℕ}
 use lib.Dec.{eqb, ltb}
-use lib.ListN.{length, take, drop}
-use Rattle.refusal.specs.Refusal.{noRoom, shortMessage, pastLastRegister}
-use Rattle.two_wire.specs.declared.Written.{Written}
-use Rattle.two_wire.specs.declared.Written.the-variants as answer
+use Rattle.refusal.specs.Refusal.{shortMessage, pastLastRegister}
+use Rattle.lent_buffer.specs.Filled.{Output, require, fitted}
 use Rattle.two_wire.specs.Registers.{lastIndex}
 use Rattle.two_wire.specs.Messages.{writeAddress}
 
@@ -39,33 +37,11 @@ abbrev pub joined : List (List ℕ) → List ℕ
 joined [] = []
 joined (m ∷ ms) = m ++ joined ms
 
--- what the writer answers: the length used and those bytes, or a refusal with its number
-pub data Output : Type 0 where
-  wrote : ℕ → List ℕ → Output
-  refused : ℕ → Output
-
--- the paper's number and values of each case of the program's answer: the bytes are the front of the lent buffer
-abbrev pub outputOf : Written → List ℕ → Output
-outputOf (answer.Length n) buffer = wrote n (take n buffer)
-outputOf (answer.Refused n) buffer = refused n
-
--- the lent buffer afterwards: the messages at its front and the rest as it was; a refusal writes nothing
-abbrev pub bufferAfter : Output → List ℕ → List ℕ
-bufferAfter (wrote n bytes) buffer = bytes ++ drop n buffer
-bufferAfter (refused n) buffer = buffer
-
--- a refusal where the test passes
-unfoldable pub refuseIf : Bool → ℕ → Output → Output
-refuseIf true n o = refused n
-refuseIf false n o = o
-
 -- 24 where the list ends within a pair, then 28, then 12, or the messages; of the list and the room
 unfoldable pub writeOf : List ℕ → ℕ → Output
 writeOf pairs room =
-    refuseIf (endsWithinPair pairs) shortMessage
-    (refuseIf (someIndexPast pairs) pastLastRegister
-    (refuseIf (ltb room (length (joined (messages pairs)))) noRoom
-    (wrote (length (joined (messages pairs))) (joined (messages pairs)))))
+    require (not (endsWithinPair pairs)) shortMessage
+    (require (not (someIndexPast pairs)) pastLastRegister (fitted (joined (messages pairs)) room))
 
 -- ---- Reading what was written
 

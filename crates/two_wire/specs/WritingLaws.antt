@@ -1,17 +1,21 @@
 -- Laws of a list of pairs: its messages' length, and one pair of it after another.
 use mathlib.Core.Path.{_≡_, refl, sym, ap, _∙_}
-use mathlib.Core.Bool.{Bool, true, false, _||_, true≢false}
+use mathlib.Core.Bool.{Bool, true, false, not, _||_, true≢false}
 use mathlib.Core.List.{List, [], _∷_, _++_}
 use Prim.Native.Nat.{ℕ, suc, _+_, _*_, _/_, _%_, _<_, _≤_}
 use native.Mathlib.Numerals.{add-one, unary-clauses}
 use native.Mathlib.Omega.{arith}
 use lib.Dec.{eqb, ltb}
 use lib.ListN.{length, drop, getD, length-drop}
-use borrow.Author.Tests.{le-ltb}
-use lib.Seq.{drop-cons, take-append-seam, sets, sets-eq}
+use lib.Seq.{drop-cons, sets}
+use borrow.Author.Tests.{not-true}
+use Rattle.refusal.specs.Refusal.{shortMessage, pastLastRegister}
+use Rattle.lent_buffer.specs.declared.Filled.the-variants.{Length}
+use Rattle.lent_buffer.specs.Filled.{used, Gives, require}
+use Rattle.lent_buffer.specs.FilledLaws.{fills, fitted-used, passed, used-fitted}
+use Rattle.lent_buffer.specs.StoringLaws.{sets-front}
 use Rattle.two_wire.specs.Registers.{lastIndex}
-use Rattle.two_wire.specs.Writing.{endsWithinPair, someIndexPast, message, messages, joined, wrote, outputOf, bufferAfter, refuseIf, writeOf, inThrees}
-use Rattle.two_wire.specs.declared.Written.the-variants.{Length}
+use Rattle.two_wire.specs.Writing.{endsWithinPair, someIndexPast, message, messages, joined, writeOf, inThrees}
 
 pub ends-odd : (pairs : List ℕ) → endsWithinPair pairs ≡ eqb (length pairs % 2) 1
 ends-odd [] = refl
@@ -28,41 +32,23 @@ messages-length (i ∷ v ∷ pairs) = omega (arith, messages-length pairs)
 
 -- ---- what is written
 
--- bytes stored from the front on
-front : (bytes buffer : List ℕ) → length bytes ≤ length buffer → sets buffer 0 bytes ≡ bytes ++ drop (length bytes) buffer
-front bytes buffer h =
-    let z : 0 + length bytes ≡ length bytes = omega arith in
-    sets-eq bytes buffer 0 (omega arith) ∙ ap (λ (k : ℕ). bytes ++ drop k buffer) z
-
-told : (bytes buffer : List ℕ) → length bytes ≤ length buffer
-    → (outputOf (Length (length bytes)) (sets buffer 0 bytes) ≡ wrote (length bytes) bytes)
-    × (sets buffer 0 bytes ≡ bufferAfter (wrote (length bytes) bytes) buffer)
-told bytes buffer h =
-    (rw (front bytes buffer h) (ap (wrote (length bytes)) (take-append-seam bytes (drop (length bytes) buffer))), front bytes buffer h)
-
 -- what is neither 24, 28 nor 12 is written
 pub writes : (pairs : List ℕ) (room : ℕ) → endsWithinPair pairs ≡ false → someIndexPast pairs ≡ false → length (joined (messages pairs)) ≤ room
-    → writeOf pairs room ≡ wrote (length (joined (messages pairs))) (joined (messages pairs))
-unfolding writeOf refuseIf
-writes pairs room e p h = simp (e, p, le-ltb room (length (joined (messages pairs))) h)
+    → writeOf pairs room ≡ used (length (joined (messages pairs))) (joined (messages pairs))
+unfolding writeOf require
+writes pairs room e p h = simp (e, p) (fitted-used (joined (messages pairs)) room h)
 
 pub written : (pairs buffer : List ℕ) → endsWithinPair pairs ≡ false → someIndexPast pairs ≡ false → length (joined (messages pairs)) ≤ length buffer
-    → (outputOf (Length (length (joined (messages pairs)))) (sets buffer 0 (joined (messages pairs))) ≡ writeOf pairs (length buffer))
-    × (sets buffer 0 (joined (messages pairs)) ≡ bufferAfter (writeOf pairs (length buffer)) buffer)
-written pairs buffer e p h = rw (writes pairs (length buffer) e p h) (told (joined (messages pairs)) buffer h)
-
-through : (a b t : Bool) (x y z m n : ℕ) (bytes w : List ℕ)
-    → refuseIf a x (refuseIf b y (refuseIf t z (wrote m bytes))) ≡ wrote n w → (b ≡ false) × (w ≡ bytes)
-unfolding refuseIf
-through true b t x y z m n bytes w h = (cc, cc)
-through false true t x y z m n bytes w h = (cc, cc)
-through false false true x y z m n bytes w h = (cc, cc)
-through false false false x y z m n bytes w h = (refl, cc)
+    → Gives (writeOf pairs (length buffer)) (Length (length (joined (messages pairs)))) buffer (sets buffer 0 (joined (messages pairs)))
+written pairs buffer e p h =
+    fills _ _ (joined (messages pairs)) buffer _ (writes pairs (length buffer) e p h) refl (sets-front (joined (messages pairs)) buffer h)
 
 -- nothing else is
-pub wrote-is : (pairs w : List ℕ) (room n : ℕ) → writeOf pairs room ≡ wrote n w → (someIndexPast pairs ≡ false) × (w ≡ joined (messages pairs))
+pub wrote-is : (pairs w : List ℕ) (room n : ℕ) → writeOf pairs room ≡ used n w → (someIndexPast pairs ≡ false) × (w ≡ joined (messages pairs))
 unfolding writeOf
-wrote-is pairs w room n h = through _ _ _ _ _ _ _ _ _ _ h
+wrote-is pairs w room n h =
+    let p = passed (not (someIndexPast pairs)) pastLastRegister _ (passed (not (endsWithinPair pairs)) shortMessage _ h .1) in
+    (not-true _ (p .0), used-fitted (joined (messages pairs)) room (p .1) .0)
 
 pub in-threes : (pairs : List ℕ) → inThrees (joined (messages pairs)) ≡ messages pairs
 in-threes [] = refl

@@ -15,10 +15,12 @@ ghost use mathlib.Core.Bool.{false};
 ghost use Prim.Native.Nat.{_+_, _≤_};
 ghost use lib.ListN.{length};
 ghost use lib.Seq.{sets};
+ghost use Rattle.lent_buffer.specs.Filled.{Gives};
 ghost use Rattle.two_wire.specs.Registers.{lastIndex, fresh, next, passes, reached, left, put, stored, differs, someDiffers};
 ghost use Rattle.two_wire.specs.Messages.{indexByte, refused, Told, writeData, readData, readBack, messageOn};
 ghost use Rattle.two_wire.specs.declared.Answer.the-variants as answer;
-ghost use Rattle.two_wire.specs.Writing.{endsWithinPair, someIndexPast, message, messages, joined, outputOf, bufferAfter, writeOf};
+ghost use Rattle.two_wire.specs.Writing.{endsWithinPair, someIndexPast, message, messages, joined, writeOf};
+use lent_buffer::Filled;
 
 // A sensor as messages see it. Calls leave an index up to 127; a state with another is refused with 11.
 pub struct Sensor {
@@ -37,12 +39,6 @@ pub enum Answer {
 pub struct Seen {
     pub sensor: Sensor,
     pub answer: Answer,
-}
-
-// How many bytes of messages were written, or the refusal.
-pub enum Written {
-    Length(usize),
-    Refused(u8),
 }
 
 // The first byte of a write, and of a read.
@@ -278,21 +274,21 @@ fn differs(registers: &[u8; 128], index: u8, byte: u8) -> bool
     false
 }
 
-// Writes the messages of the pairs to the front of the buffer: `writeOf`.
-pub fn write(pairs: &[u8], buffer: &mut [u8]) -> Written
-    ensures { λ r. ⌜ (outputOf r (now (buffer .exit)) ≡ writeOf (now (pairs .entry)) (length (now (buffer .entry)))) × (now (buffer .exit) ≡ bufferAfter (writeOf (now (pairs .entry)) (length (now (buffer .entry)))) (now (buffer .entry))) ⌝ }
+// Writes the messages of the pairs to the front of the buffer: `writeOf`. The answer is the length used, three bytes a pair.
+pub fn write(pairs: &[u8], buffer: &mut [u8]) -> Filled
+    ensures { λ r. ⌜ Gives (writeOf (now (pairs .entry)) (length (now (buffer .entry)))) r (now (buffer .entry)) (now (buffer .exit)) ⌝ }
 {
     if pairs.len() % 2 == 1 {
-        return Written::Refused(refusal::SHORT_MESSAGE);
+        return Filled::Refused(refusal::SHORT_MESSAGE);
     }
     if some_index_past(pairs) {
-        return Written::Refused(refusal::PAST_LAST_REGISTER);
+        return Filled::Refused(refusal::PAST_LAST_REGISTER);
     }
     if buffer.len() / 3 < pairs.len() / 2 {
-        return Written::Refused(refusal::NO_ROOM);
+        return Filled::Refused(refusal::NO_ROOM);
     }
     let end = put_messages(pairs, buffer);
-    Written::Length(end)
+    Filled::Length(end)
 }
 
 // Whether an index of the pairs is above the last.

@@ -35,11 +35,16 @@ allBytes (b ∷ bytes) = ltb b 256 && allBytes bytes
 abbrev pub hexText : List ℕ → List ℕ
 hexText bytes = hexBytes bytes ++ (newline ∷ [])
 
+-- the digit of a number below 10
+abbrev pub decimalDigit : ℕ → ℕ
+decimalDigit n = 0x30 + n
+
 -- a number below 1,000, in as few digits as hold it
 unfoldable pub decimal : ℕ → List ℕ
 decimal n =
-    cond (ltb n 10) ((0x30 + n) ∷ [])
-    (cond (ltb n 100) ((0x30 + n / 10) ∷ (0x30 + n % 10) ∷ []) ((0x30 + n / 100) ∷ (0x30 + n / 10 % 10) ∷ (0x30 + n % 10) ∷ []))
+    cond (ltb n 10) (decimalDigit n ∷ [])
+    (cond (ltb n 100) (decimalDigit (n / 10) ∷ decimalDigit (n % 10) ∷ [])
+    (decimalDigit (n / 100) ∷ decimalDigit (n / 10 % 10) ∷ decimalDigit (n % 10) ∷ []))
 
 -- ---- read
 

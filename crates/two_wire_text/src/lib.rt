@@ -14,7 +14,7 @@ ghost use lib.ListN.{length, drop};
 ghost use lib.Seq.{sets};
 ghost use Rattle.two_wire.specs.Messages.{sensorAfter, messageOn};
 ghost use Rattle.two_wire.specs.Writing.{message};
-ghost use Rattle.two_wire_text.specs.Text.{hexDigit, hexByte, hexText, decimal, digitOf, charFits, isMessage, byteOf, bytesOf, startsWith, digitOnto, numberIn, lineLength};
+ghost use Rattle.two_wire_text.specs.Text.{hexDigit, hexByte, hexText, decimalDigit, decimal, digitOf, charFits, isMessage, byteOf, bytesOf, startsWith, digitOnto, numberIn, lineLength};
 ghost use Rattle.two_wire_text.specs.Lines.{single, double, setupSetting, settingOf, directionWord, acceptedText, refusedText, outcomeText, messageText, messageSensor, textBy, sensorBy, textOf, sensorOf, Tells};
 ghost use Rattle.two_wire_text.specs.Put.{Put};
 ghost use Rattle.two_wire_text.specs.declared.Setting.the-variants.{Unknown};
@@ -387,18 +387,23 @@ fn put_decimal(n: usize, at: usize, out: &mut [u8; 32]) -> usize
     ensures { λ r. ⌜ Put (decimal n) (now (out .entry)) at r (now (out .exit)) ⌝ }
 {
     if n < 10 {
-        out[at] = b'0' + n as u8;
-        return at + 1;
+        return put_digit(n, at, out);
     }
     if n < 100 {
-        out[at] = b'0' + (n / 10) as u8;
-        out[at + 1] = b'0' + (n % 10) as u8;
-        return at + 2;
+        let a = put_digit(n / 10, at, out);
+        return put_digit(n % 10, a, out);
     }
-    out[at] = b'0' + (n / 100) as u8;
-    out[at + 1] = b'0' + (n / 10 % 10) as u8;
-    out[at + 2] = b'0' + (n % 10) as u8;
-    at + 3
+    let a = put_digit(n / 100, at, out);
+    let b = put_digit(n / 10 % 10, a, out);
+    put_digit(n % 10, b, out)
+}
+
+fn put_digit(n: usize, at: usize, out: &mut [u8; 32]) -> usize
+    requires { ⌜ (n < 10) × (at < 32) ⌝ }
+    ensures { λ r. ⌜ Put (decimalDigit n ∷ []) (now (out .entry)) at r (now (out .exit)) ⌝ }
+{
+    out[at] = b'0' + n as u8;
+    at + 1
 }
 
 fn put(text: &[u8], at: usize, out: &mut [u8; 32]) -> usize

@@ -1,21 +1,15 @@
 -- Bytes put one after another are put at once; and what is put at the front of a buffer.
 use mathlib.Core.Path.{_≡_, refl, sym, ap, subst, _∙_}
 use mathlib.Core.List.{List, [], _∷_, _++_}
-use Prim.Native.Nat.{ℕ, suc, _+_, _*_, _≤_, _<_}
-use native.Mathlib.Nat.{add-zero, add-suc, suc-add, zero-add}
+use Prim.Native.Nat.{ℕ, _+_, _*_, _≤_, _<_}
 use native.Mathlib.Numerals.{add-one}
 use native.Mathlib.Omega.{arith}
-use lib.ListN.{length, getD, set, take, drop, replicate, length-append, replicate-append-replicate}
-use lib.Seq.{sets, sets-eq, take-suc, take-all, take-at}
+use lib.ListN.{length, getD, take, drop, replicate, length-append, replicate-append-replicate}
+use lib.Seq.{sets, take-suc, take-all, take-at}
+use Rattle.lent_buffer.specs.StoringLaws.{sets-append, sets-front}
 use Rattle.stream.specs.Written.{nibbles}
 use Rattle.writer.specs.WriterLaws.{nibbles-length, nibbles-append}
 use Rattle.writer.specs.Parts.{Put}
-
-sets-append : (u v b : List ℕ) (i : ℕ) → sets (sets b i u) (i + length u) v ≡ sets b i (u ++ v)
-sets-append [] v b i = ap (λ (k : ℕ). sets b k v) (add-zero i)
-sets-append (a ∷ u) v b i =
-    ap (λ (k : ℕ). sets (sets (set b i a) (suc i) u) k v) (add-suc i (length u) ∙ sym (suc-add i (length u)))
-    ∙ sets-append u v (set b i a) (suc i)
 
 pub put-none : (b : List ℕ) (at : ℕ) → Put [] b at at b
 put-none b at = record { place = omega arith; kept = refl; stored = refl }
@@ -48,10 +42,7 @@ put-all {b} {d} {at} {n} bytes i h = subst (λ (u : List ℕ). Put u b at n d) (
 -- bytes put at the front of a buffer that has room for them
 module _ {bytes b d : List ℕ} {n : ℕ} (p : Put bytes b 0 n d) (room : 2 * length bytes ≤ length b) where
   pub put-front : d ≡ nibbles bytes ++ drop (length (nibbles bytes)) b
-  put-front =
-      p .stored
-      ∙ sets-eq (nibbles bytes) b 0 (omega (arith, nibbles-length bytes))
-      ∙ ap (λ (k : ℕ). nibbles bytes ++ drop k b) (zero-add (length (nibbles bytes)))
+  put-front = p .stored ∙ sets-front (nibbles bytes) b (omega (arith, nibbles-length bytes))
 
   pub take-front : take n d ≡ nibbles bytes
   take-front = ap (take n) put-front ∙ take-at (nibbles bytes) _ n (omega (arith, nibbles-length bytes))

@@ -1,31 +1,32 @@
 use Rattle.two_wire.specs.WritingLaws.{ends-odd, messages-length, written}
 use Prim.Native.Nat.{_<_}
 use lib.ListN.{length}
-use Rattle.two_wire.specs.Writing.{writeOf, refuseIf, messages, joined}
-use mathlib.Core.Path.{refl, sym, _∙_}
+use Rattle.two_wire.specs.Writing.{writeOf, messages, joined}
+use mathlib.Core.Path.{sym, _∙_}
 use native.Mathlib.Omega.{arith}
-use borrow.Author.Tests.{eq-eqb, ne-eqb, lt-ltb}
-use Rattle.two_wire.specs.Writing.{writeOf, refuseIf}
+use borrow.Author.Tests.{eq-eqb, ne-eqb, lt-leb}
+use Rattle.lent_buffer.specs.Filled.{require}
+use Rattle.lent_buffer.specs.FilledLaws.{refuses}
 use borrow.Author.Needs.{needs}
 use Rattle.two_wire.proofs.write.Statement.{statement}
 use Rattle.two_wire.proofs.write.Tie as tie
 
 returns : tie.Need-returns
-unfolding writeOf refuseIf
-returns c = simp (ends-odd (c .before .before .before .args .pairs .now), eq-eqb _ _ (c .if1 .taken)) (refl, refl)
+unfolding writeOf require
+returns c = refuses _ _ _ (simp (ends-odd (c .before .before .before .args .pairs .now), eq-eqb _ _ (c .if1 .taken)))
 
 some-index-past-requires : tie.Need-some-index-past-requires
 some-index-past-requires c κs = ends-odd (c .before .before .before .args .pairs .now) ∙ ne-eqb _ _ (c .if1 .left)
 
 returns-2 : tie.Need-returns-2
-unfolding writeOf refuseIf
-returns-2 c = simp (ends-odd (c .before .before .before .before .before .args .pairs .now), ne-eqb _ _ (c .before .before .if1 .left), ← c .before .some-index-past .ensures, c .if2 .taken) (refl, refl)
+unfolding writeOf require
+returns-2 c = refuses _ _ _ (simp (ends-odd (c .before .before .before .before .before .args .pairs .now), ne-eqb _ _ (c .before .before .if1 .left), ← c .before .some-index-past .ensures, c .if2 .taken))
 
 returns-3 : tie.Need-returns-3
-unfolding writeOf refuseIf
+unfolding writeOf require
 returns-3 c = let a = c .before .before .before .before .before .before .args in
     let few : length (a .buffer .now) < length (joined (messages (a .pairs .now))) = omega (arith, messages-length (a .pairs .now)) in
-    simp (ends-odd (a .pairs .now), ne-eqb _ _ (c .before .before .before .if1 .left), ← c .before .before .some-index-past .ensures, c .before .if2 .left, lt-ltb _ _ few) (refl, refl)
+    refuses _ _ _ (simp (ends-odd (a .pairs .now), ne-eqb _ _ (c .before .before .before .if1 .left), ← c .before .before .some-index-past .ensures, c .before .if2 .left, lt-leb _ _ few))
 
 put-messages-requires : tie.Need-put-messages-requires
 put-messages-requires c κs = let pairs = c .before .before .before .before .before .before .before .args .pairs .now in

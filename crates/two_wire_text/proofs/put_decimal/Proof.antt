@@ -1,123 +1,50 @@
-use mathlib.Core.Path.{refl}
-use native.Mathlib.Numerals.{unary-clauses}
+use borrow.Author.Needs.{needs}
 use borrow.Author.Tests.{lt-ltb, le-ltb}
 use Rattle.two_wire_text.specs.Text.{decimal}
-use borrow.Author.Needs.{needs}
+use Rattle.two_wire_text.specs.Put.{then}
 use Rattle.two_wire_text.proofs.put_decimal.Statement.{statement}
 use Rattle.two_wire_text.proofs.put_decimal.Tie as tie
 
-cast-out : tie.Need-cast-out
-cast-out c = search needs
-
-add-out : tie.Need-add-out
-add-out c = search needs
-
-element-write-out : tie.Need-element-write-out
-element-write-out c = search needs
-
-add-result : tie.Need-add-result
-add-result c = search needs
+put-digit-requires : tie.Need-put-digit-requires
+put-digit-requires c κs = search needs
 
 returns : tie.Need-returns
 unfolding decimal
-returns c = simp (lt-ltb _ _ (c .if1 .taken)) (record { place = refl; stored = refl })
+returns c = simp (lt-ltb _ _ (c .before .before .if1 .taken)) (c .put-digit .ensures)
 
-cast-out-2 : tie.Need-cast-out-2
-cast-out-2 c = search needs
+put-digit-requires-2 : tie.Need-put-digit-requires-2
+put-digit-requires-2 c κs = search needs
 
-add-out-2 : tie.Need-add-out-2
-add-out-2 c = search needs
-
-element-write-out-2 : tie.Need-element-write-out-2
-element-write-out-2 c = search needs
-
-cast-out-3 : tie.Need-cast-out-3
-cast-out-3 c = search needs
-
-add-out-3 : tie.Need-add-out-3
-add-out-3 c = search needs
-
-add-out-4 : tie.Need-add-out-4
-add-out-4 c = search needs
-
-element-write-out-3 : tie.Need-element-write-out-3
-element-write-out-3 c = search needs
-
-add-result-2 : tie.Need-add-result-2
-add-result-2 c = search needs
+put-digit-requires-3 : tie.Need-put-digit-requires-3
+put-digit-requires-3 c κs = search needs
 
 returns-2 : tie.Need-returns-2
 unfolding decimal
-returns-2 c = simp (le-ltb _ _ (c .before .if1 .left), lt-ltb _ _ (c .if2 .taken)) (record { place = refl; stored = simp unary-clauses })
+returns-2 c = simp (le-ltb _ _ (c .before .before .before .before .before .if1 .left), lt-ltb _ _ (c .before .before .before .before .if2 .taken)) (then (c .before .before .put-digit2 .ensures) (c .put-digit3 .ensures))
 
-cast-out-4 : tie.Need-cast-out-4
-cast-out-4 c = search needs
+put-digit-requires-4 : tie.Need-put-digit-requires-4
+put-digit-requires-4 c κs = search needs
 
-add-out-5 : tie.Need-add-out-5
-add-out-5 c = search needs
+put-digit-requires-5 : tie.Need-put-digit-requires-5
+put-digit-requires-5 c κs = search needs
 
-element-write-out-4 : tie.Need-element-write-out-4
-element-write-out-4 c = search needs
-
-cast-out-5 : tie.Need-cast-out-5
-cast-out-5 c = search needs
-
-add-out-6 : tie.Need-add-out-6
-add-out-6 c = search needs
-
-add-out-7 : tie.Need-add-out-7
-add-out-7 c = search needs
-
-element-write-out-5 : tie.Need-element-write-out-5
-element-write-out-5 c = search needs
-
-cast-out-6 : tie.Need-cast-out-6
-cast-out-6 c = search needs
-
-add-out-8 : tie.Need-add-out-8
-add-out-8 c = search needs
-
-add-out-9 : tie.Need-add-out-9
-add-out-9 c = search needs
-
-element-write-out-6 : tie.Need-element-write-out-6
-element-write-out-6 c = search needs
-
-add-result-3 : tie.Need-add-result-3
-add-result-3 c = search needs
+put-digit-requires-6 : tie.Need-put-digit-requires-6
+put-digit-requires-6 c κs = search needs
 
 returns-3 : tie.Need-returns-3
 unfolding decimal
-returns-3 c = simp (le-ltb _ _ (c .before .if1 .left), le-ltb _ _ (c .if2 .left)) (record { place = refl; stored = simp unary-clauses })
+returns-3 c = simp (le-ltb _ _ (c .before .before .before .before .before .before .before .if1 .left), le-ltb _ _ (c .before .before .before .before .before .before .if2 .left)) (then (c .before .before .before .before .put-digit4 .ensures) (then (c .before .before .put-digit5 .ensures) (c .put-digit6 .ensures)))
 
 pub put-decimal-spec : {M : Type 1} → statement M
 put-decimal-spec =
     tie.close
     (tie.spec
-    cast-out
-    add-out
-    element-write-out
-    add-result
+    put-digit-requires
     returns
-    cast-out-2
-    add-out-2
-    element-write-out-2
-    cast-out-3
-    add-out-3
-    add-out-4
-    element-write-out-3
-    add-result-2
+    put-digit-requires-2
+    put-digit-requires-3
     returns-2
-    cast-out-4
-    add-out-5
-    element-write-out-4
-    cast-out-5
-    add-out-6
-    add-out-7
-    element-write-out-5
-    cast-out-6
-    add-out-8
-    add-out-9
-    element-write-out-6
-    add-result-3
+    put-digit-requires-4
+    put-digit-requires-5
+    put-digit-requires-6
     returns-3)
