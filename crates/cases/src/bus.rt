@@ -43,7 +43,7 @@ impl Bus {
 
     fn word(self, word: &[u8]) -> Bus {
         let star = until(word, 0, b'*');
-        let unit = &word[..star];
+        let unit = &word[0..star];
         if star == word.len() {
             return self.hex(unit);
         }
@@ -105,7 +105,7 @@ impl Bus {
         if (line.len() as u64) < size {
             return self;
         }
-        self.lent(nibble, &mut line[..size as usize])
+        self.lent(nibble, &mut line[0..size as usize])
     }
 
     // The nibbles that were written to a buffer, with the line buffer that is lent.

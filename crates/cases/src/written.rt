@@ -15,7 +15,7 @@ use writer::Written;
 pub fn write(text: &[u8], length: usize, n: [u64; 8]) {
     if length <= text.len() {
         let mut room = [UNTOUCHED; 1300];
-        tell(put_line(&text[..length], n, &mut room));
+        tell(put_line(&text[0..length], n, &mut room));
         say_changed(&room);
     }
 }
@@ -25,9 +25,9 @@ pub fn read_back(text: &[u8], length: usize, n: [u64; 8]) {
     if length <= text.len() {
         let mut room = [UNTOUCHED; 1300];
         let mut line = [UNTOUCHED; 356];
-        put_line(&text[..length], n, &mut room);
+        put_line(&text[0..length], n, &mut room);
         Bus::new(byte(n[0])).written(&room, &mut line).finish();
-        say_differing(&text[..length], &line);
+        say_differing(&text[0..length], &line);
     }
 }
 
@@ -43,7 +43,7 @@ fn put_line(body: &[u8], n: [u64; 8], room: &mut [u8]) -> Written {
         byte(n[3]),
         byte(n[4]),
         word(n[5]),
-        &mut room[..n[6] as usize],
+        &mut room[0..n[6] as usize],
     )
 }
 

@@ -12,7 +12,7 @@ use Rattle.tally.specs.declared.News.{News}
 use Rattle.tally.specs.declared.News.the-variants.{Nothing, Complete, Broken, Cut}
 use Rattle.listing.specs.Rows.{decimal, rowRoom}
 use Rattle.listing.specs.RowLaws.{decimal-short}
-use Rattle.listing.specs.Frames.{frameWords, bordersWord, goodWords, notDueWords, brokenLineWords, closing, reasonWords, completeLine, brokenLineOf, newsLine, summaryLines}
+use Rattle.listing.specs.Frames.{bordersWord, goodWords, notDueWords, brokenLineWords, closing, reasonWords, completeLine, brokenLineOf, newsLine, summaryLines}
 
 pub borders-short : (b : Borders) → length (bordersWord b) ≤ 9
 borders-short Unsettled = omega arith

@@ -30,8 +30,12 @@ abbrev pub endsAt : Option ℕ → Bool
 endsAt none = false
 endsAt (some c) = isEnd (readingOf c)
 
--- P holds of each case but lines; a mark's refusal is below 10
-module _ (P : Outcome → Type 0) (if-nothing : P nothing) (if-gap : (a b : ℕ) → P (gap a b)) (if-refused : (n : ℕ) → n < notANibble → P (refused n)) where
+-- P holds of a line, whose body is as long as the profile says, and whose next code is end of line
+abbrev pub IfLine : (Outcome → Type 0) → Profile → Option ℕ → Type 0
+IfLine P p next = (k : Kind) (n : ℕ) (r : Bool) (body : List ℕ) → length body ≡ bodyLength p → endsAt next ≡ true → P (line k n r body)
+
+-- P holds of a gap, and of a refusal, which is below 10
+module _ (P : Outcome → Type 0) (if-gap : (a b : ℕ) → P (gap a b)) (if-refused : (n : ℕ) → n < notANibble → P (refused n)) where
   require-cases : (t : Bool) (n : ℕ) (o : Outcome) → n < notANibble → (t ≡ true → P o) → P (require t n o)
   unfolding require
   require-cases true n o h f = f refl
@@ -62,29 +66,30 @@ module _ (P : Outcome → Type 0) (if-nothing : P nothing) (if-gap : (a b : ℕ)
       require-cases (isEnd next) noEndOfLine _ (omega arith) λ e.
       f _ _ body (eqb-true (length body) (bodyLength p) h) e
 
-  -- a line's body is as long as the profile says, and its next code is end of line
-  abbrev pub IfLine : Profile → Option ℕ → Type 0
-  IfLine p next = (k : Kind) (n : ℕ) (r : Bool) (body : List ℕ) → length body ≡ bodyLength p → endsAt next ≡ true → P (line k n r body)
-
-  line-cases : (p : Profile) (k : Kind) (r : Bool) (t : List ℕ) (next : Option ℕ) → IfLine p next → P (lineAnswer p k r t next)
+  line-cases : (p : Profile) (k : Kind) (r : Bool) (t : List ℕ) (next : Option ℕ) → IfLine P p next → P (lineAnswer p k r t next)
   line-cases p k r t none f = if-refused unfinishedLine (omega arith)
   line-cases p k r t (some c) f = from-cases p k r (bytesOnto t []) (readingOf c) (f k)
 
-  meaning-cases : (p : Profile) (before : LineKind) (m : Meaning) (r : Bool) (t : List ℕ) (next : Option ℕ) → IfLine p next → P (byMeaning p before m r t next)
+  meaning-cases : (p : Profile) (before : LineKind) (m : Meaning) (r : Bool) (t : List ℕ) (next : Option ℕ) → IfLine P p next → P (byMeaning p before m r t next)
   meaning-cases p before EndOfLine r t next f = gap-cases p before t
   meaning-cases p before (Line k) r t next f = line-cases p k r t next f
   meaning-cases p before ReservedEC r t next f = if-refused reservedCode (omega arith)
   meaning-cases p before ReservedF1 r t next f = if-refused reservedCode (omega arith)
 
-  reading-cases : (p : Profile) (before : LineKind) (c : Reading) (t : List ℕ) (next : Option ℕ) → IfLine p next → P (byReading p before c t next)
+  reading-cases : (p : Profile) (before : LineKind) (c : Reading) (t : List ℕ) (next : Option ℕ) → IfLine P p next → P (byReading p before c t next)
   reading-cases p before (Clean m) t next f = meaning-cases p before m false t next f
   reading-cases p before (Repaired m) t next f = meaning-cases p before m true t next f
   reading-cases p before Damaged t next f = if-refused damagedCode (omega arith)
 
-  pub answer-cases : (p : Profile) (m : Mark) (t : List ℕ) (next : Option ℕ) → IfLine p next → P (answerAt p m t next)
+  pub mark-cases : (p : Profile) (before : LineKind) (c : ℕ) (t : List ℕ) (next : Option ℕ) → IfLine P p next → P (answerOf p before c t next)
   unfolding answerOf
+  mark-cases p before c t next f = reading-cases p before (readingOf c) t next f
+
+-- and of nothing
+module _ (P : Outcome → Type 0) (if-nothing : P nothing) (if-gap : (a b : ℕ) → P (gap a b)) (if-refused : (n : ℕ) → n < notANibble → P (refused n)) where
+  pub answer-cases : (p : Profile) (m : Mark) (t : List ℕ) (next : Option ℕ) → IfLine P p next → P (answerAt p m t next)
   answer-cases p NoMark t next f = if-nothing
-  answer-cases p (Open before c) t next f = reading-cases p before (readingOf c) t next f
+  answer-cases p (Open before c) t next f = mark-cases P if-gap if-refused p before c t next f
 
   pub step-cases : (p : Profile) (s : State) (n : ℕ) → ((k : Kind) (m : ℕ) (r : Bool) (body : List ℕ) → length body ≡ bodyLength p → P (line k m r body)) → P (step p s n .outcome)
   step-cases p s n f = go (detect (n ∷ s .text))

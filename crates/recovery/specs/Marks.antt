@@ -4,7 +4,7 @@ use mathlib.Core.Path.{_≡_, refl, _∙_, ap, ap₂, sym, subst}
 use mathlib.Core.Bool.{Bool, true, false, true≢false, cond}
 use mathlib.Core.List.{List, [], _∷_, _++_}
 use mathlib.Core.Option.{Option, none, some}
-use Prim.Native.Nat.{ℕ, _≤_}
+use Prim.Native.Nat.{ℕ, _+_, _*_, _≤_}
 use native.Mathlib.Nat.{not-suc-le-zero, le-of-suc-le-suc}
 use native.Mathlib.Omega.{arith}
 use lib.Dec.{eqb}
@@ -14,8 +14,10 @@ use Rattle.refusal.specs.Refusal.{damagedCode}
 use Rattle.line_code.specs.LineCode.{readingOf}
 use Rattle.profile.specs.declared.Profile.{Profile}
 use Rattle.stream.specs.declared.Mark.{Mark}
-use Rattle.stream.specs.Answers.{nothing, refused, answerOf}
-use Rattle.stream.specs.Stream.{State, fresh, group, strip, Completed, not-yet, mark, markIf, detect, advance, step, run, outcomes}
+use Rattle.stream.specs.declared.Mark.the-variants.{NoMark, Open}
+use Rattle.stream.specs.Answers.{Outcome, nothing, line, gap, refused, answerOf}
+use Rattle.stream.specs.Stream.{State, fresh, group, strip, Completed, not-yet, mark, markIf, detect, answerAt, advance, step, finish, run, outcomes}
+use Rattle.recovery.specs.AnswerLaws.{mark-cases}
 
 -- nibbles pushed on a text, newest first
 abbrev pub onto : List ℕ → List ℕ → List ℕ
@@ -144,3 +146,52 @@ code-on-group p = refl
 -- `MarkEnds` says)
 pub marks-are-places : (p : Profile) (w : List ℕ) (n : ℕ) → completes (n ∷ run p fresh w .text) ≡ completes (n ∷ onto [] w)
 marks-are-places p w n = kept-completes (run p fresh w .text) (onto [] w) (kept p fresh [] w all-taken) n
+
+-- Each mark gets exactly one answer.
+
+-- an outcome counts as an answer, but not nothing
+abbrev answerIn : Outcome → ℕ
+answerIn nothing = 0
+answerIn (line k n r body) = 1
+answerIn (gap a b) = 1
+answerIn (refused n) = 1
+
+abbrev pub answersIn : List Outcome → ℕ
+answersIn [] = 0
+answersIn (o ∷ os) = answerIn o + answersIn os
+
+abbrev counted : Bool → ℕ
+counted b = cond b 1 0
+
+-- the marks that nibbles complete, after those of a text
+abbrev pub marksIn : List ℕ → List ℕ → ℕ
+marksIn t [] = 0
+marksIn t (n ∷ w) = counted (completes (n ∷ t)) + marksIn (n ∷ t) w
+
+-- a mark that waits for its answer
+abbrev waiting : Mark → ℕ
+waiting NoMark = 0
+waiting (Open before code) = 1
+
+answered : (p : Profile) (m : Mark) (t : List ℕ) (next : Option ℕ) → answerIn (answerAt p m t next) ≡ waiting m
+answered p NoMark t next = refl
+answered p (Open before c) t next = mark-cases (λ (o : Outcome). answerIn o ≡ 1) (λ a b. refl) (λ n l. refl) p before c t next (λ k n r body l e. refl)
+
+-- a nibble that completes a mark answers the one that waits, and the new one waits; any other answers nothing
+answered-step : (p : Profile) (m : Mark) (t : List ℕ) (d : Completed)
+    → answerIn (advance p m t d .outcome) + waiting (advance p m t d .state .at) ≡ waiting m + counted (isMark d)
+answered-step p m t not-yet = omega arith
+answered-step p m t (mark x y before) = omega (arith, answered p m before (some (16 * x + y)))
+
+answered-all : (p : Profile) (s : State) (all w : List ℕ) → Since (s .text) all
+    → answersIn (outcomes p s w) + waiting (run p s w .at) ≡ waiting (s .at) + marksIn all w
+answered-all p s all [] h = omega arith
+answered-all p s all (n ∷ w) h =
+    let d = detect (n ∷ s .text) in
+    let c : counted (completes (n ∷ s .text)) ≡ counted (completes (n ∷ all)) = ap counted (kept-completes (s .text) all h n) in
+    omega (arith, c, answered-step p (s .at) (n ∷ s .text) d, answered-all p (step p s n .state) (n ∷ all) w (kept-step p (s .at) (s .text) all n d refl h))
+
+-- of any nibbles and finish: as many answers as marks
+pub one-answer-each : (p : Profile) (w : List ℕ) → answersIn (outcomes p fresh w) + answerIn (finish p (run p fresh w) .outcome) ≡ marksIn [] w
+one-answer-each p w =
+    omega (arith, answered p (run p fresh w .at) (run p fresh w .text) none, answered-all p fresh [] w all-taken)
