@@ -10,8 +10,9 @@ use bus::Bus;
 use frames::Hearing;
 use libc::STDERR_FILENO;
 use libc::STDIN_FILENO;
+use text::Numbers;
 use text::byte;
-use text::numbers;
+use text::numbers_in;
 use text::say;
 use text::say_front;
 use text::short;
@@ -67,7 +68,7 @@ impl Bench {
             return self;
         }
         let command = line[0];
-        let n = numbers(line);
+        let n = numbers_in(line);
         match command {
             b'#' => self.title(line),
             b'n' | b's' | b'f' | b'i' | b'l' | b'e' => self.reading(command, line, n),
@@ -84,23 +85,23 @@ impl Bench {
     }
 
     // new, state, feed, input, lend, end.
-    fn reading(self, command: u8, line: &[u8], n: [u64; 8]) -> Bench {
+    fn reading(self, command: u8, line: &[u8], n: Numbers) -> Bench {
         let bus = self.bus;
         match command {
-            b'n' => self.with_bus(Bus::new(byte(n[0]))),
-            b's' => self.with_bus(bus::in_state(word(n[0]), word(n[1]))),
+            b'n' => self.with_bus(Bus::new(byte(n.n0))),
+            b's' => self.with_bus(bus::in_state(word(n.n0), word(n.n1))),
             b'f' => self.with_bus(bus.feed(line)),
-            b'i' => self.with_bus(bus.input(byte(n[0]))),
-            b'l' => self.with_bus(bus.lend(n[0], byte(n[1]))),
+            b'i' => self.with_bus(bus.input(byte(n.n0))),
+            b'l' => self.with_bus(bus.lend(n.n0, byte(n.n1))),
             _ => self.with_bus(bus.finish()),
         }
     }
 
     // body, put, write, read, header.
-    fn writing(self, command: u8, n: [u64; 8]) -> Bench {
+    fn writing(self, command: u8, n: Numbers) -> Bench {
         match command {
-            b'b' => self.with_body(n[0], byte(n[1])),
-            b'p' => self.with_byte(n[0], byte(n[1])),
+            b'b' => self.with_body(n.n0, byte(n.n1)),
+            b'p' => self.with_byte(n.n0, byte(n.n1)),
             b'w' => self.write(n),
             b'r' => self.read_back(n),
             _ => self.header(),
@@ -108,12 +109,12 @@ impl Bench {
     }
 
     // judge, due, give, over.
-    fn judging(self, command: u8, n: [u64; 8]) -> Bench {
+    fn judging(self, command: u8, n: Numbers) -> Bench {
         let hearing = self.hearing;
         match command {
             b'j' => self.with_hearing(Hearing::new()),
-            b'd' => self.with_hearing(frames::in_state(short(n[0]), n[1])),
-            b'g' => self.with_hearing(hearing.lines(byte(n[0]), short(n[1]), short(n[2]))),
+            b'd' => self.with_hearing(frames::in_state(short(n.n0), n.n1)),
+            b'g' => self.with_hearing(hearing.lines(byte(n.n0), short(n.n1), short(n.n2))),
             _ => self.with_hearing(hearing.end()),
         }
     }
@@ -172,13 +173,13 @@ impl Bench {
         }
     }
 
-    fn write(self, n: [u64; 8]) -> Bench {
+    fn write(self, n: Numbers) -> Bench {
         let body = self.body;
         written::write(&body, self.length, n);
         self
     }
 
-    fn read_back(self, n: [u64; 8]) -> Bench {
+    fn read_back(self, n: Numbers) -> Bench {
         let body = self.body;
         written::read_back(&body, self.length, n);
         self

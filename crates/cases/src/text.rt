@@ -40,21 +40,39 @@ pub fn until(text: &[u8], from: usize, sign: u8) -> usize
     i
 }
 
-// The numbers that the words of a line are, after its first: up to eight.
-pub fn numbers(line: &[u8]) -> [u64; 8] {
-    let mut found = [0u64; 8];
+// The numbers that the words of a line are, after its first: up to seven; 0 where there are fewer.
+pub struct Numbers {
+    pub n0: u64,
+    pub n1: u64,
+    pub n2: u64,
+    pub n3: u64,
+    pub n4: u64,
+    pub n5: u64,
+    pub n6: u64,
+}
+
+pub fn numbers_in(line: &[u8]) -> Numbers {
+    let mut found = [0u64; 7];
     let mut count: usize = 0;
     let mut i = until(line, 0, b' ');
     while i < line.len() {
         let start = i + 1;
         let end = until(line, start, b' ');
-        if count < 8 {
+        if count < 7 {
             found[count] = number(&line[start..end]);
             count += 1;
         }
         i = end;
     }
-    found
+    Numbers {
+        n0: found[0],
+        n1: found[1],
+        n2: found[2],
+        n3: found[3],
+        n4: found[4],
+        n5: found[5],
+        n6: found[6],
+    }
 }
 
 // The number of a word, in decimal.

@@ -3,6 +3,7 @@ use crate::buffer::UNTOUCHED;
 use crate::buffer::say_changed;
 use crate::buffer::say_differing;
 use crate::bus::Bus;
+use crate::text::Numbers;
 use crate::text::byte;
 use crate::text::say;
 use crate::text::say_number;
@@ -12,7 +13,7 @@ use writer::Written;
 
 // Writes a line, whose body is the front of a text, into a buffer of a size, and tells what came of it. The numbers: profile, kind, number,
 // two gap bytes, nulls, size.
-pub fn write(text: &[u8], length: usize, n: [u64; 8]) {
+pub fn write(text: &[u8], length: usize, n: Numbers) {
     if length <= text.len() {
         let mut room = [UNTOUCHED; 1300];
         tell(put_line(&text[0..length], n, &mut room));
@@ -21,29 +22,29 @@ pub fn write(text: &[u8], length: usize, n: [u64; 8]) {
 }
 
 // Writes a line, reads what was written, and compares the bodies.
-pub fn read_back(text: &[u8], length: usize, n: [u64; 8]) {
+pub fn read_back(text: &[u8], length: usize, n: Numbers) {
     if length <= text.len() {
         let mut room = [UNTOUCHED; 1300];
         let mut line = [UNTOUCHED; 356];
         put_line(&text[0..length], n, &mut room);
-        Bus::new(byte(n[0])).written(&room, &mut line).finish();
+        Bus::new(byte(n.n0)).written(&room, &mut line).finish();
         say_differing(&text[0..length], &line);
     }
 }
 
-fn put_line(body: &[u8], n: [u64; 8], room: &mut [u8]) -> Written {
-    if (room.len() as u64) < n[6] {
+fn put_line(body: &[u8], n: Numbers, room: &mut [u8]) -> Written {
+    if (room.len() as u64) < n.n6 {
         return Written::Refused(0);
     }
     writer::write(
-        byte(n[0]),
-        byte(n[1]),
-        short(n[2]),
+        byte(n.n0),
+        byte(n.n1),
+        short(n.n2),
         body,
-        byte(n[3]),
-        byte(n[4]),
-        word(n[5]),
-        &mut room[0..n[6] as usize],
+        byte(n.n3),
+        byte(n.n4),
+        word(n.n5),
+        &mut room[0..n.n6 as usize],
     )
 }
 

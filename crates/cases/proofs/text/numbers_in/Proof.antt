@@ -1,8 +1,8 @@
 use lib.ListN.{length}
 use Prim.Native.Nat.{_≤_, _-_}
 use borrow.Author.Needs.{needs}
-use Rattle.cases.proofs.text.numbers.Statement.{statement}
-use Rattle.cases.proofs.text.numbers.Tie as tie
+use Rattle.cases.proofs.text.numbers_in.Statement.{statement}
+use Rattle.cases.proofs.text.numbers_in.Tie as tie
 
 abbrev Inv-loop : tie.InvT-loop
 Inv-loop line found₀ count₀ i₀ found count i = i ≤ length line
@@ -55,11 +55,32 @@ loop-less-2 c = search needs
 loop-again-2 : tie.Need-loop-again-2 Inv-loop μ-loop
 loop-again-2 c = search needs
 
+array-read-t19 : tie.Need-array-read-t19 Inv-loop μ-loop
+array-read-t19 c = search needs
+
+array-read-t22 : tie.Need-array-read-t22 Inv-loop μ-loop
+array-read-t22 c = search needs
+
+array-read-t25 : tie.Need-array-read-t25 Inv-loop μ-loop
+array-read-t25 c = search needs
+
+array-read-t28 : tie.Need-array-read-t28 Inv-loop μ-loop
+array-read-t28 c = search needs
+
+array-read-t31 : tie.Need-array-read-t31 Inv-loop μ-loop
+array-read-t31 c = search needs
+
+array-read-t34 : tie.Need-array-read-t34 Inv-loop μ-loop
+array-read-t34 c = search needs
+
+array-read-t37 : tie.Need-array-read-t37 Inv-loop μ-loop
+array-read-t37 c = search needs
+
 returns : tie.Need-returns Inv-loop μ-loop
 returns c = search needs
 
-pub numbers-spec : {M : Type 1} → statement M
-numbers-spec =
+pub numbers-in-spec : {M : Type 1} → statement M
+numbers-in-spec =
     tie.close
     (tie.spec
     Inv-loop
@@ -79,4 +100,11 @@ numbers-spec =
     loop-again
     loop-less-2
     loop-again-2
+    array-read-t19
+    array-read-t22
+    array-read-t25
+    array-read-t28
+    array-read-t31
+    array-read-t34
+    array-read-t37
     returns)
