@@ -97,18 +97,18 @@ passes-low place Unsettled h = within-low 1 settlingPlace place h
 passes-low place On h = omega (arith, within-low (settlingPlace + 1) lastPlace place h)
 passes-low place Off h = omega (arith, within-low (settlingPlace + 1) lastPlace place h)
 
-passes-high : (place : ℕ) (b : Borders) → passes (Due place b) ≡ true → place ≤ lastPlace
+pub passes-high : (place : ℕ) (b : Borders) → passes (Due place b) ≡ true → place ≤ lastPlace
 passes-high place Unsettled h = omega (arith, within-high 1 settlingPlace place h)
 passes-high place On h = within-high (settlingPlace + 1) lastPlace place h
 passes-high place Off h = within-high (settlingPlace + 1) lastPlace place h
 
 -- Runs of calls, one call longer.
 
-after-snoc : (j : Judge) (ls : List Line) (l : Line) → after j (ls ++ (l ∷ [])) ≡ called (after j ls) l .judge
+pub after-snoc : (j : Judge) (ls : List Line) (l : Line) → after j (ls ++ (l ∷ [])) ≡ called (after j ls) l .judge
 after-snoc j [] l = refl
 after-snoc j (a ∷ ls) l = after-snoc (called j a .judge) ls l
 
-accepted-snoc : (j : Judge) (ls : List Line) (l : Line) → accepted j (ls ++ (l ∷ [])) ≡ accepted j ls ++ acceptedOne (after j ls) l
+pub accepted-snoc : (j : Judge) (ls : List Line) (l : Line) → accepted j (ls ++ (l ∷ [])) ≡ accepted j ls ++ acceptedOne (after j ls) l
 accepted-snoc j [] l = append-nil (acceptedOne j l)
 accepted-snoc j (a ∷ ls) l =
     ap (λ (t : List Line). acceptedOne j a ++ t) (accepted-snoc (called j a .judge) ls l)
@@ -169,7 +169,7 @@ unfolding judgeOf
 opened Waiting h = refl
 opened (Due place b) h = ap (λ (r : Judged). r .judge) (sof-within place b h)
 
-opens-is : (l : Line) → opens (l .kind) (l .number) ≡ true → l ≡ line (kindNumber SOF) 0
+pub opens-is : (l : Line) → opens (l .kind) (l .number) ≡ true → l ≡ line (kindNumber SOF) 0
 opens-is l h =
     let sof : Bool = eqb (l .kind) (kindNumber SOF) in
     ap₂ line (eqb-true (l .kind) (kindNumber SOF) (and-left sof _ h)) (eqb-true (l .number) 0 (and-right sof _ h))
@@ -178,7 +178,7 @@ either : {P : Type 0} (a b : Bool) → (a || b) ≡ true → (a ≡ true → P) 
 either true b h f g = f refl
 either false b h f g = g h
 
-first-is : (b : Borders) (l : Line) → fits b 0 l ≡ true → l ≡ line (kindNumber SOF) 0
+pub first-is : (b : Borders) (l : Line) → fits b 0 l ≡ true → l ≡ line (kindNumber SOF) 0
 unfolding kindAt
 first-is b l h =
     let sof : Bool = eqb (l .kind) (kindNumber SOF) in
@@ -262,21 +262,20 @@ frame-complete b ls f = frame-complete-anywhere Waiting refl b ls f
 
 -- What one call does.
 
-abbrev complete : Verdict → Bool
-complete verdict.Waiting = false
-complete verdict.Going = false
-complete verdict.Complete = true
-complete (verdict.Refused r) = false
-
 -- the line is due at the place, and its number is not too large
-abbrev IsDue : Borders → ℕ → Line → Type 0
+abbrev pub IsDue : Borders → ℕ → Line → Type 0
 IsDue b place l = (lineDue b place (l .kind) (l .number) ≡ true) × (leb (l .number) greatest ≡ true)
 
--- a call changes nothing; or the judge waits; or the line opens a frame; or it is due, and not the last; or the last
-data Effect (j : Judge) (l : Line) : Judged → Type 0 where
-  nothing : (v : Verdict) → accepts v ≡ false → Effect j l (gives j v)
-  waits : (v : Verdict) → accepts v ≡ true → complete v ≡ false → Effect j l (gives Waiting v)
-  starts : (v : Verdict) → accepts v ≡ true → complete v ≡ false → opens (l .kind) (l .number) ≡ true → Effect j l (gives begun v)
+-- a call changes nothing (13, 14); or the judge waits; or the line breaks the frame (19, 18); or it opens one, or another one; or it is due,
+-- and not the last; or the last
+pub data Effect (j : Judge) (l : Line) : Judged → Type 0 where
+  wrongKind : Effect j l (refuses j badKind)
+  wrongNumber : Effect j l (refuses j numberTooLarge)
+  waits : Effect j l (gives Waiting verdict.Waiting)
+  breaks : Effect j l (refuses Waiting brokenLine)
+  strays : Effect j l (refuses Waiting notTheLineDue)
+  starts : j ≡ Waiting → opens (l .kind) (l .number) ≡ true → Effect j l (gives begun verdict.Going)
+  restarts : opens (l .kind) (l .number) ≡ true → Effect j l (refuses begun notTheLineDue)
   goes : (place : ℕ) (b : Borders) → j ≡ Due place b → IsDue b place l → place < lastPlace
       → Effect j l (gives (Due (place + 1) (settled b place (l .kind))) verdict.Going)
   ends : (place : ℕ) (b : Borders) → j ≡ Due place b → IsDue b place l → lastPlace ≤ place → Effect j l (gives Waiting verdict.Complete)
@@ -286,24 +285,24 @@ pick true f g = f refl
 pick false f g = g refl
 
 effect-broken : (j : Judge) (l : Line) → Effect j l (broken j)
-effect-broken Waiting l = waits verdict.Waiting refl refl
-effect-broken (Due place b) l = waits (verdict.Refused brokenLine) refl refl
+effect-broken Waiting l = waits
+effect-broken (Due place b) l = breaks
 
 effect-whole : (j : Judge) (l : Line) → leb (l .number) greatest ≡ true → Effect j l (whole j (l .kind) (l .number))
-effect-whole Waiting l n = pick (opens (l .kind) (l .number)) (λ o. starts verdict.Going refl refl o) (λ o. waits verdict.Waiting refl refl)
+effect-whole Waiting l n = pick (opens (l .kind) (l .number)) (λ o. starts refl o) (λ o. waits)
 effect-whole (Due place b) l n =
     pick (lineDue b place (l .kind) (l .number))
     (λ d. pick (ltb place lastPlace) (λ t. goes place b refl (d, n) (ltb-true place lastPlace t)) (λ t. ends place b refl (d, n) (ltb-false place lastPlace t)))
-    (λ d. pick (opens (l .kind) (l .number)) (λ o. starts (verdict.Refused notTheLineDue) refl refl o) (λ o. waits (verdict.Refused notTheLineDue) refl refl))
+    (λ d. pick (opens (l .kind) (l .number)) (λ o. restarts o) (λ o. strays))
 
-effect : (j : Judge) (l : Line) → passes j ≡ true → Effect j l (called j l)
+pub effect : (j : Judge) (l : Line) → passes j ≡ true → Effect j l (called j l)
 unfolding judgeOf
 effect j l h =
     pick (passes j)
     (λ p. pick (leb (l .kind) (kindNumber EOF))
     (λ k. pick (eqb (l .kind) brokenKind) (λ z. effect-broken j l)
-    (λ z. pick (leb (l .number) greatest) (λ n. effect-whole j l n) (λ n. nothing (verdict.Refused numberTooLarge) refl)))
-    (λ k. nothing (verdict.Refused badKind) refl))
+    (λ z. pick (leb (l .number) greatest) (λ n. effect-whole j l n) (λ n. wrongNumber)))
+    (λ k. wrongKind))
     (λ p. absurd (true≢false (sym h ∙ p)))
 
 -- a call that is not accepted changes nothing
@@ -311,9 +310,13 @@ pub unaccepted : (j : Judge) (l : Line) → passes j ≡ true → accepts (calle
 unaccepted j l h = by (called j l) (effect j l h)
   where
     by : (r : Judged) → Effect j l r → accepts (r .verdict) ≡ false → r .judge ≡ j
-    by _ (nothing v a) e = refl
-    by _ (waits v a c) e = absurd (true≢false (sym a ∙ e))
-    by _ (starts v a c o) e = absurd (true≢false (sym a ∙ e))
+    by _ wrongKind e = refl
+    by _ wrongNumber e = refl
+    by _ waits e = absurd (true≢false e)
+    by _ breaks e = absurd (true≢false e)
+    by _ strays e = absurd (true≢false e)
+    by _ (starts q o) e = absurd (true≢false e)
+    by _ (restarts o) e = absurd (true≢false e)
     by _ (goes place b q d g) e = absurd (true≢false e)
     by _ (ends place b q d g) e = absurd (true≢false e)
 
@@ -333,9 +336,13 @@ passes-next place Off k h g =
     within-holds (settlingPlace + 1) lastPlace (place + 1) (omega (arith, within-low (settlingPlace + 1) lastPlace place h)) (omega arith)
 
 passes-effect : (j : Judge) (l : Line) (r : Judged) → Effect j l r → passes j ≡ true → passes (r .judge) ≡ true
-passes-effect j l _ (nothing v a) h = h
-passes-effect j l _ (waits v a c) h = refl
-passes-effect j l _ (starts v a c o) h = refl
+passes-effect j l _ wrongKind h = h
+passes-effect j l _ wrongNumber h = h
+passes-effect j l _ waits h = refl
+passes-effect j l _ breaks h = refl
+passes-effect j l _ strays h = refl
+passes-effect j l _ (starts q o) h = refl
+passes-effect j l _ (restarts o) h = refl
 passes-effect j l _ (goes place b e d g) h = passes-next place b (l .kind) (subst (λ (s : Judge). passes s ≡ true) e h) g
 passes-effect j l _ (ends place b e d g) h = refl
 
@@ -415,11 +422,19 @@ longer : (past : List Line) (place : ℕ) (b : Borders) (l : Line) → passes (D
 longer past place b l h d (earlier, ls, e, f) =
     (earlier, ls ++ (l ∷ []), ap (λ (x : List Line). x ++ (l ∷ [])) e ∙ append-assoc earlier ls (l ∷ []), first-longer place b ls l h d f)
 
-traced-effect : (past : List Line) (j : Judge) (l : Line) (r : Judged) → Effect j l r → passes j ≡ true → Traced past j → Traced (past ++ cond (accepts (r .verdict)) (l ∷ []) []) (r .judge)
+-- a line that opens a frame is its first
+traced-first : (past : List Line) (l : Line) → opens (l .kind) (l .number) ≡ true → Traced (past ++ (l ∷ [])) begun
 unfolding kindAt
-traced-effect past j l _ (nothing v a) h t = simp (a, append-nil) t
-traced-effect past j l _ (waits v a c) h t = tt
-traced-effect past j l _ (starts v a c o) h t = (past, l ∷ [], simp a refl, (refl, subst (λ (x : Line). laidFrom Unsettled 0 (x ∷ []) ≡ true) (sym (opens-is l o)) refl))
+traced-first past l o = (past, l ∷ [], refl, (refl, subst (λ (x : Line). laidFrom Unsettled 0 (x ∷ []) ≡ true) (sym (opens-is l o)) refl))
+
+traced-effect : (past : List Line) (j : Judge) (l : Line) (r : Judged) → Effect j l r → passes j ≡ true → Traced past j → Traced (past ++ cond (accepts (r .verdict)) (l ∷ []) []) (r .judge)
+traced-effect past j l _ wrongKind h t = simp append-nil t
+traced-effect past j l _ wrongNumber h t = simp append-nil t
+traced-effect past j l _ waits h t = tt
+traced-effect past j l _ breaks h t = tt
+traced-effect past j l _ strays h t = tt
+traced-effect past j l _ (starts q o) h t = traced-first past l o
+traced-effect past j l _ (restarts o) h t = traced-first past l o
 traced-effect past j l _ (goes place b e d g) h t =
     simp add-one (longer past place b l (subst (λ (s : Judge). passes s ≡ true) e h) d (subst (λ (s : Judge). Traced past s) e t))
 traced-effect past j l _ (ends place b e d g) h t = tt
@@ -431,12 +446,22 @@ traced past j (l ∷ ls) h t =
     simp (← append-assoc)
     (traced (past ++ acceptedOne j l) (called j l .judge) ls (passes-effect j l (called j l) e h) (traced-effect past j l (called j l) e h t))
 
+abbrev complete : Verdict → Bool
+complete verdict.Waiting = false
+complete verdict.Going = false
+complete verdict.Complete = true
+complete (verdict.Refused r) = false
+
 -- only a line that is due at the last place is answered Complete
 ends-only : (j : Judge) (l : Line) (r : Judged) → Effect j l r → r .verdict ≡ verdict.Complete
     → (place : ℕ) × (b : Borders) × (j ≡ Due place b) × (IsDue b place l) × (lastPlace ≤ place)
-ends-only j l _ (nothing v a) e = absurd (true≢false (sym (ap accepts e) ∙ a))
-ends-only j l _ (waits v a c) e = absurd (true≢false (sym (ap complete e) ∙ c))
-ends-only j l _ (starts v a c o) e = absurd (true≢false (sym (ap complete e) ∙ c))
+ends-only j l _ wrongKind e = absurd (true≢false (sym (ap complete e)))
+ends-only j l _ wrongNumber e = absurd (true≢false (sym (ap complete e)))
+ends-only j l _ waits e = absurd (true≢false (sym (ap complete e)))
+ends-only j l _ breaks e = absurd (true≢false (sym (ap complete e)))
+ends-only j l _ strays e = absurd (true≢false (sym (ap complete e)))
+ends-only j l _ (starts q o) e = absurd (true≢false (sym (ap complete e)))
+ends-only j l _ (restarts o) e = absurd (true≢false (sym (ap complete e)))
 ends-only j l _ (goes place b q d g) e = absurd (true≢false (sym (ap complete e)))
 ends-only j l _ (ends place b q d g) e = (place, b, q, d, g)
 

@@ -168,10 +168,7 @@ impl Tally {
     fn refused(self, judge: Judge, number: u8, own: u8) -> Told
         ensures { λ r. ⌜ r ≡ refusedBy self judge number own ⌝ }
     {
-        if number == refusal::NOT_THE_LINE_DUE {
-            return self.broken_by(judge, number, own);
-        }
-        if number == refusal::BROKEN_LINE {
+        if breaks_frame(number) {
             return self.broken_by(judge, number, own);
         }
         let before = self.judge;
@@ -212,6 +209,26 @@ impl Tally {
     }
 }
 
+// Whether an answer's refusal number, 1 to 7, is that of a broken line.
+pub fn is_broken_line(number: u8) -> bool
+    ensures { λ r. ⌜ r ≡ isBrokenLine number ⌝ }
+{
+    if number < refusal::DAMAGED_CODE {
+        return false;
+    }
+    number <= refusal::NO_END_OF_LINE
+}
+
+// Whether a refusal of the judge, 18 or 19, breaks the frame.
+pub fn breaks_frame(number: u8) -> bool
+    ensures { λ r. ⌜ r ≡ breaksFrame number ⌝ }
+{
+    if number == refusal::NOT_THE_LINE_DUE {
+        return true;
+    }
+    number == refusal::BROKEN_LINE
+}
+
 // A line that is given out has no refusal.
 const NO_REFUSAL: u8 = 0;
 
@@ -221,16 +238,6 @@ fn quiet(tally: Tally) -> Told
 {
     let news = News::Nothing;
     Told { tally, news }
-}
-
-// Whether an answer's refusal number, 1 to 7, is that of a broken line.
-fn is_broken_line(number: u8) -> bool
-    ensures { λ r. ⌜ r ≡ isBrokenLine number ⌝ }
-{
-    if number < refusal::DAMAGED_CODE {
-        return false;
-    }
-    number <= refusal::NO_END_OF_LINE
 }
 
 // Whether the capture ended within a line.
