@@ -64,7 +64,7 @@ pub height-most : (b : Borders) → height b ≤ height On
 height-most On = lit≤ tt
 height-most Off = lit≤ tt
 
-size-tells : (then : Borders → Output) (n : ℕ) (b : Borders) (m : ℕ) → m ≡ size b → either (λ x. eqb m (size x)) then n ≡ then b
+pub size-tells : (then : Borders → Output) (n : ℕ) (b : Borders) (m : ℕ) → m ≡ size b → either (λ x. eqb m (size x)) then n ≡ then b
 unfolding either
 size-tells then n On m e = simp e
 size-tells then n Off m e = simp e

@@ -1,0 +1,44 @@
+use mathlib.Core.Path.{sym, _∙_}
+use borrow.Author.Tests.{eq-eqb, ne-eqb}
+use borrow.Author.Needs.{needs}
+use Rattle.line_code.specs.declared.Kind.the-variants.{VL}
+use Rattle.line_code.specs.LineCode.{kindNumber}
+use Rattle.frame_rows.specs.FrameRows.{onward}
+use Rattle.frame_rows.proofs.Answering.{gives, quietly}
+use Rattle.frame_rows.proofs.Gatherer.onward.Statement.{statement}
+use Rattle.frame_rows.proofs.Gatherer.onward.Tie as tie
+
+number-requires : tie.Need-number-requires
+number-requires c κs = search needs
+
+keep-row-requires : tie.Need-keep-row-requires
+keep-row-requires c κs = search needs
+
+same-length : tie.Need-same-length
+same-length c = search needs
+
+returns : tie.Need-returns
+unfolding onward
+returns c = simp (eq-eqb _ (kindNumber VL) (c .before .before .before .before .if1 .taken ∙ c .before .before .before .before .before .number .ensures)) (c .before .before .keep-row .ensures)
+
+moved-requires : tie.Need-moved-requires
+moved-requires c κs = search needs
+
+quiet-requires : tie.Need-quiet-requires
+quiet-requires c κs = search needs
+
+returns-2 : tie.Need-returns-2
+unfolding onward
+returns-2 c = gives _ _ _ _ _ (quietly (c .quiet .ensures) (c .before .moved .ensures)) (simp (ne-eqb _ (kindNumber VL) (λ e. c .before .before .if1 .left (e ∙ sym (c .before .before .before .number .ensures)))))
+
+pub onward-spec : {M : Type 1} → statement M
+onward-spec =
+    tie.close
+    (tie.spec
+    number-requires
+    keep-row-requires
+    same-length
+    returns
+    moved-requires
+    quiet-requires
+    returns-2)

@@ -1,0 +1,468 @@
+-- Laws of the rows: whenever a call says complete, the lines taken end in a whole frame, and the rows are exactly those of its visible lines.
+-- While the judge is in a frame, the rows kept are those of the lines since the last SOF numbered 0 (`Holds`); `complete-frame` says which lines
+-- those are when the judge says Complete.
+use mathlib.Core.Path.{_≡_, refl, sym, ap, subst, _∙_}
+use mathlib.Core.Bool.{Bool, true, false, _&&_, _||_, cond, true≢false}
+use mathlib.Core.List.{List, [], _∷_, _++_, append-nil, append-assoc}
+use Prim.Native.Nat.{ℕ, suc, _+_, _*_, _≤_, _<_}
+use native.Mathlib.Omega.{arith}
+use borrow.Author.Tests.{eqb-true, leb-true}
+use lib.Dec.{eqb, leb}
+use lib.ListN.{length, take, drop, length-append, drop-of-length-le}
+use lib.Seq.{length-take-le, take-at, drop-cons}
+use Rattle.refusal.specs.Refusal.{noRoom, badKind, numberTooLarge}
+use Rattle.bits.specs.Every.{and-left, and-right}
+use Rattle.line_code.specs.declared.Kind.{Kind}
+use Rattle.line_code.specs.declared.Kind.the-variants.{BL, SOF}
+use Rattle.line_code.specs.LineCode.{kindNumber}
+use Rattle.profile.specs.Profile.{longest}
+use Rattle.stream.specs.declared.Answer.{Answer}
+use Rattle.stream.specs.declared.Answer.the-variants as answer
+use Rattle.frame.specs.declared.Verdict.the-variants as verdict
+use Rattle.frame.specs.declared.Borders.{Borders}
+use Rattle.frame.specs.declared.Borders.the-variants.{Unsettled, On, Off}
+use Rattle.frame.specs.declared.Judge.{Judge}
+use Rattle.frame.specs.declared.Judge.the-variants.{Waiting, Due}
+use Rattle.frame.specs.declared.Judged.{Judged}
+use Rattle.frame.specs.Frame.{layout, lastPlace, kindAt, standsAt, kindDue, opens, begun, brokenKind, passes, gives}
+use Rattle.frame.specs.Calls.{Line, line, called, after, accepts, accepted, fits, laidFrom, IsFrame}
+use Rattle.frame.specs.Agree.{agree}
+use Rattle.frame.specs.FrameLaws.{frame-length, passes-high, after-snoc, accepted-snoc, opens-is, first-is, sof-within, IsDue, Effect, wrongKind, wrongNumber, waits, breaks, strays, starts, restarts, goes, ends, effect, reached-passes, complete-frame}
+use Rattle.tally.specs.Tally.{isBrokenLine}
+use Rattle.tally.specs.Answered.{handedOver, isBreak}
+use Rattle.pixel_order.specs.declared.Way.the-variants.{ToPixels}
+use Rattle.pixel_order.specs.PixelOrderLaws.{reordered-length}
+use Rattle.pgm.specs.Pgm.{size}
+use Rattle.frame_rows.specs.declared.Order.{Order}
+use Rattle.frame_rows.specs.declared.Order.the-variants.{AsSent, OddFirst}
+use Rattle.frame_rows.specs.declared.Gatherer.{Gatherer}
+use Rattle.frame_rows.specs.FrameRows.{Shown, pixelsOf, isVisible, rowOf, rowsOf, Output, nothing, complete, refused, Outcome, moved, quiet, refuses, keepRow, onward, completed, refusedBy, byVerdict, handed, shownAs, takeOf}
+use Rattle.frame_rows.specs.Gathering.{Given, call, calls, start, unlessRefused, shown, taken, linesOf, pictureOf, Completes, Every}
+
+-- Lists of lines.
+
+lines-append : (a b : List Shown) → linesOf (a ++ b) ≡ linesOf a ++ linesOf b
+lines-append [] b = refl
+lines-append (l ∷ a) b = ap (λ (x : List Line). l .given ∷ x) (lines-append a b)
+
+rows-append : (o : Order) (a b : List Shown) → rowsOf o (a ++ b) ≡ rowsOf o a ++ rowsOf o b
+rows-append o [] b = refl
+rows-append o (l ∷ a) b = ap (λ (x : List ℕ). rowOf o l ++ x) (rows-append o a b) ∙ sym (append-assoc (rowOf o l) (rowsOf o a) (rowsOf o b))
+
+-- lines that split, split with their bodies
+record Split (ls : List Shown) (a b : List Line) : Type 0 where
+  front : List Shown
+  back : List Shown
+  joined : ls ≡ front ++ back
+  back-lines : linesOf back ≡ b
+
+split : (ls : List Shown) (a b : List Line) → linesOf ls ≡ a ++ b → Split ls a b
+split ls [] b e = record { front = []; back = ls; joined = refl; back-lines = e }
+split [] (x ∷ a) b e = absurd (let z : _≡_ {A = ℕ} 0 (suc (length (a ++ b))) = ap length e in omega arith)
+split (l ∷ ls) (x ∷ a) b e =
+    let r = split ls a b (cc) in
+    record { front = l ∷ r .front; back = r .back; joined = ap (λ (t : List Shown). l ∷ t) (r .joined); back-lines = r .back-lines }
+
+-- The lines of the frame that is open: those since the last SOF numbered 0, which is the first of them.
+
+abbrev isFirst : Shown → Bool
+isFirst l = opens (l .given .kind) (l .given .number)
+
+abbrev since : List Shown → List Shown → List Shown
+since own [] = own
+since own (l ∷ ls) = since (cond (isFirst l) [] own ++ (l ∷ [])) ls
+
+abbrev latest : List Shown → List Shown
+latest ls = since [] ls
+
+since-append : (own a b : List Shown) → since own (a ++ b) ≡ since (since own a) b
+since-append own [] b = refl
+since-append own (l ∷ a) b = since-append (cond (isFirst l) [] own ++ (l ∷ [])) a b
+
+latest-snoc : (ls : List Shown) (l : Shown) (t : Bool) → isFirst l ≡ t → latest (ls ++ (l ∷ [])) ≡ cond t [] (latest ls) ++ (l ∷ [])
+latest-snoc ls l t e = since-append [] ls (l ∷ []) ∙ ap (λ (x : Bool). cond x [] (latest ls) ++ (l ∷ [])) e
+
+-- an SOF stands at no place of a frame but the first
+abbrev sofAt : Borders → ℕ → Bool
+sofAt b place = eqb (kindNumber (kindAt b place)) (kindNumber SOF)
+
+sof-once : (b : Borders) (n : ℕ) → n < lastPlace → sofAt b (suc n) ≡ false
+unfolding kindAt
+sof-once Unsettled = agree (λ (n : ℕ). sofAt Unsettled (suc n)) (λ (n : ℕ). false) lastPlace refl
+sof-once On = agree (λ (n : ℕ). sofAt On (suc n)) (λ (n : ℕ). false) lastPlace refl
+sof-once Off = agree (λ (n : ℕ). sofAt Off (suc n)) (λ (n : ℕ). false) lastPlace refl
+
+stands : (b : Borders) (place : ℕ) (l : Line) → fits b place l ≡ true → l .kind ≡ kindNumber (kindAt b place)
+stands b place l h = eqb-true (l .kind) _ (and-left _ _ h)
+
+not-first : (b : Borders) (n : ℕ) (l : Shown) → n < lastPlace → fits b (suc n) (l .given) ≡ true → isFirst l ≡ false
+not-first b n l g h =
+    ap (λ (k : ℕ). opens k (l .given .number)) (stands b (suc n) (l .given) h) ∙ ap (λ (t : Bool). t && eqb (l .given .number) 0) (sof-once b n g)
+
+since-laid : (b : Borders) (n : ℕ) (own ls : List Shown) → suc n + length (linesOf ls) ≤ lastPlace + 1 → laidFrom b (suc n) (linesOf ls) ≡ true → since own ls ≡ own ++ ls
+since-laid b n own [] g h = sym (append-nil own)
+since-laid b n own (l ∷ ls) g h =
+    ap (λ (t : Bool). since (cond t [] own ++ (l ∷ [])) ls) (not-first b n l (omega arith) (and-left _ _ h))
+    ∙ since-laid b (suc n) (own ++ (l ∷ [])) ls (omega arith) (and-right (fits b (suc n) (l .given)) _ h)
+    ∙ append-assoc own (l ∷ []) ls
+
+-- where lines end in a whole frame, that is the latest
+frame-latest : (b : Borders) (earlier frame : List Shown) → IsFrame b (linesOf frame) → latest (earlier ++ frame) ≡ frame
+frame-latest b earlier [] f = absurd (let e = f .0 in omega arith)
+frame-latest b earlier (l ∷ ls) f =
+    since-append [] earlier (l ∷ ls)
+    ∙ ap (λ (t : Bool). since (cond t [] (latest earlier) ++ (l ∷ [])) ls) (ap (λ (x : Line). opens (x .kind) (x .number)) (first-is b (l .given) (and-left _ _ (f .1))))
+    ∙ since-laid b 0 (l ∷ []) ls (let e = f .0 in omega arith) (and-right (fits b 0 (l .given)) _ (f .1))
+
+-- the last line of a frame is blank
+last-blank : (b : Borders) (k : ℕ) → kindDue b lastPlace k ≡ true → k ≡ kindNumber BL
+unfolding kindAt
+last-blank Unsettled k h = by (standsAt On lastPlace k) (standsAt Off lastPlace k) refl refl h
+  where
+    by : (s t : Bool) → standsAt On lastPlace k ≡ s → standsAt Off lastPlace k ≡ t → (s || t) ≡ true → k ≡ kindNumber BL
+    by true t e f g = eqb-true k _ e
+    by false t e f g = eqb-true k _ (f ∙ g)
+last-blank On k h = eqb-true k _ h
+last-blank Off k h = eqb-true k _ h
+
+-- How many rows there are.
+
+-- a visible line's body has the length of a row
+abbrev Whole : Shown → Type 0
+Whole l = isVisible (l .given .kind) ≡ true → length (l .body) ≡ longest
+
+every-snoc : (P : Shown → Type 0) (ls : List Shown) (l : Shown) → Every P ls → P l → Every P (ls ++ (l ∷ []))
+every-snoc P [] l h p = (p, tt)
+every-snoc P (a ∷ ls) l h p = (h .0, every-snoc P ls l (h .1) p)
+
+pixels-length : (o : Order) (body : List ℕ) → length body ≡ longest → length (pixelsOf o body) ≡ longest
+pixels-length AsSent body h = h
+pixels-length OddFirst body h = reordered-length ToPixels body
+
+abbrev one : Bool → ℕ
+one t = cond t 1 0
+
+abbrev visibles : List Line → ℕ
+visibles [] = 0
+visibles (l ∷ ls) = one (isVisible (l .kind)) + visibles ls
+
+row-length : (o : Order) (l : Shown) → Whole l → length (rowOf o l) ≡ one (isVisible (l .given .kind)) * longest
+row-length o l w = either (isVisible (l .given .kind)) w
+  where
+    either : (t : Bool) → (t ≡ true → length (l .body) ≡ longest) → length (cond t (pixelsOf o (l .body)) []) ≡ one t * longest
+    either true h = pixels-length o (l .body) (h refl)
+    either false h = refl
+
+rows-length : (o : Order) (ls : List Shown) → Every Whole ls → length (rowsOf o ls) ≡ visibles (linesOf ls) * longest
+rows-length o [] w = refl
+rows-length o (l ∷ ls) w =
+    let t : ℕ = one (isVisible (l .given .kind)) in
+    let a = row-length o l (w .0) in
+    let b = rows-length o ls (w .1) in
+    length-append (rowOf o l) (rowsOf o ls) ∙ omega arith
+
+-- the visible lines of a layout
+abbrev visibleKinds : List Kind → ℕ
+visibleKinds [] = 0
+visibleKinds (k ∷ ks) = one (isVisible (kindNumber k)) + visibleKinds ks
+
+laid-visibles : (b : Borders) (place : ℕ) (ls : List Line) → place + length ls ≡ lastPlace + 1 → laidFrom b place ls ≡ true → visibles ls ≡ visibleKinds (drop place (layout b))
+unfolding kindAt
+laid-visibles b place [] e h = sym (ap visibleKinds (drop-of-length-le (layout b) {i = place} (omega (arith, frame-length b))))
+laid-visibles b place (l ∷ ls) e h =
+    let g : place < length (layout b) = omega (arith, frame-length b) in
+    ap (λ (k : ℕ). one (isVisible k) + visibles ls) (stands b place l (and-left _ _ h))
+    ∙ ap (λ (m : ℕ). one (isVisible (kindNumber (kindAt b place))) + m) (laid-visibles b (suc place) ls (omega arith) (and-right (fits b place l) _ h))
+    ∙ sym (ap visibleKinds (drop-cons (layout b) place BL g))
+
+frame-visibles : (b : Borders) → visibleKinds (layout b) * longest ≡ size (pictureOf b)
+frame-visibles Unsettled = refl
+frame-visibles On = refl
+frame-visibles Off = refl
+
+-- 292 rows with borders on, 288 with borders off
+frame-size : (o : Order) (b : Borders) (frame : List Shown) → IsFrame b (linesOf frame) → Every Whole frame → length (rowsOf o frame) ≡ size (pictureOf b)
+frame-size o b frame f w =
+    rows-length o frame w ∙ ap (λ (k : ℕ). k * longest) (laid-visibles b 0 (linesOf frame) (omega (arith, f .0)) (f .1)) ∙ frame-visibles b
+
+-- What is kept.
+
+-- the rows kept for the frame that the judge is in; none while it waits
+abbrev Rows : Order → List Shown → Judge → ℕ → List ℕ → Type 0
+Rows o ls Waiting kept buffer = kept ≡ 0
+Rows o ls (Due place b) kept buffer = (take kept buffer ≡ rowsOf o (latest ls)) × (kept ≤ length buffer) × Every Whole (latest ls)
+
+-- after the calls that took these lines
+record Holds (o : Order) (ls : List Shown) (x : Outcome) : Type 0 where
+  order : x .gatherer .order ≡ o
+  judge : after Waiting (linesOf ls) ≡ x .gatherer .judge
+  heard : accepted Waiting (linesOf ls) ≡ linesOf ls
+  rows : Rows o ls (x .gatherer .judge) (x .gatherer .kept) (x .buffer)
+  done : (n : ℕ) (rows : List ℕ) → x .output ≡ complete n rows → Completes o ls n rows
+
+abbrev isComplete : Output → Bool
+isComplete nothing = false
+isComplete (complete n rows) = true
+isComplete (refused n) = false
+
+-- a call that takes no line and says nothing of rows
+still : (o : Order) (ls : List Shown) (x : Outcome) (out : Output) → isComplete out ≡ false → Holds o ls x
+    → Holds o (ls ++ []) (record { gatherer = x .gatherer; output = out; buffer = x .buffer })
+still o ls x out e h =
+    simp append-nil
+    (record {
+      order = h .order;
+      judge = h .judge;
+      heard = h .heard;
+      rows = h .rows;
+      done = λ n rows f. absurd (true≢false (sym (ap isComplete f) ∙ e));
+    })
+
+module _ (o : Order) (ls : List Shown) (x : Outcome) (h : Holds o ls x) (l : Shown) where
+  -- a line that the judge hears
+  heard-line : (r : Judged) → called (x .gatherer .judge) (l .given) ≡ r → accepts (r .verdict) ≡ true
+      → (after Waiting (linesOf (ls ++ (l ∷ []))) ≡ r .judge) × (accepted Waiting (linesOf (ls ++ (l ∷ []))) ≡ linesOf (ls ++ (l ∷ [])))
+  heard-line r e a =
+      let s : linesOf (ls ++ (l ∷ [])) ≡ linesOf ls ++ (l .given ∷ []) = lines-append ls (l ∷ []) in
+      let c : called (after Waiting (linesOf ls)) (l .given) ≡ r = ap (λ (j : Judge). called j (l .given)) (h .judge) ∙ e in (
+        ap (after Waiting) s ∙ after-snoc Waiting (linesOf ls) (l .given) ∙ ap (λ (t : Judged). t .judge) c,
+        ap (accepted Waiting) s
+            ∙ accepted-snoc Waiting (linesOf ls) (l .given)
+            ∙ ap (λ (t : Judged). accepted Waiting (linesOf ls) ++ cond (accepts (t .verdict)) (l .given ∷ []) []) c
+            ∙ ap (λ (t : Bool). accepted Waiting (linesOf ls) ++ cond t (l .given ∷ []) []) a
+            ∙ ap (λ (t : List Line). t ++ (l .given ∷ [])) (h .heard)
+            ∙ sym s,
+      )
+
+  -- it leaves this judge, these bytes of rows and this buffer, and nothing is said of rows
+  takes : (r : Judged) (kept : ℕ) (buffer : List ℕ) → called (x .gatherer .judge) (l .given) ≡ r → accepts (r .verdict) ≡ true
+      → Rows o (ls ++ (l ∷ [])) (r .judge) kept buffer → Holds o (ls ++ (l ∷ [])) (quiet (moved (x .gatherer) (r .judge) kept) buffer)
+  takes r kept buffer e a rows =
+      record {
+        order = h .order;
+        judge = heard-line r e a .0;
+        heard = heard-line r e a .1;
+        rows = rows;
+        done = λ n w f. absurd (true≢false (sym (ap isComplete f)));
+      }
+
+  -- The rows, with this line's.
+
+  first-unseen : isFirst l ≡ true → isVisible (l .given .kind) ≡ false
+  first-unseen e = ap isVisible (eqb-true (l .given .kind) (kindNumber SOF) (and-left _ _ e))
+
+  rows-first : isFirst l ≡ true → (buffer : List ℕ) → Rows o (ls ++ (l ∷ [])) begun 0 buffer
+  rows-first e buffer =
+      let s : latest (ls ++ (l ∷ [])) ≡ l ∷ [] = latest-snoc ls l true e in
+      let v = first-unseen e in (
+        ap (λ (t : Bool). cond t (pixelsOf o (l .body)) [] ++ []) (sym v) ∙ ap (rowsOf o) (sym s),
+        omega arith,
+        subst (Every Whole) (sym s) ((λ w. absurd (true≢false (sym w ∙ v))), tt),
+      )
+
+  rows-later : isFirst l ≡ false → rowsOf o (latest (ls ++ (l ∷ []))) ≡ rowsOf o (latest ls) ++ rowOf o l
+  rows-later e =
+      ap (rowsOf o) (latest-snoc ls l false e)
+      ∙ rows-append o (latest ls) (l ∷ [])
+      ∙ ap (λ (r : List ℕ). rowsOf o (latest ls) ++ r) (append-nil (rowOf o l))
+
+  rows-unseen : isFirst l ≡ false → isVisible (l .given .kind) ≡ false → rowsOf o (latest (ls ++ (l ∷ []))) ≡ rowsOf o (latest ls)
+  rows-unseen e v = rows-later e ∙ ap (λ (t : Bool). rowsOf o (latest ls) ++ cond t (pixelsOf o (l .body)) []) v ∙ append-nil (rowsOf o (latest ls))
+
+  whole-later : isFirst l ≡ false → Every Whole (latest ls) → Whole l → Every Whole (latest (ls ++ (l ∷ [])))
+  whole-later e w p = subst (Every Whole) (sym (latest-snoc ls l false e)) (every-snoc Whole (latest ls) l w p)
+
+  whole-unseen : isVisible (l .given .kind) ≡ false → Whole l
+  whole-unseen v w = absurd (true≢false (sym w ∙ v))
+
+  -- A line while the judge is in a frame.
+
+  passing : passes (x .gatherer .judge) ≡ true
+  passing = sym (ap passes (h .judge)) ∙ reached-passes (linesOf ls)
+
+  kept-rows : (place : ℕ) (b : Borders) → x .gatherer .judge ≡ Due place b → Rows o ls (Due place b) (x .gatherer .kept) (x .buffer)
+  kept-rows place b q = subst (λ (j : Judge). Rows o ls j (x .gatherer .kept) (x .buffer)) q (h .rows)
+
+  -- a line that breaks no frame is no SOF numbered 0
+  not-first-within : (place : ℕ) (b : Borders) (r : Judged) → x .gatherer .judge ≡ Due place b → called (x .gatherer .judge) (l .given) ≡ r → isBreak (r .verdict) ≡ false → isFirst l ≡ false
+  not-first-within place b r q c e = by (isFirst l) refl
+    where
+      by : (t : Bool) → isFirst l ≡ t → isFirst l ≡ false
+      by false f = f
+      by true f =
+          absurd (true≢false
+          (sym (ap (λ (t : Judged). isBreak (t .verdict)) (sof-within place b (sym (ap passes q) ∙ passing)))
+          ∙ sym (ap (λ (y : Line). isBreak (called (Due place b) y .verdict)) (opens-is (l .given) f))
+          ∙ sym (ap (λ (j : Judge). isBreak (called j (l .given) .verdict)) q)
+          ∙ ap (λ (t : Judged). isBreak (t .verdict)) c
+          ∙ e))
+
+  -- a line that was due, and not the last
+  going : (place p : ℕ) (b c : Borders) → x .gatherer .judge ≡ Due place b → called (x .gatherer .judge) (l .given) ≡ gives (Due p c) verdict.Going
+      → let y : Outcome = onward (x .gatherer) (Due p c) (l .given .kind) (l .body) (x .buffer) in Holds o (ls ++ unlessRefused (y .output) (l ∷ [])) y
+  unfolding onward keepRow
+  going place p b c q e = by (isVisible (l .given .kind)) refl
+    where
+      s : Gatherer
+      s = x .gatherer
+
+      n : ℕ
+      n = s .kept + longest
+
+      r : Judged
+      r = gives (Due p c) verdict.Going
+
+      kept : Rows o ls (Due place b) (s .kept) (x .buffer)
+      kept = kept-rows place b q
+
+      later : isFirst l ≡ false
+      later = not-first-within place b r q e refl
+
+      row : List ℕ
+      row = pixelsOf (s .order) (l .body)
+
+      -- a row that fits
+      put : isVisible (l .given .kind) ≡ true → length (l .body) ≡ longest → n ≤ length (x .buffer)
+          → Rows o (ls ++ (l ∷ [])) (Due p c) n (take (s .kept) (x .buffer) ++ (row ++ drop n (x .buffer)))
+      put v f g =
+          let a : length (take (s .kept) (x .buffer)) ≡ s .kept = length-take-le (s .kept) (x .buffer) (kept .1) in
+          let w : length (take (s .kept) (x .buffer) ++ row) ≡ n = length-append (take (s .kept) (x .buffer)) row ∙ omega (arith, a, pixels-length (s .order) (l .body) f) in
+          let z : take (s .kept) (x .buffer) ++ (row ++ drop n (x .buffer)) ≡ (take (s .kept) (x .buffer) ++ row) ++ drop n (x .buffer) = sym (append-assoc (take (s .kept) (x .buffer)) row (drop n (x .buffer))) in (
+            ap (take n) z
+                ∙ take-at (take (s .kept) (x .buffer) ++ row) (drop n (x .buffer)) n w
+                ∙ ap (λ (t : List ℕ). t ++ row) (kept .0)
+                ∙ ap (λ (t : Order). rowsOf o (latest ls) ++ pixelsOf t (l .body)) (h .order)
+                ∙ ap (λ (t : Bool). rowsOf o (latest ls) ++ cond t (pixelsOf o (l .body)) []) (sym v)
+                ∙ sym (rows-later later),
+            omega (arith, ap length z, length-append (take (s .kept) (x .buffer) ++ row) (drop n (x .buffer)), w),
+            whole-later later (kept .2) (λ t. f),
+          )
+
+      fitting : isVisible (l .given .kind) ≡ true → (t u : Bool) → eqb (length (l .body)) longest ≡ t → leb n (length (x .buffer)) ≡ u
+          → let y : Outcome = cond (t && u) (quiet (moved s (Due p c) n) (take (s .kept) (x .buffer) ++ (row ++ drop n (x .buffer)))) (refuses s noRoom (x .buffer)) in
+          Holds o (ls ++ unlessRefused (y .output) (l ∷ [])) y
+      fitting v true true f g = takes r n _ e refl (put v (eqb-true _ _ f) (leb-true _ _ g))
+      fitting v true false f g = still o ls x (refused noRoom) refl h
+      fitting v false u f g = still o ls x (refused noRoom) refl h
+
+      by : (t : Bool) → isVisible (l .given .kind) ≡ t
+          → let y : Outcome = cond t (keepRow s (Due p c) (l .body) (x .buffer)) (quiet (moved s (Due p c) (s .kept)) (x .buffer)) in
+          Holds o (ls ++ unlessRefused (y .output) (l ∷ [])) y
+      by true v = fitting v (eqb (length (l .body)) longest) (leb n (length (x .buffer))) refl refl
+      by false v = takes r (s .kept) (x .buffer) e refl (kept .0 ∙ sym (rows-unseen later v), kept .1, whole-later later (kept .2) (whole-unseen v))
+
+  -- a frame's last line
+  ending : (place : ℕ) (b : Borders) → x .gatherer .judge ≡ Due place b → IsDue b place (l .given) → lastPlace ≤ place
+      → called (x .gatherer .judge) (l .given) ≡ gives Waiting verdict.Complete
+      → let y : Outcome = completed (x .gatherer) Waiting (x .buffer) in Holds o (ls ++ unlessRefused (y .output) (l ∷ [])) y
+  unfolding completed
+  ending place b q d g e = by (leb (s .kept) (length (x .buffer))) refl
+    where
+      s : Gatherer
+      s = x .gatherer
+
+      r : Judged
+      r = gives Waiting verdict.Complete
+
+      kept : Rows o ls (Due place b) (s .kept) (x .buffer)
+      kept = kept-rows place b q
+
+      blank : l .given .kind ≡ kindNumber BL
+      blank =
+          last-blank b (l .given .kind)
+          (subst (λ (n : ℕ). kindDue b n (l .given .kind) ≡ true) (omega (arith, passes-high place b (sym (ap passes q) ∙ passing))) (and-left _ _ (d .0)))
+
+      unseen : isVisible (l .given .kind) ≡ false
+      unseen = ap isVisible blank
+
+      later : isFirst l ≡ false
+      later = ap (λ (k : ℕ). opens k (l .given .number)) blank
+
+      done : Completes o (ls ++ (l ∷ [])) (s .kept) (take (s .kept) (x .buffer))
+      done =
+          let c = complete-frame (linesOf ls) (l .given) (ap (λ (j : Judge). called j (l .given) .verdict) (h .judge) ∙ ap (λ (t : Judged). t .verdict) e) in
+          let a : linesOf (ls ++ (l ∷ [])) ≡ c .1 ++ c .2 = sym (heard-line r e refl .1) ∙ ap (accepted Waiting) (lines-append ls (l ∷ [])) ∙ c .3 in
+          let t = split (ls ++ (l ∷ [])) (c .1) (c .2) a in
+          let f : IsFrame (c .0) (linesOf (t .back)) = subst (IsFrame (c .0)) (sym (t .back-lines)) (c .4) in
+          let m : latest (ls ++ (l ∷ [])) ≡ t .back = ap latest (t .joined) ∙ frame-latest (c .0) (t .front) (t .back) f in
+          let w : take (s .kept) (x .buffer) ≡ rowsOf o (t .back) = kept .0 ∙ sym (rows-unseen later unseen) ∙ ap (rowsOf o) m in
+          let v : Every Whole (t .back) = subst (Every Whole) m (whole-later later (kept .2) (whole-unseen unseen)) in
+          record {
+            borders = c .0;
+            earlier = t .front;
+            frame = t .back;
+            ends = t .joined;
+            whole = f;
+            shows = w;
+            sized = ap length w ∙ frame-size o (c .0) (t .back) f v;
+            used = sym (length-take-le (s .kept) (x .buffer) (kept .1));
+          }
+
+      says : (n : ℕ) (rows : List ℕ) → complete (s .kept) (take (s .kept) (x .buffer)) ≡ complete n rows → Completes o (ls ++ (l ∷ [])) n rows
+      says n rows z =
+          let a : s .kept ≡ n = cc in
+          let b : take (s .kept) (x .buffer) ≡ rows = cc in
+          subst (λ (m : ℕ). Completes o (ls ++ (l ∷ [])) m rows) a (subst (λ (w : List ℕ). Completes o (ls ++ (l ∷ [])) (s .kept) w) b done)
+
+      by : (t : Bool) → leb (s .kept) (length (x .buffer)) ≡ t
+          → let y : Outcome = cond t (record { gatherer = moved s Waiting 0; output = complete (s .kept) (take (s .kept) (x .buffer)); buffer = x .buffer }) (refuses s noRoom (x .buffer)) in
+          Holds o (ls ++ unlessRefused (y .output) (l ∷ [])) y
+      by true g = record { order = h .order; judge = heard-line r e refl .0; heard = heard-line r e refl .1; rows = refl; done = says }
+      by false g = still o ls x (refused noRoom) refl h
+
+  -- any line
+  hands : let y : Outcome = handed (x .gatherer) l (x .buffer) in Holds o (ls ++ unlessRefused (y .output) (l ∷ [])) y
+  unfolding handed refusedBy onward
+  hands = by (called (x .gatherer .judge) (l .given)) (effect (x .gatherer .judge) (l .given) passing) refl
+    where
+      by : (r : Judged) → Effect (x .gatherer .judge) (l .given) r → called (x .gatherer .judge) (l .given) ≡ r
+          → let y : Outcome = byVerdict (x .gatherer) l (x .buffer) (r .judge) (r .verdict) in Holds o (ls ++ unlessRefused (y .output) (l ∷ [])) y
+      by _ wrongKind e = still o ls x (refused badKind) refl h
+      by _ wrongNumber e = still o ls x (refused numberTooLarge) refl h
+      by _ waits e = takes _ 0 (x .buffer) e refl refl
+      by _ breaks e = takes _ 0 (x .buffer) e refl refl
+      by _ strays e = takes _ 0 (x .buffer) e refl refl
+      by _ (starts q f) e =
+          let z : x .gatherer .kept ≡ 0 = subst (λ (j : Judge). Rows o ls j (x .gatherer .kept) (x .buffer)) q (h .rows) in
+          simp (first-unseen f, z) (takes (gives begun verdict.Going) 0 (x .buffer) e refl (rows-first f (x .buffer)))
+      by _ (restarts f) e = takes _ 0 (x .buffer) e refl (rows-first f (x .buffer))
+      by _ (goes place b q d g) e = going place _ b _ q e
+      by _ (ends place b q d g) e = ending place b q d g e
+
+-- Calls.
+
+holds-call : (o : Order) (ls : List Shown) (x : Outcome) (g : Given) → Holds o ls x
+    → Holds o (ls ++ unlessRefused (call x g .output) (shown (handedOver (g .answer)) (g .held))) (call x g)
+unfolding takeOf
+holds-call o ls x g h = by (g .answer)
+  where
+    quietly : Holds o (ls ++ []) (quiet (x .gatherer) (x .buffer))
+    quietly = still o ls x nothing refl h
+
+    broken : (t : Bool)
+        → let y : Outcome = cond t (handed (x .gatherer) (shownAs brokenKind 0 (g .held)) (x .buffer)) (quiet (x .gatherer) (x .buffer)) in
+        Holds o (ls ++ unlessRefused (y .output) (shown (cond t (line brokenKind 0 ∷ []) []) (g .held))) y
+    broken true = hands o ls x h (shownAs brokenKind 0 (g .held))
+    broken false = quietly
+
+    by : (a : Answer) → let y : Outcome = takeOf (x .gatherer) a (g .held) (x .buffer) in Holds o (ls ++ unlessRefused (y .output) (shown (handedOver a) (g .held))) y
+    by answer.Nothing = quietly
+    by (answer.Line f) = hands o ls x h (shownAs (kindNumber (f .kind)) (f .number) (g .held))
+    by (answer.Gap a b) = quietly
+    by (answer.Refused n) = broken (isBrokenLine n)
+
+holds-calls : (o : Order) (ls : List Shown) (x : Outcome) (gs : List Given) → Holds o ls x → Holds o (ls ++ taken x gs) (calls x gs)
+holds-calls o ls x [] h = subst (λ (t : List Shown). Holds o t x) (sym (append-nil ls)) h
+holds-calls o ls x (g ∷ gs) h =
+    let a : List Shown = unlessRefused (call x g .output) (shown (handedOver (g .answer)) (g .held)) in
+    subst (λ (t : List Shown). Holds o t (calls (call x g) gs)) (append-assoc ls a (taken (call x g) gs))
+    (holds-calls o (ls ++ a) (call x g) gs (holds-call o ls x g h))
+
+holds-start : (o : Order) (buffer : List ℕ) → Holds o [] (start o buffer)
+holds-start o buffer = record { order = refl; judge = refl; heard = refl; rows = refl; done = λ n w f. absurd (true≢false (sym (ap isComplete f))) }
+
+-- whenever the last call says complete, the lines taken end in a whole frame, and the rows are those of its visible lines, top to bottom, 292 or
+-- 288 of them
+pub complete-rows : (o : Order) (buffer : List ℕ) (gs : List Given) (n : ℕ) (rows : List ℕ) → calls (start o buffer) gs .output ≡ complete n rows
+    → Completes o (taken (start o buffer) gs) n rows
+complete-rows o buffer gs n rows e = holds-calls o [] (start o buffer) gs (holds-start o buffer) .done n rows e

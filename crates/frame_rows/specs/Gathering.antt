@@ -1,0 +1,85 @@
+-- Answers taken in a row: each call gets the gatherer and the rows' buffer that the call before left.
+use mathlib.Core.Path.{_≡_}
+use mathlib.Core.Bool.{Bool, true, false, cond}
+use mathlib.Core.List.{List, [], _∷_, _++_}
+use Prim.Native.Nat.{ℕ}
+use lib.ListN.{length}
+use Rattle.line_code.specs.declared.Kind.the-variants.{VL}
+use Rattle.profile.specs.declared.Profile.the-variants.{VV5404}
+use Rattle.profile.specs.Layout.{rules, fits}
+use Rattle.stream.specs.declared.Answer.{Answer}
+use Rattle.frame.specs.declared.Borders.{Borders}
+use Rattle.frame.specs.declared.Borders.the-variants as frame
+use Rattle.frame.specs.Calls.{Line, IsFrame}
+use Rattle.tally.specs.Answered.{handedOver}
+use Rattle.pgm.specs.Pgm.{size}
+use Rattle.pgm.specs.declared.Borders as picture
+use Rattle.pgm.specs.declared.Borders.the-variants as pgm
+use Rattle.frame_rows.specs.declared.Order.{Order}
+use Rattle.frame_rows.specs.FrameRows.{Shown, isVisible, rowsOf, Output, nothing, complete, refused, Outcome, fresh, quiet, shownAs, takeOf}
+
+-- what a call is given: the reader's answer, and the line buffer as it is then
+pub record Given : Type 0 where
+  pub answer : Answer
+  pub held : List ℕ
+
+abbrev pub call : Outcome → Given → Outcome
+call x g = takeOf (x .gatherer) (g .answer) (g .held) (x .buffer)
+
+-- after some calls
+abbrev pub calls : Outcome → List Given → Outcome
+calls x [] = x
+calls x (g ∷ gs) = calls (call x g) gs
+
+-- before any: a fresh gatherer, and a buffer
+abbrev pub start : Order → List ℕ → Outcome
+start o buffer = quiet (fresh o) buffer
+
+-- The lines taken: those that 01 hands to the judge, of the calls that are not refused.
+
+abbrev pub isRefused : Output → Bool
+isRefused nothing = false
+isRefused (complete n rows) = false
+isRefused (refused n) = true
+
+abbrev pub unlessRefused : Output → List Shown → List Shown
+unlessRefused o ls = cond (isRefused o) [] ls
+
+-- lines, each with the body in the line buffer
+abbrev pub shown : List Line → List ℕ → List Shown
+shown [] held = []
+shown (l ∷ ls) held = shownAs (l .kind) (l .number) held ∷ shown ls held
+
+abbrev pub taken : Outcome → List Given → List Shown
+taken x [] = []
+taken x (g ∷ gs) = unlessRefused (call x g .output) (shown (handedOver (g .answer)) (g .held)) ++ taken (call x g) gs
+
+abbrev pub linesOf : List Shown → List Line
+linesOf [] = []
+linesOf (l ∷ ls) = l .given ∷ linesOf ls
+
+-- the picture of a frame: borders on (Unsettled has the same) or off
+abbrev pub pictureOf : Borders → picture.Borders
+pictureOf frame.Unsettled = pgm.On
+pictureOf frame.On = pgm.On
+pictureOf frame.Off = pgm.Off
+
+-- the lines taken end in those of a whole frame, and the rows are its rows, all of them
+pub record Completes (o : Order) (ls : List Shown) (n : ℕ) (rows : List ℕ) : Type 0 where
+  pub borders : Borders
+  pub earlier : List Shown
+  pub frame : List Shown
+  pub ends : ls ≡ earlier ++ frame
+  pub whole : IsFrame borders (linesOf frame)
+  pub shows : rows ≡ rowsOf o frame
+  pub sized : length rows ≡ size (pictureOf borders)
+  pub used : n ≡ length rows
+
+-- a visible line's body is laid out as 01 says
+abbrev pub Laid : Shown → Type 0
+Laid l = isVisible (l .given .kind) ≡ true → fits (rules VV5404 VL) (l .body) ≡ true
+
+-- of each line
+abbrev pub Every : (Shown → Type 0) → List Shown → Type 0
+Every P [] = Unit {0}
+Every P (l ∷ ls) = P l × Every P ls

@@ -1,0 +1,4 @@
+pub mod FrameRows
+pub mod Gathering
+pub mod FrameRowsLaws
+pub mod PictureLaws

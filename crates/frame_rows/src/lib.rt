@@ -1,0 +1,191 @@
+// The rows of a picture, gathered from the reader's answers (paper 02, A1 and A2): the visible lines of a complete profile 0 frame.
+//
+// In: the answer of each call to the reader, in order, with the line buffer as it is then, and a lent buffer for rows. Each line given out
+// goes to the judge, and kind 0 for each answer 1 to 7. A visible line that is due puts its 356 pixels after the rows kept, as sent, or in
+// order where the head sends odd pixels first; a frame that breaks leaves none. Out: beside the next gatherer, nothing yet, or at a frame's
+// last line the length of its rows, which stand at the front of the buffer; `pgm::write` takes them. Refused, and then nothing changes: 11
+// and 14 as the judge refuses them; 12 where a row is due and the line buffer is shorter than 356 or the rows' buffer has no room for it,
+// and where a complete frame's rows are longer than the buffer. A buffer of pgm::MOST_PIXELS has room for every frame. Cost: linear in the
+// row that is put.
+ghost use mathlib.Core.Path.{_≡_};
+ghost use mathlib.Core.List.{_++_};
+ghost use Prim.Native.Nat.{_+_, _≤_};
+ghost use lib.Dec.{leb};
+ghost use lib.ListN.{length, take, drop};
+ghost use Rattle.profile.specs.Profile.{longest};
+ghost use Rattle.frame_rows.specs.FrameRows.{pixelsOf, fresh, moved, saying, shownAs, keepRow, onward, completed, handed, takeOf, Gives};
+use frame::Judge;
+use frame::Verdict;
+use line_code::Kind;
+use profile::Profile;
+use stream::Answer;
+
+// The order in which a head sends a line's pixels: from left to right, or the odd ones first.
+pub enum Order {
+    AsSent,
+    OddFirst,
+}
+
+// The judge; the bytes of rows that are kept for the frame it is in; the head's order.
+pub struct Gatherer {
+    pub judge: Judge,
+    pub kept: usize,
+    pub order: Order,
+}
+
+// Nothing yet; the length of a complete frame's rows; or a refusal.
+pub enum Progress {
+    Nothing,
+    Complete(usize),
+    Refused(u8),
+}
+
+// A gatherer after an answer, and what is said.
+pub struct Gathered {
+    pub gatherer: Gatherer,
+    pub progress: Progress,
+}
+
+impl Gatherer {
+    // A fresh judge, and no rows.
+    pub fn new(order: Order) -> Gatherer
+        ensures { λ r. ⌜ r ≡ fresh order ⌝ }
+    {
+        let judge = Judge::new();
+        Gatherer {
+            judge,
+            kept: 0,
+            order,
+        }
+    }
+
+    // Takes the answer of a call, with the line buffer as that call left it.
+    pub fn take(self, answer: Answer, line: &[u8], rows: &mut [u8]) -> Gathered
+        ensures { λ r. ⌜ Gives (takeOf self answer (now (line .entry)) (now (rows .entry))) r (now (rows .exit)) ⌝ }
+    {
+        match answer {
+            Answer::Nothing => quiet(self),
+            Answer::Line(facts) => {
+                let kind = facts.kind;
+                self.hand(kind.number(), facts.number, line, rows)
+            }
+            Answer::Gap(_, _) => quiet(self),
+            Answer::Refused(number) => {
+                if tally::is_broken_line(number) {
+                    return self.hand(Judge::BROKEN, 0, line, rows);
+                }
+                quiet(self)
+            }
+        }
+    }
+
+    // Hands the judge a line, or kind 0.
+    fn hand(self, kind: u8, number: u16, line: &[u8], rows: &mut [u8]) -> Gathered
+        ensures { λ r. ⌜ Gives (handed self (shownAs kind number (now (line .entry))) (now (rows .entry))) r (now (rows .exit)) ⌝ }
+    {
+        let before = self.judge;
+        let judged = before.line(kind, number);
+        let judge = judged.judge;
+        let verdict = judged.verdict;
+        match verdict {
+            Verdict::Waiting => quiet(self.moved(judge, 0)),
+            Verdict::Going => self.onward(judge, kind, line, rows),
+            Verdict::Complete => self.completed(judge, rows),
+            Verdict::Refused(refusal) => {
+                if tally::breaks_frame(refusal) {
+                    return quiet(self.moved(judge, 0));
+                }
+                refused(self, refusal)
+            }
+        }
+    }
+
+    // The judge afterwards, and the bytes of rows that are kept then.
+    fn moved(self, judge: Judge, kept: usize) -> Gatherer
+        ensures { λ r. ⌜ r ≡ moved self judge kept ⌝ }
+    {
+        let order = self.order;
+        Gatherer { judge, kept, order }
+    }
+
+    // A line that was due: a visible one has a row.
+    fn onward(self, judge: Judge, kind: u8, line: &[u8], rows: &mut [u8]) -> Gathered
+        ensures { λ r. ⌜ Gives (onward self judge kind (take longest (now (line .entry))) (now (rows .entry))) r (now (rows .exit)) ⌝ }
+    {
+        if kind == Kind::VL.number() {
+            return self.keep_row(judge, line, rows);
+        }
+        quiet(self.moved(judge, self.kept))
+    }
+
+    // Puts a row after those kept.
+    fn keep_row(self, judge: Judge, line: &[u8], rows: &mut [u8]) -> Gathered
+        ensures { λ r. ⌜ Gives (keepRow self judge (take longest (now (line .entry))) (now (rows .entry))) r (now (rows .exit)) ⌝ }
+    {
+        if line.len() < Profile::LONGEST {
+            return refused(self, refusal::NO_ROOM);
+        }
+        if has_row(self.kept, rows.len()) {
+            let order = self.order;
+            put_row(order, &line[..Profile::LONGEST], rows, self.kept);
+            return quiet(self.moved(judge, self.kept + Profile::LONGEST));
+        }
+        refused(self, refusal::NO_ROOM)
+    }
+
+    // The frame is complete: its rows are those kept.
+    fn completed(self, judge: Judge, rows: &[u8]) -> Gathered
+        ensures { λ r. ⌜ Gives (completed self judge (now (rows .entry))) r (now (rows .entry)) ⌝ }
+    {
+        if rows.len() < self.kept {
+            return refused(self, refusal::NO_ROOM);
+        }
+        let gatherer = self.moved(judge, 0);
+        let progress = Progress::Complete(self.kept);
+        Gathered { gatherer, progress }
+    }
+}
+
+// A gatherer, and nothing to say yet.
+fn quiet(gatherer: Gatherer) -> Gathered
+    ensures { λ r. ⌜ r ≡ saying gatherer Progress.Nothing ⌝ }
+{
+    let progress = Progress::Nothing;
+    Gathered { gatherer, progress }
+}
+
+// A refusal, which leaves the gatherer as it was.
+fn refused(gatherer: Gatherer, number: u8) -> Gathered
+    ensures { λ r. ⌜ r ≡ saying gatherer (Progress.Refused number) ⌝ }
+{
+    let progress = Progress::Refused(number);
+    Gathered { gatherer, progress }
+}
+
+// Whether there is room for a row after the bytes kept.
+fn has_row(kept: usize, room: usize) -> bool
+    ensures { λ r. ⌜ r ≡ leb (kept + longest) room ⌝ }
+{
+    if room < kept {
+        return false;
+    }
+    if room - kept < Profile::LONGEST {
+        return false;
+    }
+    true
+}
+
+// Puts a body's pixels at a place.
+fn put_row(order: Order, body: &[u8], rows: &mut [u8], at: usize)
+    requires { ⌜ (length (now body) ≡ longest) × (at + longest ≤ length (now rows)) ⌝ }
+    ensures { λ r. ⌜ now (rows .exit) ≡ take at (now (rows .entry)) ++ (pixelsOf order (now (body .entry)) ++ drop (at + longest) (now (rows .entry))) ⌝ }
+{
+    match order {
+        Order::AsSent => {
+            bytes::copy(body, &mut rows[at..]);
+        }
+        Order::OddFirst => {
+            pixel_order::to_pixels(Kind::VL.number(), body, &mut rows[at..]);
+        }
+    }
+}
