@@ -8,7 +8,7 @@ use Prim.Native.Nat.{ℕ, suc, _+_, _*_, _≤_, _<_}
 use native.Mathlib.Omega.{arith}
 use borrow.Author.Tests.{eqb-true, leb-true}
 use lib.Dec.{eqb, leb}
-use lib.ListN.{length, take, drop, length-append, drop-of-length-le}
+use lib.ListN.{length, take, drop, length-append, length-drop, drop-of-length-le}
 use lib.Seq.{length-take-le, take-at, drop-cons}
 use Rattle.refusal.specs.Refusal.{noRoom, badKind, numberTooLarge}
 use Rattle.bits.specs.Every.{and-left, and-right}
@@ -18,12 +18,12 @@ use Rattle.line_code.specs.LineCode.{kindNumber}
 use Rattle.profile.specs.Profile.{longest}
 use Rattle.stream.specs.declared.Answer.{Answer}
 use Rattle.stream.specs.declared.Answer.the-variants as answer
-use Rattle.frame.specs.declared.Verdict.the-variants as verdict
 use Rattle.frame.specs.declared.Borders.{Borders}
 use Rattle.frame.specs.declared.Borders.the-variants.{Unsettled, On, Off}
 use Rattle.frame.specs.declared.Judge.{Judge}
 use Rattle.frame.specs.declared.Judge.the-variants.{Waiting, Due}
 use Rattle.frame.specs.declared.Judged.{Judged}
+use Rattle.frame.specs.declared.Verdict.the-variants as verdict
 use Rattle.frame.specs.Frame.{layout, lastPlace, kindAt, standsAt, kindDue, opens, begun, brokenKind, passes, gives}
 use Rattle.frame.specs.Calls.{Line, line, called, after, accepts, accepted, fits, laidFrom, IsFrame}
 use Rattle.frame.specs.Agree.{agree}
@@ -37,7 +37,7 @@ use Rattle.frame_rows.specs.declared.Order.{Order}
 use Rattle.frame_rows.specs.declared.Order.the-variants.{AsSent, OddFirst}
 use Rattle.frame_rows.specs.declared.Gatherer.{Gatherer}
 use Rattle.frame_rows.specs.FrameRows.{Shown, pixelsOf, isVisible, rowOf, rowsOf, Output, nothing, complete, refused, Outcome, moved, quiet, refuses, keepRow, onward, completed, refusedBy, byVerdict, handed, shownAs, takeOf}
-use Rattle.frame_rows.specs.Gathering.{Given, call, calls, start, unlessRefused, shown, taken, linesOf, pictureOf, Completes, Every}
+use Rattle.frame_rows.specs.Gathering.{Given, call, calls, start, unlessRefused, shown, taken, linesOf, pictureOf, Completes, Every, Whole}
 
 -- Lists of lines.
 
@@ -45,7 +45,7 @@ lines-append : (a b : List Shown) → linesOf (a ++ b) ≡ linesOf a ++ linesOf 
 lines-append [] b = refl
 lines-append (l ∷ a) b = ap (λ (x : List Line). l .given ∷ x) (lines-append a b)
 
-rows-append : (o : Order) (a b : List Shown) → rowsOf o (a ++ b) ≡ rowsOf o a ++ rowsOf o b
+pub rows-append : (o : Order) (a b : List Shown) → rowsOf o (a ++ b) ≡ rowsOf o a ++ rowsOf o b
 rows-append o [] b = refl
 rows-append o (l ∷ a) b = ap (λ (x : List ℕ). rowOf o l ++ x) (rows-append o a b) ∙ sym (append-assoc (rowOf o l) (rowsOf o a) (rowsOf o b))
 
@@ -65,14 +65,14 @@ split (l ∷ ls) (x ∷ a) b e =
 
 -- The lines of the frame that is open: those since the last SOF numbered 0, which is the first of them.
 
-abbrev isFirst : Shown → Bool
+abbrev pub isFirst : Shown → Bool
 isFirst l = opens (l .given .kind) (l .given .number)
 
-abbrev since : List Shown → List Shown → List Shown
+abbrev pub since : List Shown → List Shown → List Shown
 since own [] = own
 since own (l ∷ ls) = since (cond (isFirst l) [] own ++ (l ∷ [])) ls
 
-abbrev latest : List Shown → List Shown
+abbrev pub latest : List Shown → List Shown
 latest ls = since [] ls
 
 since-append : (own a b : List Shown) → since own (a ++ b) ≡ since (since own a) b
@@ -92,7 +92,7 @@ sof-once Unsettled = agree (λ (n : ℕ). sofAt Unsettled (suc n)) (λ (n : ℕ)
 sof-once On = agree (λ (n : ℕ). sofAt On (suc n)) (λ (n : ℕ). false) lastPlace refl
 sof-once Off = agree (λ (n : ℕ). sofAt Off (suc n)) (λ (n : ℕ). false) lastPlace refl
 
-stands : (b : Borders) (place : ℕ) (l : Line) → fits b place l ≡ true → l .kind ≡ kindNumber (kindAt b place)
+pub stands : (b : Borders) (place : ℕ) (l : Line) → fits b place l ≡ true → l .kind ≡ kindNumber (kindAt b place)
 stands b place l h = eqb-true (l .kind) _ (and-left _ _ h)
 
 not-first : (b : Borders) (n : ℕ) (l : Shown) → n < lastPlace → fits b (suc n) (l .given) ≡ true → isFirst l ≡ false
@@ -127,36 +127,31 @@ last-blank Off k h = eqb-true k _ h
 
 -- How many rows there are.
 
--- a visible line's body has the length of a row
-abbrev Whole : Shown → Type 0
-Whole l = isVisible (l .given .kind) ≡ true → length (l .body) ≡ longest
-
-every-snoc : (P : Shown → Type 0) (ls : List Shown) (l : Shown) → Every P ls → P l → Every P (ls ++ (l ∷ []))
+pub every-snoc : (P : Shown → Type 0) (ls : List Shown) (l : Shown) → Every P ls → P l → Every P (ls ++ (l ∷ []))
 every-snoc P [] l h p = (p, tt)
 every-snoc P (a ∷ ls) l h p = (h .0, every-snoc P ls l (h .1) p)
 
-pixels-length : (o : Order) (body : List ℕ) → length body ≡ longest → length (pixelsOf o body) ≡ longest
+pub pixels-length : (o : Order) (body : List ℕ) → length body ≡ longest → length (pixelsOf o body) ≡ longest
 pixels-length AsSent body h = h
 pixels-length OddFirst body h = reordered-length ToPixels body
 
-abbrev one : Bool → ℕ
-one t = cond t 1 0
+abbrev counted : Bool → ℕ
+counted t = cond t 1 0
 
 abbrev visibles : List Line → ℕ
 visibles [] = 0
-visibles (l ∷ ls) = one (isVisible (l .kind)) + visibles ls
+visibles (l ∷ ls) = counted (isVisible (l .kind)) + visibles ls
 
-row-length : (o : Order) (l : Shown) → Whole l → length (rowOf o l) ≡ one (isVisible (l .given .kind)) * longest
+row-length : (o : Order) (l : Shown) → Whole l → length (rowOf o l) ≡ counted (isVisible (l .given .kind)) * longest
 row-length o l w = either (isVisible (l .given .kind)) w
   where
-    either : (t : Bool) → (t ≡ true → length (l .body) ≡ longest) → length (cond t (pixelsOf o (l .body)) []) ≡ one t * longest
+    either : (t : Bool) → (t ≡ true → length (l .body) ≡ longest) → length (cond t (pixelsOf o (l .body)) []) ≡ counted t * longest
     either true h = pixels-length o (l .body) (h refl)
     either false h = refl
 
 rows-length : (o : Order) (ls : List Shown) → Every Whole ls → length (rowsOf o ls) ≡ visibles (linesOf ls) * longest
 rows-length o [] w = refl
 rows-length o (l ∷ ls) w =
-    let t : ℕ = one (isVisible (l .given .kind)) in
     let a = row-length o l (w .0) in
     let b = rows-length o ls (w .1) in
     length-append (rowOf o l) (rowsOf o ls) ∙ omega arith
@@ -164,15 +159,15 @@ rows-length o (l ∷ ls) w =
 -- the visible lines of a layout
 abbrev visibleKinds : List Kind → ℕ
 visibleKinds [] = 0
-visibleKinds (k ∷ ks) = one (isVisible (kindNumber k)) + visibleKinds ks
+visibleKinds (k ∷ ks) = counted (isVisible (kindNumber k)) + visibleKinds ks
 
 laid-visibles : (b : Borders) (place : ℕ) (ls : List Line) → place + length ls ≡ lastPlace + 1 → laidFrom b place ls ≡ true → visibles ls ≡ visibleKinds (drop place (layout b))
 unfolding kindAt
 laid-visibles b place [] e h = sym (ap visibleKinds (drop-of-length-le (layout b) {i = place} (omega (arith, frame-length b))))
 laid-visibles b place (l ∷ ls) e h =
     let g : place < length (layout b) = omega (arith, frame-length b) in
-    ap (λ (k : ℕ). one (isVisible k) + visibles ls) (stands b place l (and-left _ _ h))
-    ∙ ap (λ (m : ℕ). one (isVisible (kindNumber (kindAt b place))) + m) (laid-visibles b (suc place) ls (omega arith) (and-right (fits b place l) _ h))
+    ap (λ (k : ℕ). counted (isVisible k) + visibles ls) (stands b place l (and-left _ _ h))
+    ∙ ap (λ (m : ℕ). counted (isVisible (kindNumber (kindAt b place))) + m) (laid-visibles b (suc place) ls (omega arith) (and-right (fits b place l) _ h))
     ∙ sym (ap visibleKinds (drop-cons (layout b) place BL g))
 
 frame-visibles : (b : Borders) → visibleKinds (layout b) * longest ≡ size (pictureOf b)
@@ -181,24 +176,34 @@ frame-visibles On = refl
 frame-visibles Off = refl
 
 -- 292 rows with borders on, 288 with borders off
-frame-size : (o : Order) (b : Borders) (frame : List Shown) → IsFrame b (linesOf frame) → Every Whole frame → length (rowsOf o frame) ≡ size (pictureOf b)
+pub frame-size : (o : Order) (b : Borders) (frame : List Shown) → IsFrame b (linesOf frame) → Every Whole frame → length (rowsOf o frame) ≡ size (pictureOf b)
 frame-size o b frame f w =
     rows-length o frame w ∙ ap (λ (k : ℕ). k * longest) (laid-visibles b 0 (linesOf frame) (omega (arith, f .0)) (f .1)) ∙ frame-visibles b
+
+-- A row put after the bytes kept: the rows are longer by it, and the buffer is as long as it was.
+module _ (kept n : ℕ) (buffer row : List ℕ) (e : length row ≡ n) (g : kept + n ≤ length buffer) where
+  pub put-rows : take (kept + n) (take kept buffer ++ (row ++ drop (kept + n) buffer)) ≡ take kept buffer ++ row
+  put-rows =
+      let w : length (take kept buffer ++ row) ≡ kept + n = length-append (take kept buffer) row ∙ omega (arith, length-take-le kept buffer (omega arith)) in
+      ap (take (kept + n)) (sym (append-assoc (take kept buffer) row (drop (kept + n) buffer))) ∙ take-at (take kept buffer ++ row) (drop (kept + n) buffer) (kept + n) w
+
+  pub put-length : length (take kept buffer ++ (row ++ drop (kept + n) buffer)) ≡ length buffer
+  put-length = simp (length-append, length-drop, e, length-take-le kept buffer (omega arith)) (omega arith)
 
 -- What is kept.
 
 -- the rows kept for the frame that the judge is in; none while it waits
-abbrev Rows : Order → List Shown → Judge → ℕ → List ℕ → Type 0
+abbrev pub Rows : Order → List Shown → Judge → ℕ → List ℕ → Type 0
 Rows o ls Waiting kept buffer = kept ≡ 0
 Rows o ls (Due place b) kept buffer = (take kept buffer ≡ rowsOf o (latest ls)) × (kept ≤ length buffer) × Every Whole (latest ls)
 
 -- after the calls that took these lines
-record Holds (o : Order) (ls : List Shown) (x : Outcome) : Type 0 where
-  order : x .gatherer .order ≡ o
-  judge : after Waiting (linesOf ls) ≡ x .gatherer .judge
-  heard : accepted Waiting (linesOf ls) ≡ linesOf ls
-  rows : Rows o ls (x .gatherer .judge) (x .gatherer .kept) (x .buffer)
-  done : (n : ℕ) (rows : List ℕ) → x .output ≡ complete n rows → Completes o ls n rows
+pub record Holds (o : Order) (ls : List Shown) (x : Outcome) : Type 0 where
+  pub order : x .gatherer .order ≡ o
+  pub judge : after Waiting (linesOf ls) ≡ x .gatherer .judge
+  pub heard : accepted Waiting (linesOf ls) ≡ linesOf ls
+  pub rows : Rows o ls (x .gatherer .judge) (x .gatherer .kept) (x .buffer)
+  pub done : (n : ℕ) (rows : List ℕ) → x .output ≡ complete n rows → Completes o ls n rows
 
 abbrev isComplete : Output → Bool
 isComplete nothing = false
@@ -325,16 +330,13 @@ module _ (o : Order) (ls : List Shown) (x : Outcome) (h : Holds o ls x) (l : Sho
       put : isVisible (l .given .kind) ≡ true → length (l .body) ≡ longest → n ≤ length (x .buffer)
           → Rows o (ls ++ (l ∷ [])) (Due p c) n (take (s .kept) (x .buffer) ++ (row ++ drop n (x .buffer)))
       put v f g =
-          let a : length (take (s .kept) (x .buffer)) ≡ s .kept = length-take-le (s .kept) (x .buffer) (kept .1) in
-          let w : length (take (s .kept) (x .buffer) ++ row) ≡ n = length-append (take (s .kept) (x .buffer)) row ∙ omega (arith, a, pixels-length (s .order) (l .body) f) in
-          let z : take (s .kept) (x .buffer) ++ (row ++ drop n (x .buffer)) ≡ (take (s .kept) (x .buffer) ++ row) ++ drop n (x .buffer) = sym (append-assoc (take (s .kept) (x .buffer)) row (drop n (x .buffer))) in (
-            ap (take n) z
-                ∙ take-at (take (s .kept) (x .buffer) ++ row) (drop n (x .buffer)) n w
+          let w = pixels-length (s .order) (l .body) f in (
+            put-rows (s .kept) longest (x .buffer) row w g
                 ∙ ap (λ (t : List ℕ). t ++ row) (kept .0)
                 ∙ ap (λ (t : Order). rowsOf o (latest ls) ++ pixelsOf t (l .body)) (h .order)
                 ∙ ap (λ (t : Bool). rowsOf o (latest ls) ++ cond t (pixelsOf o (l .body)) []) (sym v)
                 ∙ sym (rows-later later),
-            omega (arith, ap length z, length-append (take (s .kept) (x .buffer) ++ row) (drop n (x .buffer)), w),
+            omega (arith, put-length (s .kept) longest (x .buffer) row w g),
             whole-later later (kept .2) (λ t. f),
           )
 
@@ -411,9 +413,9 @@ module _ (o : Order) (ls : List Shown) (x : Outcome) (h : Holds o ls x) (l : Sho
       by false g = still o ls x (refused noRoom) refl h
 
   -- any line
-  hands : let y : Outcome = handed (x .gatherer) l (x .buffer) in Holds o (ls ++ unlessRefused (y .output) (l ∷ [])) y
+  holds-line : let y : Outcome = handed (x .gatherer) l (x .buffer) in Holds o (ls ++ unlessRefused (y .output) (l ∷ [])) y
   unfolding handed refusedBy onward
-  hands = by (called (x .gatherer .judge) (l .given)) (effect (x .gatherer .judge) (l .given) passing) refl
+  holds-line = by (called (x .gatherer .judge) (l .given)) (effect (x .gatherer .judge) (l .given) passing) refl
     where
       by : (r : Judged) → Effect (x .gatherer .judge) (l .given) r → called (x .gatherer .judge) (l .given) ≡ r
           → let y : Outcome = byVerdict (x .gatherer) l (x .buffer) (r .judge) (r .verdict) in Holds o (ls ++ unlessRefused (y .output) (l ∷ [])) y
@@ -429,36 +431,45 @@ module _ (o : Order) (ls : List Shown) (x : Outcome) (h : Holds o ls x) (l : Sho
       by _ (goes place b q d g) e = going place _ b _ q e
       by _ (ends place b q d g) e = ending place b q d g e
 
+-- What a call hands to the judge: nothing, or one line.
+
+pub data Hands (x : Outcome) : List Shown → Outcome → Type 0 where
+  none : Hands x [] (quiet (x .gatherer) (x .buffer))
+  one : (l : Shown) → Hands x (l ∷ []) (handed (x .gatherer) l (x .buffer))
+
+pub hands : (x : Outcome) (g : Given) → Hands x (shown (handedOver (g .answer)) (g .held)) (call x g)
+unfolding takeOf
+hands x g = by (g .answer)
+  where
+    broken : (t : Bool)
+        → Hands x (shown (cond t (line brokenKind 0 ∷ []) []) (g .held)) (cond t (handed (x .gatherer) (shownAs brokenKind 0 (g .held)) (x .buffer)) (quiet (x .gatherer) (x .buffer)))
+    broken true = one (shownAs brokenKind 0 (g .held))
+    broken false = none
+
+    by : (a : Answer) → Hands x (shown (handedOver a) (g .held)) (takeOf (x .gatherer) a (g .held) (x .buffer))
+    by answer.Nothing = none
+    by (answer.Line f) = one (shownAs (kindNumber (f .kind)) (f .number) (g .held))
+    by (answer.Gap a b) = none
+    by (answer.Refused n) = broken (isBrokenLine n)
+
 -- Calls.
 
 holds-call : (o : Order) (ls : List Shown) (x : Outcome) (g : Given) → Holds o ls x
     → Holds o (ls ++ unlessRefused (call x g .output) (shown (handedOver (g .answer)) (g .held))) (call x g)
-unfolding takeOf
-holds-call o ls x g h = by (g .answer)
+holds-call o ls x g h = by (shown (handedOver (g .answer)) (g .held)) (call x g) (hands x g)
   where
-    quietly : Holds o (ls ++ []) (quiet (x .gatherer) (x .buffer))
-    quietly = still o ls x nothing refl h
+    by : (ms : List Shown) (y : Outcome) → Hands x ms y → Holds o (ls ++ unlessRefused (y .output) ms) y
+    by _ _ none = still o ls x nothing refl h
+    by _ _ (one l) = holds-line o ls x h l
 
-    broken : (t : Bool)
-        → let y : Outcome = cond t (handed (x .gatherer) (shownAs brokenKind 0 (g .held)) (x .buffer)) (quiet (x .gatherer) (x .buffer)) in
-        Holds o (ls ++ unlessRefused (y .output) (shown (cond t (line brokenKind 0 ∷ []) []) (g .held))) y
-    broken true = hands o ls x h (shownAs brokenKind 0 (g .held))
-    broken false = quietly
-
-    by : (a : Answer) → let y : Outcome = takeOf (x .gatherer) a (g .held) (x .buffer) in Holds o (ls ++ unlessRefused (y .output) (shown (handedOver a) (g .held))) y
-    by answer.Nothing = quietly
-    by (answer.Line f) = hands o ls x h (shownAs (kindNumber (f .kind)) (f .number) (g .held))
-    by (answer.Gap a b) = quietly
-    by (answer.Refused n) = broken (isBrokenLine n)
-
-holds-calls : (o : Order) (ls : List Shown) (x : Outcome) (gs : List Given) → Holds o ls x → Holds o (ls ++ taken x gs) (calls x gs)
+pub holds-calls : (o : Order) (ls : List Shown) (x : Outcome) (gs : List Given) → Holds o ls x → Holds o (ls ++ taken x gs) (calls x gs)
 holds-calls o ls x [] h = subst (λ (t : List Shown). Holds o t x) (sym (append-nil ls)) h
 holds-calls o ls x (g ∷ gs) h =
     let a : List Shown = unlessRefused (call x g .output) (shown (handedOver (g .answer)) (g .held)) in
     subst (λ (t : List Shown). Holds o t (calls (call x g) gs)) (append-assoc ls a (taken (call x g) gs))
     (holds-calls o (ls ++ a) (call x g) gs (holds-call o ls x g h))
 
-holds-start : (o : Order) (buffer : List ℕ) → Holds o [] (start o buffer)
+pub holds-start : (o : Order) (buffer : List ℕ) → Holds o [] (start o buffer)
 holds-start o buffer = record { order = refl; judge = refl; heard = refl; rows = refl; done = λ n w f. absurd (true≢false (sym (ap isComplete f))) }
 
 -- whenever the last call says complete, the lines taken end in a whole frame, and the rows are those of its visible lines, top to bottom, 292 or

@@ -6,6 +6,7 @@ use Prim.Native.Nat.{ℕ}
 use lib.ListN.{length}
 use Rattle.line_code.specs.declared.Kind.the-variants.{VL}
 use Rattle.profile.specs.declared.Profile.the-variants.{VV5404}
+use Rattle.profile.specs.Profile.{longest}
 use Rattle.profile.specs.Layout.{rules, fits}
 use Rattle.stream.specs.declared.Answer.{Answer}
 use Rattle.frame.specs.declared.Borders.{Borders}
@@ -54,6 +55,11 @@ abbrev pub taken : Outcome → List Given → List Shown
 taken x [] = []
 taken x (g ∷ gs) = unlessRefused (call x g .output) (shown (handedOver (g .answer)) (g .held)) ++ taken (call x g) gs
 
+-- refused or not
+abbrev pub shownAll : List Given → List Shown
+shownAll [] = []
+shownAll (g ∷ gs) = shown (handedOver (g .answer)) (g .held) ++ shownAll gs
+
 abbrev pub linesOf : List Shown → List Line
 linesOf [] = []
 linesOf (l ∷ ls) = l .given ∷ linesOf ls
@@ -74,6 +80,10 @@ pub record Completes (o : Order) (ls : List Shown) (n : ℕ) (rows : List ℕ) :
   pub shows : rows ≡ rowsOf o frame
   pub sized : length rows ≡ size (pictureOf borders)
   pub used : n ≡ length rows
+
+-- a visible line's body fills a row: the line buffer was not too short
+abbrev pub Whole : Shown → Type 0
+Whole l = isVisible (l .given .kind) ≡ true → length (l .body) ≡ longest
 
 -- a visible line's body is laid out as 01 says
 abbrev pub Laid : Shown → Type 0

@@ -1,4 +1,5 @@
 pub mod FrameRows
 pub mod Gathering
 pub mod FrameRowsLaws
+pub mod WholeFrameLaws
 pub mod PictureLaws

@@ -1,0 +1,261 @@
+-- A frame that comes whole is shown, whatever came before it, where its visible bodies and the rows' buffer are long enough.
+use mathlib.Core.Path.{_≡_, refl, sym, ap, subst, _∙_}
+use mathlib.Core.Bool.{Bool, true, false, cond, true≢false}
+use mathlib.Core.List.{List, [], _∷_, _++_, append-nil, append-assoc, head-eq-of-cons-eq, tail-eq-of-cons-eq}
+use Prim.Native.Nat.{ℕ, zero, suc, _+_, _-_, _≤_}
+use native.Mathlib.Omega.{arith}
+use borrow.Author.Tests.{eq-eqb, le-leb}
+use lib.ListN.{length, take, drop, length-append}
+use Rattle.bits.specs.Every.{and-left, and-right}
+use Rattle.line_code.specs.declared.Kind.the-variants.{SOF}
+use Rattle.line_code.specs.LineCode.{kindNumber}
+use Rattle.profile.specs.Profile.{longest}
+use Rattle.frame.specs.declared.Borders.{Borders}
+use Rattle.frame.specs.declared.Borders.the-variants.{Unsettled, On, Off}
+use Rattle.frame.specs.declared.Judge.{Judge}
+use Rattle.frame.specs.declared.Judge.the-variants.{Waiting, Due}
+use Rattle.frame.specs.declared.Judged.{Judged}
+use Rattle.frame.specs.declared.Verdict.{Verdict}
+use Rattle.frame.specs.declared.Verdict.the-variants as verdict
+use Rattle.frame.specs.Frame.{lastPlace, kindAt, begun, passes, judgeOf}
+use Rattle.frame.specs.Calls.{Line, line, called, verdicts, fits, laidFrom, IsFrame}
+use Rattle.frame.specs.FrameLaws.{first-is, sof-within, reached-passes, toComplete, frame-complete}
+use Rattle.tally.specs.Answered.{handedOver}
+use Rattle.pgm.specs.Pgm.{size}
+use Rattle.frame_rows.specs.declared.Order.{Order}
+use Rattle.frame_rows.specs.declared.Gatherer.{Gatherer}
+use Rattle.frame_rows.specs.FrameRows.{Shown, pixelsOf, isVisible, rowOf, rowsOf, complete, Outcome, moved, quiet, keepRow, onward, completed, refusedBy, byVerdict, handed}
+use Rattle.frame_rows.specs.Gathering.{Given, call, calls, start, shown, taken, linesOf, pictureOf, Every, shownAll, Whole}
+use Rattle.frame_rows.specs.FrameRowsLaws.{rows-append, pixels-length, frame-size, stands, every-snoc, put-rows, put-length, Rows, Holds, Hands, none, one, hands, holds-calls, holds-start}
+
+-- The call that brings a line.
+
+brings : (x : Outcome) (g : Given) (l : Shown) → shown (handedOver (g .answer)) (g .held) ≡ l ∷ [] → call x g ≡ handed (x .gatherer) l (x .buffer)
+brings x g l e = by (shown (handedOver (g .answer)) (g .held)) (call x g) (hands x g) e
+  where
+    by : (ls : List Shown) (y : Outcome) → Hands x ls y → ls ≡ l ∷ [] → y ≡ handed (x .gatherer) l (x .buffer)
+    by _ _ none f = absurd (let z : _≡_ {A = ℕ} 0 1 = ap length f in omega arith)
+    by _ _ (one a) f = ap (λ (t : Shown). handed (x .gatherer) t (x .buffer)) (head-eq-of-cons-eq f)
+
+-- Lines that are due.
+
+module _ (s : Gatherer) (l : Shown) (buffer : List ℕ) where
+  judged : (v : Verdict) → called (s .judge) (l .given) .verdict ≡ v → handed s l buffer ≡ byVerdict s l buffer (called (s .judge) (l .given) .judge) v
+  unfolding handed
+  judged v e = ap (byVerdict s l buffer (called (s .judge) (l .given) .judge)) e
+
+  seen : (j : Judge) → isVisible (l .given .kind) ≡ true → length (l .body) ≡ longest → s .kept + longest ≤ length buffer
+      → onward s j (l .given .kind) (l .body) buffer
+      ≡ quiet (moved s j (s .kept + longest)) (take (s .kept) buffer ++ (pixelsOf (s .order) (l .body) ++ drop (s .kept + longest) buffer))
+  unfolding onward keepRow
+  seen j v e g = simp (v, eq-eqb _ _ e, le-leb _ _ g)
+
+  unseen : (j : Judge) → isVisible (l .given .kind) ≡ false → onward s j (l .given .kind) (l .body) buffer ≡ quiet (moved s j (s .kept)) buffer
+  unfolding onward
+  unseen j v = simp v
+
+  shows : called (s .judge) (l .given) .verdict ≡ verdict.Complete → s .kept ≤ length buffer → handed s l buffer .output ≡ complete (s .kept) (take (s .kept) buffer)
+  unfolding completed
+  shows e g = ap (λ (y : Outcome). y .output) (judged verdict.Complete e) ∙ simp (le-leb _ _ g)
+
+-- The rest of a frame, up to its last line.
+
+going-on : (v : Verdict) (j : Judge) (ls : List Shown) (l : Shown) (m : ℕ) → v ∷ verdicts j (linesOf (ls ++ (l ∷ []))) ≡ toComplete m
+    → (v ≡ verdict.Going) × (k : ℕ) × (verdicts j (linesOf (ls ++ (l ∷ []))) ≡ toComplete k)
+going-on v j [] l zero e = absurd (let z : _≡_ {A = ℕ} 2 1 = ap length e in omega arith)
+going-on v j (a ∷ ls) l zero e =
+    absurd (let z : _≡_ {A = ℕ} (suc (suc (length (verdicts (called j (a .given) .judge) (linesOf (ls ++ (l ∷ []))))))) 1 = ap length e in omega arith)
+going-on v j ls l (suc m) e = (head-eq-of-cons-eq e, m, tail-eq-of-cons-eq e)
+
+only : (v : Verdict) (m : ℕ) → v ∷ [] ≡ toComplete m → v ≡ verdict.Complete
+only v zero e = head-eq-of-cons-eq e
+only v (suc zero) e = absurd (let z : _≡_ {A = ℕ} 1 2 = ap length e in omega arith)
+only v (suc (suc m)) e = absurd (let z : _≡_ {A = ℕ} 1 (suc (suc (length (toComplete m)))) = ap length e in omega arith)
+
+-- what is said after these lines and a last one, the rows of the lines being put after those kept
+abbrev Said : Order → List Shown → Outcome → Outcome → Type 0
+Said o ls x y = y .output ≡ complete (x .gatherer .kept + length (rowsOf o ls)) (take (x .gatherer .kept) (x .buffer) ++ rowsOf o ls)
+
+-- the lines are due, up to the last one, and there is room for their rows
+record Ready (o : Order) (ls : List Shown) (l : Shown) (x : Outcome) : Type 0 where
+  order : x .gatherer .order ≡ o
+  count : ℕ
+  due : verdicts (x .gatherer .judge) (linesOf (ls ++ (l ∷ []))) ≡ toComplete count
+  whole : Every Whole ls
+  room : x .gatherer .kept + length (rowsOf o ls) ≤ length (x .buffer)
+
+-- one line of them
+after-line : (o : Order) (a : Shown) (ls : List Shown) (l : Shown) (x : Outcome) (f : Outcome → Outcome) → Ready o (a ∷ ls) l x
+    → ((y : Outcome) → Ready o ls l y → Said o ls y (f y)) → Said o (a ∷ ls) x (f (handed (x .gatherer) a (x .buffer)))
+after-line o a ls l x f r rest = by (isVisible (a .given .kind)) refl
+  where
+    s : Gatherer
+    s = x .gatherer
+
+    j : Judge
+    j = called (s .judge) (a .given) .judge
+
+    d : (called (s .judge) (a .given) .verdict ≡ verdict.Going) × (k : ℕ) × (verdicts j (linesOf (ls ++ (l ∷ []))) ≡ toComplete k)
+    d = going-on (called (s .judge) (a .given) .verdict) j ls l (r .count) (r .due)
+
+    n : ℕ
+    n = length (rowsOf o ls)
+
+    lengths : length (rowsOf o (a ∷ ls)) ≡ length (rowOf o a) + n
+    lengths = length-append (rowOf o a) (rowsOf o ls)
+
+    by : (t : Bool) → isVisible (a .given .kind) ≡ t → Said o (a ∷ ls) x (f (handed s a (x .buffer)))
+    by true v =
+        let row : List ℕ = pixelsOf (s .order) (a .body) in
+        let e : rowOf o a ≡ row = ap (λ (t : Bool). cond t (pixelsOf o (a .body)) []) v ∙ ap (λ (t : Order). pixelsOf t (a .body)) (sym (r .order)) in
+        let w : length row ≡ longest = pixels-length (s .order) (a .body) (r .whole .0 v) in
+        let g : s .kept + longest ≤ length (x .buffer) = omega (arith, r .room, lengths, ap length e, w) in
+        let y : Outcome = quiet (moved s j (s .kept + longest)) (take (s .kept) (x .buffer) ++ (row ++ drop (s .kept + longest) (x .buffer))) in
+        let q : Ready o ls l y = record {
+          order = r .order;
+          count = d .1;
+          due = d .2;
+          whole = r .whole .1;
+          room = omega (arith, r .room, lengths, ap length e, w, put-length (s .kept) longest (x .buffer) row w g);
+        } in
+        ap (λ (z : Outcome). f z .output) (judged s a (x .buffer) verdict.Going (d .0) ∙ seen s a (x .buffer) j v (r .whole .0 v) g)
+        ∙ rest y q
+        ∙ ap (λ (k : ℕ). complete k (take (s .kept + longest) (y .buffer) ++ rowsOf o ls)) (omega (arith, lengths, ap length e, w))
+        ∙ ap (complete (s .kept + length (rowsOf o (a ∷ ls))))
+        (ap (λ (t : List ℕ). t ++ rowsOf o ls) (put-rows (s .kept) longest (x .buffer) row w g)
+        ∙ append-assoc (take (s .kept) (x .buffer)) row (rowsOf o ls)
+        ∙ ap (λ (t : List ℕ). take (s .kept) (x .buffer) ++ (t ++ rowsOf o ls)) (sym e))
+    by false v =
+        let e : rowsOf o (a ∷ ls) ≡ rowsOf o ls = ap (λ (t : Bool). cond t (pixelsOf o (a .body)) [] ++ rowsOf o ls) v in
+        let y : Outcome = quiet (moved s j (s .kept)) (x .buffer) in
+        let q : Ready o ls l y = record {
+          order = r .order;
+          count = d .1;
+          due = d .2;
+          whole = r .whole .1;
+          room = omega (arith, r .room, ap length e);
+        } in
+        ap (λ (z : Outcome). f z .output) (judged s a (x .buffer) verdict.Going (d .0) ∙ unseen s a (x .buffer) j v)
+        ∙ rest y q
+        ∙ ap (λ (t : List ℕ). complete (s .kept + length t) (take (s .kept) (x .buffer) ++ t)) (sym e)
+
+rest-shown : (o : Order) (gs : List Given) (g : Given) (l : Shown) (x : Outcome) → shown (handedOver (g .answer)) (g .held) ≡ l ∷ []
+    → Ready o (shownAll gs) l x → Said o (shownAll gs) x (calls x (gs ++ (g ∷ [])))
+rest-shown o [] g l x e r =
+    ap (λ (y : Outcome). y .output) (brings x g l e)
+    ∙ shows (x .gatherer) l (x .buffer) (only (called (x .gatherer .judge) (l .given) .verdict) (r .count) (r .due)) (omega (arith, r .room))
+    ∙ ap (λ (k : ℕ). complete k (take (x .gatherer .kept) (x .buffer))) (omega arith)
+    ∙ ap (complete (x .gatherer .kept + 0)) (sym (append-nil (take (x .gatherer .kept) (x .buffer))))
+rest-shown o (a ∷ gs) g l x e r = by (shown (handedOver (a .answer)) (a .held)) (call x a) (hands x a) r (λ y. rest-shown o gs g l y e)
+  where
+    by : (ls : List Shown) (y : Outcome) → Hands x ls y → Ready o (ls ++ shownAll gs) l x
+        → ((z : Outcome) → Ready o (shownAll gs) l z → Said o (shownAll gs) z (calls z (gs ++ (g ∷ []))))
+        → Said o (ls ++ shownAll gs) x (calls y (gs ++ (g ∷ [])))
+    by _ _ none q rest = rest (quiet (x .gatherer) (x .buffer)) (record { order = q .order; count = q .count; due = q .due; whole = q .whole; room = q .room })
+    by _ _ (one b) q rest = after-line o b (shownAll gs) l x (λ z. calls z (gs ++ (g ∷ []))) q rest
+
+-- The first line of a frame, wherever the judge is.
+
+-- no rows are kept while the judge waits
+abbrev Clear : Gatherer → Type 0
+Clear s = s .judge ≡ Waiting → s .kept ≡ 0
+
+opened : (s : Gatherer) (l : Shown) (buffer : List ℕ) → passes (s .judge) ≡ true → Clear s → l .given ≡ line (kindNumber SOF) 0
+    → handed s l buffer ≡ quiet (moved s begun 0) buffer
+unfolding handed onward refusedBy judgeOf
+opened s l buffer p c e = by (s .judge) refl p
+  where
+    at : Judge → Line → Outcome
+    at j k = byVerdict s (record { given = k; body = l .body }) buffer (called j k .judge) (called j k .verdict)
+
+    by : (j : Judge) → s .judge ≡ j → passes j ≡ true → handed s l buffer ≡ quiet (moved s begun 0) buffer
+    by Waiting q h = ap (λ (j : Judge). at j (l .given)) q ∙ ap (at Waiting) e ∙ ap (λ (n : ℕ). quiet (moved s begun n) buffer) (c q)
+    by (Due place b) q h =
+        ap (λ (j : Judge). at j (l .given)) q
+        ∙ ap (at (Due place b)) e
+        ∙ ap (λ (r : Judged). byVerdict s (record { given = line (kindNumber SOF) 0; body = l .body }) buffer (r .judge) (r .verdict)) (sof-within place b h)
+
+-- A whole frame.
+
+laid-last : (b : Borders) (place : ℕ) (ls : List Shown) (l : Shown) → laidFrom b place (linesOf (ls ++ (l ∷ []))) ≡ true → place + length (linesOf (ls ++ (l ∷ []))) ≡ lastPlace + 1
+    → fits b lastPlace (l .given) ≡ true
+laid-last b place [] l h e = subst (λ (n : ℕ). fits b n (l .given) ≡ true) (omega arith) (and-left _ _ h)
+laid-last b place (a ∷ ls) l h e = laid-last b (suc place) ls l (and-right (fits b place (a .given)) _ h) (omega arith)
+
+last-unseen : (b : Borders) (l : Shown) → fits b lastPlace (l .given) ≡ true → isVisible (l .given .kind) ≡ false
+unfolding kindAt
+last-unseen Unsettled l h = ap isVisible (stands Unsettled lastPlace (l .given) h)
+last-unseen On l h = ap isVisible (stands On lastPlace (l .given) h)
+last-unseen Off l h = ap isVisible (stands Off lastPlace (l .given) h)
+
+-- these lines and a last one are a frame's, and there is room for its rows
+record Arrives (o : Order) (b : Borders) (ls : List Shown) (l : Shown) (x : Outcome) : Type 0 where
+  order : x .gatherer .order ≡ o
+  passing : passes (x .gatherer .judge) ≡ true
+  clear : Clear (x .gatherer)
+  frame : IsFrame b (linesOf (ls ++ (l ∷ [])))
+  whole : Every Whole ls
+  room : size (pictureOf b) ≤ length (x .buffer)
+
+abbrev SaysAll : Order → Borders → List Shown → Shown → Outcome → Type 0
+SaysAll o b ls l y = y .output ≡ complete (size (pictureOf b)) (rowsOf o (ls ++ (l ∷ [])))
+
+first-line : (o : Order) (b : Borders) (a : Shown) (ls : List Shown) (l : Shown) (x : Outcome) (f : Outcome → Outcome) → Arrives o b (a ∷ ls) l x
+    → ((y : Outcome) → Ready o ls l y → Said o ls y (f y)) → SaysAll o b (a ∷ ls) l (f (handed (x .gatherer) a (x .buffer)))
+unfolding judgeOf
+first-line o b a ls l x f r rest =
+    let s : Gatherer = x .gatherer in
+    let i : a .given ≡ line (kindNumber SOF) 0 = first-is b (a .given) (and-left _ _ (r .frame .1)) in
+    let u : isVisible (l .given .kind) ≡ false = last-unseen b l (laid-last b 0 (a ∷ ls) l (r .frame .1) (omega (arith, r .frame .0))) in
+    let v : isVisible (a .given .kind) ≡ false = ap (λ (k : Line). isVisible (k .kind)) i in
+    let w : Every Whole ((a ∷ ls) ++ (l ∷ [])) = every-snoc Whole (a ∷ ls) l (r .whole) (λ t. absurd (true≢false (sym t ∙ u))) in
+    let m : rowsOf o ((a ∷ ls) ++ (l ∷ [])) ≡ rowsOf o ls =
+    ap (λ (t : Bool). cond t (pixelsOf o (a .body)) [] ++ rowsOf o (ls ++ (l ∷ []))) v
+    ∙ rows-append o ls (l ∷ [])
+    ∙ ap (λ (t : Bool). rowsOf o ls ++ (cond t (pixelsOf o (l .body)) [] ++ [])) u
+    ∙ append-nil (rowsOf o ls) in
+    let n : length (rowsOf o ls) ≡ size (pictureOf b) = sym (ap length m) ∙ frame-size o b ((a ∷ ls) ++ (l ∷ [])) (r .frame) w in
+    let d : verdicts begun (linesOf (ls ++ (l ∷ []))) ≡ toComplete (lastPlace - 1) =
+    ap (λ (k : Line). verdicts (called Waiting k .judge) (linesOf (ls ++ (l ∷ [])))) (sym i)
+    ∙ tail-eq-of-cons-eq (frame-complete b (linesOf ((a ∷ ls) ++ (l ∷ []))) (r .frame) .0) in
+    let y : Outcome = quiet (moved s begun 0) (x .buffer) in
+    let q : Ready o ls l y = record { order = r .order; count = lastPlace - 1; due = d; whole = r .whole .1; room = omega (arith, n, r .room) } in
+    ap (λ (z : Outcome). f z .output) (opened s a (x .buffer) (r .passing) (r .clear) i)
+    ∙ rest y q
+    ∙ ap (λ (k : ℕ). complete k (rowsOf o ls)) (omega (arith, n))
+    ∙ ap (complete (size (pictureOf b))) (sym m)
+
+arrives-shown : (o : Order) (b : Borders) (gs : List Given) (g : Given) (l : Shown) (x : Outcome) → shown (handedOver (g .answer)) (g .held) ≡ l ∷ []
+    → Arrives o b (shownAll gs) l x → SaysAll o b (shownAll gs) l (calls x (gs ++ (g ∷ [])))
+arrives-shown o b [] g l x e r = absurd (let z = r .frame .0 in omega arith)
+arrives-shown o b (a ∷ gs) g l x e r = by (shown (handedOver (a .answer)) (a .held)) (call x a) (hands x a) r (λ y. arrives-shown o b gs g l y e)
+  where
+    by : (ls : List Shown) (y : Outcome) → Hands x ls y → Arrives o b (ls ++ shownAll gs) l x
+        → ((z : Outcome) → Arrives o b (shownAll gs) l z → SaysAll o b (shownAll gs) l (calls z (gs ++ (g ∷ []))))
+        → SaysAll o b (ls ++ shownAll gs) l (calls y (gs ++ (g ∷ [])))
+    by _ _ none q rest =
+        rest (quiet (x .gatherer) (x .buffer))
+        (record { order = q .order; passing = q .passing; clear = q .clear; frame = q .frame; whole = q .whole; room = q .room })
+    by _ _ (one c) q rest = first-line o b c (shownAll gs) l x (λ z. calls z (gs ++ (g ∷ []))) q (λ z. rest-shown o gs g l z e)
+
+clear-rows : (o : Order) (ls : List Shown) (x : Outcome) → Holds o ls x → Clear (x .gatherer)
+clear-rows o ls x h q = subst (λ (j : Judge). Rows o ls j (x .gatherer .kept) (x .buffer)) q (h .rows)
+
+-- after any calls, `before`: where the calls from there on hand over exactly the lines of a frame, the last of them with the last call, each
+-- visible body fills a row, and the buffer has room for the picture, the last call says complete, with the frame's rows
+pub frame-shown : (o : Order) (buffer : List ℕ) (before gs : List Given) (g : Given) (l : Shown) (b : Borders)
+    → shown (handedOver (g .answer)) (g .held) ≡ l ∷ [] → IsFrame b (linesOf (shownAll gs ++ (l ∷ []))) → Every Whole (shownAll gs)
+    → size (pictureOf b) ≤ length (calls (start o buffer) before .buffer)
+    → calls (calls (start o buffer) before) (gs ++ (g ∷ [])) .output ≡ complete (size (pictureOf b)) (rowsOf o (shownAll gs ++ (l ∷ [])))
+frame-shown o buffer before gs g l b e f w room =
+    let x : Outcome = calls (start o buffer) before in
+    let h = holds-calls o [] (start o buffer) before (holds-start o buffer) in
+    arrives-shown o b gs g l x e
+    (record {
+      order = h .order;
+      passing = sym (ap passes (h .judge)) ∙ reached-passes (linesOf (taken (start o buffer) before));
+      clear = clear-rows o (taken (start o buffer) before) x h;
+      frame = f;
+      whole = w;
+      room = room;
+    })
