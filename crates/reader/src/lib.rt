@@ -168,16 +168,16 @@ impl Head {
         ensures { λ r. ⌜ (r .head ≡ lentRunOf self (now (body .entry)) (now (nibbles .entry)) (length (now (buffer .entry))) .reader .head) × (r .taken ≡ lentRunOf self (now (body .entry)) (now (nibbles .entry)) (length (now (buffer .entry))) .taken) × (outcomeOf (self .profile) (r .answer) (now (buffer .exit)) ≡ lentRunOf self (now (body .entry)) (now (nibbles .entry)) (length (now (buffer .entry))) .outcome) × (now (body .exit) ≡ lentRunOf self (now (body .entry)) (now (nibbles .entry)) (length (now (buffer .entry))) .reader .body) × (now (buffer .exit) ≡ bufferAfter (lentRunOf self (now (body .entry)) (now (nibbles .entry)) (length (now (buffer .entry))) .outcome) (now (buffer .entry))) ⌝ }
     {
         if body.len() != Profile::LONGEST {
-            return run::refuse(self, refusal::BAD_STATE);
+            return run::refuse(self, refusal::BAD_STATE, 0);
         }
         if self.passes() {
             let p = self.profile;
             if buffer.len() < p.body_length() {
-                return run::refuse(self, refusal::NO_ROOM);
+                return run::refuse(self, refusal::NO_ROOM, 0);
             }
             return run::up_to_stop(self, body, nibbles, buffer);
         }
-        run::refuse(self, refusal::BAD_STATE)
+        run::refuse(self, refusal::BAD_STATE, 0)
     }
 
     // The reader's own test: constant time, and no look at the body.

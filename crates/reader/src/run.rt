@@ -23,14 +23,15 @@ struct Reached {
     at: usize,
 }
 
-pub fn refuse(h: Head, number: u8) -> LentRan
-    ensures { λ r. ⌜ (r .head ≡ h) × (r .answer ≡ answerFor (refused number)) × (r .taken ≡ 0) ⌝ }
+// A run that is refused, or stopped by an input above 15, with what it took.
+pub fn refuse(h: Head, number: u8, taken: usize) -> LentRan
+    ensures { λ r. ⌜ (r .head ≡ h) × (r .answer ≡ answerFor (refused number)) × (r .taken ≡ taken) ⌝ }
 {
     let answer = Answer::Refused(number);
     LentRan {
         head: h,
         answer,
-        taken: 0,
+        taken,
     }
 }
 
@@ -45,12 +46,7 @@ pub fn up_to_stop(start: Head, body: &mut [u8], nibbles: &[u8], buffer: &mut [u8
     while i < nibbles.len() {
         let x = nibbles[i];
         if 15 < x {
-            let answer = Answer::Refused(refusal::NOT_A_NIBBLE);
-            return LentRan {
-                head: h,
-                answer,
-                taken: i,
-            };
+            return refuse(h, refusal::NOT_A_NIBBLE, i);
         }
         let t = take(h, body, x, buffer);
         let answer = t.answer;

@@ -31,19 +31,24 @@ loop-holds c = (leads-here _ _ _ _, search needs, refl, search needs, refl)
 shared-slice-read-x : tie.Need-shared-slice-read-x Inv-loop μ-loop
 shared-slice-read-x c = search needs
 
+refuse-requires : tie.Need-refuse-requires Inv-loop μ-loop
+refuse-requires c κs = search needs
+
 same-length : tie.Need-same-length Inv-loop μ-loop
 same-length c = search needs
 
 same-length-2 : tie.Need-same-length-2 Inv-loop μ-loop
-same-length-2 c = ap length (c .before .before .before .loop .inv .2)
+same-length-2 c = ap length (c .before .before .before .before .loop .inv .2)
 
 returns : tie.Need-returns Inv-loop μ-loop
 returns c =
-    let a = c .before .before .before .before .before .before .before .before .before .before .before .before .args in
-    let l = c .before .before .before .loop in
+    let a = c .before .before .before .before .before .before .before .before .before .before .before .before .before .args in
+    let l = c .before .before .before .before .loop in
+    let e = c .refuse .ensures in
     let s = now (a .nibbles) in
-    let led = leads-on s _ _ _ _ _ _ _ _ _ (c .before .before .before .before .before .before .before .ahead .ensures .0) (l .inv .0) in
-    gives (ranFrom (a .start) (now (a .body)) s) (now (a .buffer)) (stops-above s _ _ _ _ _ led (c .before .before .loop-test .taken) (c .if1 .taken)) refl (l .inv .2)
+    let led = leads-on s _ _ _ _ _ _ _ _ _ (c .before .before .before .before .before .before .before .before .ahead .ensures .0) (l .inv .0) in
+    let g = gives (ranFrom (a .start) (now (a .body)) s) (now (a .buffer)) (stops-above s _ _ _ _ _ led (c .before .before .before .loop-test .taken) (c .before .if1 .taken)) (e .1) (l .inv .2) in
+    (e .0 ∙ g .0, e .2 ∙ g .1, g .2, g .3, g .4)
 
 take-requires : tie.Need-take-requires Inv-loop μ-loop
 take-requires c κs =
@@ -119,6 +124,7 @@ up-to-stop-spec =
     ahead-requires
     loop-holds
     shared-slice-read-x
+    refuse-requires
     same-length
     same-length-2
     returns
