@@ -1,3 +1,3 @@
 pub mod Pasting
 pub mod Telling
-pub mod Running
+pub mod Feeding

@@ -1,29 +1,22 @@
 -- What an answer says of the outcome that it was told from.
-use mathlib.Core.Path.{_≡_, refl, sym, ap}
-use mathlib.Core.Bool.{true, true≢false}
+use mathlib.Core.Path.{_≡_, refl, ap}
 use mathlib.Core.List.{List}
 use Prim.Native.Nat.{ℕ}
 use Rattle.profile.specs.declared.Profile.{Profile}
 use Rattle.stream.specs.declared.Answer.{Answer}
 use Rattle.stream.specs.declared.Answer.the-variants as answers
-use Rattle.stream.specs.Answers.{Outcome, nothing, line, gap, refused, outcomeOf, answerFor, bufferAfter}
+use Rattle.stream.specs.Answers.{Outcome, outcomeOf, answerFor}
 use Rattle.writer.specs.declared.Written.{Written}
 use Rattle.writer.specs.declared.Written.the-variants.{Nibbles, Refused}
 use Rattle.writer.specs.Writer as writer
 use Rattle.writer.specs.Writer.{Output}
-use Rattle.fluturenc.specs.Calls.{isNothing, writtenNumber, writtenCount}
+use Rattle.fluturenc.specs.Calls.{writtenNumber, writtenCount}
 
 pub told-answer : (p : Profile) (a : Answer) (buffer : List ℕ) (o : Outcome) → outcomeOf p a buffer ≡ o → a ≡ answerFor o
 told-answer p answers.Nothing buffer o e = ap answerFor e
 told-answer p (answers.Line f) buffer o e = ap answerFor e
 told-answer p (answers.Gap x y) buffer o e = ap answerFor e
 told-answer p (answers.Refused n) buffer o e = ap answerFor e
-
-pub nothing-kept : (o : Outcome) (buffer : List ℕ) → isNothing (answerFor o) ≡ true → bufferAfter o buffer ≡ buffer
-nothing-kept nothing buffer h = refl
-nothing-kept (line k n r body) buffer h = absurd (true≢false (sym h))
-nothing-kept (gap a b) buffer h = refl
-nothing-kept (refused n) buffer h = refl
 
 -- the writer's
 

@@ -5,11 +5,11 @@ use mathlib.Core.Bool.{Bool, true, false, cond}
 use mathlib.Core.List.{List, [], _∷_}
 use Prim.Native.Nat.{ℕ, _+_, _-_, _/_, _%_, _≤_, _<_}
 use native.Mathlib.Omega.{arith}
-use borrow.Author.Tests.{ltb-true, ltb-false, leb-true, eqb-true, lt-ltb, le-ltb, le-leb, lt-leb, ne-eqb}
+use borrow.Author.Tests.{ltb-true, ltb-false, leb-true, eqb-true, lt-ltb, le-ltb, le-leb, ne-eqb}
 use lib.Dec.{eqb, leb, ltb}
 use lib.ListN.{length, length-replicate}
 use Rattle.bits.specs.Every.{and-left, and-right}
-use Rattle.refusal.specs.Refusal.{notANibble, noRoom}
+use Rattle.refusal.specs.Refusal.{notANibble, badState, noRoom}
 use Rattle.line_code.specs.declared.Kind.{Kind}
 use Rattle.line_code.specs.declared.Kind.the-variants.{BL, BK, VL, SOF, EOF}
 use Rattle.line_code.specs.LineCode.{kindNumber}
@@ -21,8 +21,10 @@ use Rattle.stream.specs.declared.Answer.the-variants as answers
 use Rattle.stream.specs.Answers.{refused, answerFor}
 use Rattle.mark_answer.specs.Kept.{topPlace, bodyAt}
 use Rattle.reader.specs.declared.Reader.{Reader}
-use Rattle.reader.specs.Reader.{Took, passes, freshReader, feedOf, finishOf, leaveBody}
-use Rattle.refinement.specs.Passes.{passes-test, Feeding, feed-state, feed-nibble, feed-room, feed-taken, feeding, Finishing, finish-state, finish-taken, finishing, Ok, fresh-ok, feed-ok, finish-ok}
+use Rattle.reader.specs.Reader.{Took, passes, freshReader, taking, finishOf, leaveBody}
+use Rattle.reader.specs.Run.{Ran, ran, isAnswer, upToStop, runOf}
+use Rattle.reader.specs.RunLaws.{onward, up-to-stop, none-taken}
+use Rattle.refinement.specs.Passes.{passes-test, Finishing, finish-state, finish-taken, finishing, Ok, fresh-ok, take-ok, finish-ok}
 use Rattle.refinement.specs.Stored.{length-body}
 use Rattle.frame.specs.declared.Borders.the-variants.{Unsettled, On, Off}
 use Rattle.frame.specs.declared.Judge.{Judge}
@@ -30,7 +32,7 @@ use Rattle.frame.specs.declared.Judge.the-variants.{Waiting, Due}
 use Rattle.frame.specs.Frame.{judgeOf}
 use Rattle.frame.specs.Frame as frame
 use Rattle.fluturenc.specs.State.{stateLength, bitOf, stored, holdsReader, readerIn}
-use Rattle.fluturenc.specs.Calls.{Ran, Called, FeedCalled, answerNumber, isNothing, oneMore, runOf, openCall, feedCall, feedRan, feedRefused, finishCall, judgeNumber, judgeNumbered, verdictNumber, judgeCall}
+use Rattle.fluturenc.specs.Calls.{Called, FeedCalled, answerNumber, openCall, feedCall, feedRan, finishCall, judgeNumber, judgeNumbered, verdictNumber, judgeCall}
 use Rattle.fluturenc.specs.StateLaws.{reader-back, stored-length, stored-holds}
 
 -- Readers that calls reach: the code is a byte, the test passes, and the body has its length.
@@ -52,14 +54,29 @@ leave-full r =
     go true w e = e
     go false w e = refl
 
-feed-whole : (r : Reader) (n room : ℕ) → Whole r → Whole (feedOf r n room .reader)
-feed-whole r n room h = record { ok = feed-ok r n room (h .ok); full = go (feeding r n room) }
+take-whole : (r : Reader) (n : ℕ) → n < 16 → Whole r → Whole (taking r n .reader)
+take-whole r n l h = record { ok = take-ok (r .head) n l (h .ok); full = leave-full r ∙ h .full }
+
+onward-whole : (w : List ℕ) (r : Reader) (i : ℕ) → Whole r → Whole (onward r w i .reader)
+onward-whole [] r i h = h
+onward-whole (n ∷ w) r i h = go (leb n 15) (isAnswer (taking r n .outcome)) refl (onward-whole w (taking r n .reader) (i + 1))
   where
-    go : {t : Took} → Feeding r n room t → length (t .reader .body) ≡ longest
-    go (feed-state e) = h .full
-    go (feed-nibble e) = h .full
-    go (feed-room e) = h .full
-    go (feed-taken l) = leave-full r ∙ h .full
+    go : (a b : Bool) → leb n 15 ≡ a → (Whole (taking r n .reader) → Whole (onward (taking r n .reader) w (i + 1) .reader))
+        → Whole
+        (cond a (cond b (ran (taking r n .reader) (taking r n .outcome) (i + 1)) (onward (taking r n .reader) w (i + 1)))
+        (ran r (refused notANibble) i) .reader)
+    go false b e f = h
+    go true true e f = take-whole r n (let l = leb-true n 15 e in omega arith) h
+    go true false e f = f (take-whole r n (let l = leb-true n 15 e in omega arith) h)
+
+run-whole : (r : Reader) (w : List ℕ) (room : ℕ) → Whole r → Whole (runOf r w room .reader)
+unfolding runOf
+run-whole r w room h = go (passes (r .head)) (leb (bodyLength (r .head .profile)) room)
+  where
+    go : (a b : Bool) → Whole (cond a (cond b (upToStop r w) (ran r (refused noRoom) 0)) (ran r (refused badState) 0) .reader)
+    go false b = h
+    go true false = h
+    go true true = subst (λ (t : Ran). Whole (t .reader)) (sym (up-to-stop r w)) (onward-whole w r 0 h)
 
 finish-whole : (r : Reader) → Whole r → Whole (finishOf r .reader)
 finish-whole r h = record { ok = finish-ok r (h .ok); full = go (finishing r) }
@@ -67,20 +84,6 @@ finish-whole r h = record { ok = finish-ok r (h .ok); full = go (finishing r) }
     go : {t : Took} → Finishing r t → length (t .reader .body) ≡ longest
     go (finish-state e) = h .full
     go finish-taken = length-replicate {A = ℕ} longest 0
-
-run-whole : (w : List ℕ) (r : Reader) (room : ℕ) → Whole r → Whole (runOf r w room .reader)
-run-whole [] r room h = h
-run-whole (n ∷ w) r room h =
-    let fed = feed-whole r n room h in
-    go (leb n 15) (isNothing (answerFor (feedOf r n room .outcome))) (runOf (feedOf r n room .reader) w room) (feedOf r n room) (run-whole w _ room fed) fed
-  where
-    go : (a b : Bool) (x : Ran) (t : Took) → Whole (x .reader) → Whole (t .reader)
-        → Whole
-        (cond a (cond b (oneMore x) (record { reader = t .reader; taken = 1; outcome = t .outcome }))
-        (record { reader = r; taken = 0; outcome = refused notANibble }) .reader)
-    go true true x t f g = f
-    go true false x t f g = g
-    go false b x t f g = h
 
 -- Calls on a state.
 
@@ -113,15 +116,9 @@ module _ (s : List ℕ) (r : Reader) (held : holdsReader s ≡ true) (read : rea
   finish-call =
       simp held (ap (λ (x : Reader). record { answer = answerNumber (answerFor (finishOf x .outcome)); state = stored (finishOf x .reader) s }) read)
 
-  pub feed-call : (w line : List ℕ) → bodyLength (r .head .profile) ≤ length line → feedCall s w line ≡ feedRan (runOf r w (length line)) s line
+  feed-call : (w line : List ℕ) → feedCall s w line ≡ feedRan (runOf r w (length line)) s line
   unfolding feedCall
-  feed-call w line l =
-      simp (held, le-leb _ _ (subst (λ (x : Reader). bodyLength (x .head .profile) ≤ length line) (sym read) l))
-      (ap (λ (x : Reader). feedRan (runOf x w (length line)) s line) read)
-
-  pub feed-short : (w line : List ℕ) → length line < bodyLength (r .head .profile) → feedCall s w line ≡ feedRefused noRoom s line
-  unfolding feedCall
-  feed-short w line l = simp (held, lt-leb _ _ (subst (λ (x : Reader). length line < bodyLength (x .head .profile)) (sym read) l))
+  feed-call w line = simp held (ap (λ (x : Reader). feedRan (runOf x w (length line)) s line) read)
 
 -- opening leaves a fresh reader
 pub opens : (p : Profile) (s : List ℕ) → stateLength ≤ length s
@@ -130,12 +127,19 @@ opens p s h =
     subst (λ (c : Called). (c .answer ≡ 0) × Holds (c .state) (freshReader p)) (sym (open-call p s h)) (refl, stored-held (freshReader p) s (fresh-whole p) h)
 
 -- feeding answers and leaves what the reader's run does
-pub feeds : (s w line : List ℕ) (r : Reader) → Holds s r → bodyLength (r .head .profile) ≤ length line
+pub feeds : (s w line : List ℕ) (r : Reader) → Holds s r
     → (feedCall s w line ≡ feedRan (runOf r w (length line)) s line) × Holds (feedCall s w line .state) (runOf r w (length line) .reader)
-feeds s w line r h l = (fed, subst (λ (c : FeedCalled). Holds (c .state) (runOf r w (length line) .reader)) (sym fed) (stored-held _ s (run-whole w r (length line) (h .whole)) (h .room)))
+feeds s w line r h = (fed, subst (λ (c : FeedCalled). Holds (c .state) (t .reader)) (sym fed) (go (eqb (t .taken) 0) refl))
   where
-    fed : feedCall s w line ≡ feedRan (runOf r w (length line)) s line
-    fed = feed-call s r (h .held) (h .read) w line l
+    t : Ran
+    t = runOf r w (length line)
+
+    fed : feedCall s w line ≡ feedRan t s line
+    fed = feed-call s r (h .held) (h .read) w line
+
+    go : (b : Bool) → eqb (t .taken) 0 ≡ b → Holds (cond b s (stored (t .reader) s)) (t .reader)
+    go true e = subst (Holds s) (sym (none-taken r w (length line) (eqb-true _ _ e))) h
+    go false e = stored-held (t .reader) s (run-whole r w (length line) (h .whole)) (h .room)
 
 -- finish answers and leaves what the reader's finish does
 pub finishes : (s : List ℕ) (r : Reader) → Holds s r

@@ -1,19 +1,19 @@
 -- What each exported call answers, and what it leaves in the buffers that it was lent.
-use mathlib.Core.Bool.{Bool, true, false, cond}
-use mathlib.Core.List.{List, [], _∷_}
-use Prim.Native.Nat.{ℕ, suc, _+_, _*_, _%_}
+use mathlib.Core.Bool.{cond}
+use mathlib.Core.List.{List}
+use Prim.Native.Nat.{ℕ, _+_, _*_, _%_}
 use lib.Dec.{eqb, leb, ltb}
 use lib.ListN.{length}
-use Rattle.refusal.specs.Refusal.{notANibble, badState, noRoom}
+use Rattle.refusal.specs.Refusal.{badState, noRoom}
 use Rattle.line_code.specs.LineCode.{kindNumber}
 use Rattle.profile.specs.declared.Numbered.{Numbered}
 use Rattle.profile.specs.declared.Numbered.the-variants as numbered
-use Rattle.profile.specs.Profile.{profileNumbered, bodyLength}
+use Rattle.profile.specs.Profile.{profileNumbered}
 use Rattle.stream.specs.declared.Answer.{Answer}
 use Rattle.stream.specs.declared.Answer.the-variants as answers
-use Rattle.stream.specs.Answers.{Outcome, nothing, refused, answerFor, bufferAfter}
-use Rattle.reader.specs.declared.Reader.{Reader}
-use Rattle.reader.specs.Reader.{freshReader, feedOf, finishOf}
+use Rattle.stream.specs.Answers.{refused, answerFor, bufferAfter}
+use Rattle.reader.specs.Reader.{freshReader, finishOf}
+use Rattle.reader.specs.Run.{Ran, ran, runOf}
 use Rattle.writer.specs.Writer as writer
 use Rattle.writer.specs.Writer.{Output}
 use Rattle.frame.specs.declared.Borders.{Borders}
@@ -32,12 +32,6 @@ answerNumber answers.Nothing = 0
 answerNumber (answers.Line f) = 0x1000000 + 0x80000 * bitOf (f .repaired) + 0x10000 * kindNumber (f .kind) + f .number
 answerNumber (answers.Gap a b) = 0x2000000 + 0x100 * a + b
 answerNumber (answers.Refused n) = n
-
-abbrev pub isNothing : Answer → Bool
-isNothing answers.Nothing = true
-isNothing (answers.Line f) = false
-isNothing (answers.Gap a b) = false
-isNothing (answers.Refused n) = false
 
 -- A call on a reader's state.
 
@@ -64,45 +58,23 @@ finishCall s =
 
 -- Feeding.
 
--- a reader after some nibbles, how many were taken, and what the last one taken brought
-pub record Ran : Type 0 where
-  pub reader : Reader
-  pub taken : ℕ
-  pub outcome : Outcome
-
--- after one nibble more in front
-abbrev pub oneMore : Ran → Ran
-oneMore t = record { reader = t .reader; taken = suc (t .taken); outcome = t .outcome }
-
--- nibbles fed one by one, with a line buffer of so many bytes, until one brings an answer or is above 15
-abbrev pub runOf : Reader → List ℕ → ℕ → Ran
-runOf r [] room = record { reader = r; taken = 0; outcome = nothing }
-runOf r (n ∷ w) room =
-    cond (leb n 15)
-    (cond (isNothing (answerFor (feedOf r n room .outcome)))
-    (oneMore (runOf (feedOf r n room .reader) w room))
-    (record { reader = feedOf r n room .reader; taken = 1; outcome = feedOf r n room .outcome }))
-    (record { reader = r; taken = 0; outcome = refused notANibble })
-
 pub record FeedCalled : Type 0 where
   pub answer : ℕ
   pub taken : ℕ
   pub state : List ℕ
   pub line : List ℕ
 
+-- a state after a run: as it was where nothing is taken, else with the run's reader
+abbrev pub stateAfter : Ran → List ℕ → List ℕ
+stateAfter t s = cond (eqb (t .taken) 0) s (stored (t .reader) s)
+
 abbrev pub feedRan : Ran → List ℕ → List ℕ → FeedCalled
 feedRan t s line =
-    record { answer = answerNumber (answerFor (t .outcome)); taken = t .taken; state = stored (t .reader) s; line = bufferAfter (t .outcome) line }
+    record { answer = answerNumber (answerFor (t .outcome)); taken = t .taken; state = stateAfter t s; line = bufferAfter (t .outcome) line }
 
-abbrev pub feedRefused : ℕ → List ℕ → List ℕ → FeedCalled
-feedRefused n s line = record { answer = n; taken = 0; state = s; line = line }
-
--- 11, 12, or what the run answers: of the state, the nibbles and the line buffer
+-- 11, or what a run of the reader that the state holds answers and leaves: of the state, the nibbles and the line buffer
 unfoldable pub feedCall : List ℕ → List ℕ → List ℕ → FeedCalled
-feedCall s w line =
-    cond (holdsReader s)
-    (cond (leb (bodyLength (readerIn s .head .profile)) (length line)) (feedRan (runOf (readerIn s) w (length line)) s line) (feedRefused noRoom s line))
-    (feedRefused badState s line)
+feedCall s w line = feedRan (cond (holdsReader s) (runOf (readerIn s) w (length line)) (ran (readerIn s) (refused badState) 0)) s line
 
 -- Writing: 0 or the refusal, how many nibbles, and the buffer afterwards.
 

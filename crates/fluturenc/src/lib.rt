@@ -16,16 +16,16 @@
 // reader that passes its own test, then 12 if the line buffer is shorter than the body, also for no nibbles, and takes nothing; an input
 // above 15 stops it before that place with 10. Finish is refused 11. Refused calls change nothing, but that what stood before a 10 is taken.
 //
-// A state is moved and copied as bytes; its layout is specs/State.antt. A judge is a number, 0 when fresh.
+// A state is moved and copied as bytes; its layout is specs/State.antt. A judge is a number, 0 when fresh. For C: independent/fluturenc.h.
 ghost use mathlib.Core.Path.{_≡_};
 ghost use Prim.Native.Nat.{_+_, _≤_};
-ghost use lib.ListN.{length};
+ghost use mathlib.Core.List.{_++_};
+ghost use lib.ListN.{length, drop};
 ghost use lib.Seq.{paste};
 ghost use Rattle.profile.specs.Profile.{profileNumber};
-ghost use Rattle.stream.specs.Answers.{answerFor, bufferAfter};
 ghost use Rattle.writer.specs.Writer.{writeOf};
-ghost use Rattle.fluturenc.specs.State.{stateLength, markNumber, codeOf, markNumbered, profileOf, numberOf, bitOf, headBytes, headIn, tagged, holdsReader, readerIn, stored};
-ghost use Rattle.fluturenc.specs.Calls.{answerNumber, isNothing, runOf, openCall, feedCall, finishCall, writtenNumber, writtenCount, writtenTo, judgeNumber, judgeNumbered, verdictNumber, judgeCall};
+ghost use Rattle.fluturenc.specs.State.{headLength, stateLength, markNumber, codeOf, markNumbered, profileOf, numberOf, bitOf, headBytes, headIn, tagged, holdsReader, readerIn, stored};
+ghost use Rattle.fluturenc.specs.Calls.{answerNumber, openCall, feedCall, finishCall, writtenNumber, writtenCount, writtenTo, judgeNumber, judgeNumbered, verdictNumber, judgeCall};
 use frame::Borders;
 use frame::Judge;
 use frame::Verdict;
@@ -34,7 +34,6 @@ use line_code::LineKind;
 use mark_answer::Kept;
 use profile::Numbered;
 use profile::Profile;
-use reader::Fed;
 use reader::Head;
 use reader::Reader;
 use stream::Answer;
@@ -70,7 +69,8 @@ pub extern "C" fn fluturenc_open(profile: u8, state: &mut [u8]) -> u8
     0
 }
 
-// Feeds nibbles until one brings an answer or none is left. Refused: 11, 12, in this order, and then by place 10.
+// Feeds nibbles until one brings an answer or none is left. Refused: 11, 12, in this order, and then by place 10. The reader's run is lent
+// the body where it stands in the state, so that no call copies it; a call that takes nothing leaves every byte of the state as it was.
 #[no_mangle]
 pub extern "C" fn fluturenc_feed(
     state: &mut [u8],
@@ -81,18 +81,18 @@ pub extern "C" fn fluturenc_feed(
     ensures { λ r. ⌜ (r ≡ feedCall (now (state .entry)) (now (nibbles .entry)) (now (line .entry)) .answer) × (now (taken .exit) ≡ feedCall (now (state .entry)) (now (nibbles .entry)) (now (line .entry)) .taken) × (now (state .exit) ≡ feedCall (now (state .entry)) (now (nibbles .entry)) (now (line .entry)) .state) × (now (line .exit) ≡ feedCall (now (state .entry)) (now (nibbles .entry)) (now (line .entry)) .line) ⌝ }
 {
     *taken = 0;
-    if holds_reader(state) {
-        let r = reader_in(state);
-        let h = r.head;
-        let p = h.profile;
-        if line.len() < p.body_length() {
-            return refusal::NO_ROOM as u32;
+    if state.len() < STATE {
+        return refusal::BAD_STATE as u32;
+    }
+    if is_tagged(state[0], state[1], state[13]) {
+        let h = head_in(state);
+        let t = h.run(&mut state[HEAD..STATE], nibbles, line);
+        let head = t.head;
+        if 0 < t.taken {
+            store_head(head, state);
         }
-        let f = run(r, nibbles, line);
-        let next = f.reader;
-        store(next, state);
-        *taken = f.taken;
-        let answer = f.answer;
+        *taken = t.taken;
+        let answer = t.answer;
         return answer_number(answer);
     }
     refusal::BAD_STATE as u32
@@ -157,69 +157,6 @@ pub extern "C" fn fluturenc_judge(judge: &mut u32, kind: u8, number: u16) -> u8
         return verdict_number(verdict);
     }
     refusal::BAD_STATE
-}
-
-// Feeding.
-
-// A reader after a run, its answer, and how many nibbles it took.
-struct Ran {
-    reader: Reader,
-    answer: Answer,
-    taken: usize,
-}
-
-// Feeds nibbles one by one until one brings an answer, or is above 15, or none is left.
-fn run(r: Reader, nibbles: &[u8], line: &mut [u8]) -> Ran
-    ensures { λ f. ⌜ (f .reader ≡ runOf r (now (nibbles .entry)) (length (now (line .entry))) .reader) × (f .answer ≡ answerFor (runOf r (now (nibbles .entry)) (length (now (line .entry))) .outcome)) × (f .taken ≡ runOf r (now (nibbles .entry)) (length (now (line .entry))) .taken) × (now (line .exit) ≡ bufferAfter (runOf r (now (nibbles .entry)) (length (now (line .entry))) .outcome) (now (line .entry))) ⌝ }
-{
-    let nothing = Answer::Nothing;
-    let mut f = Fed {
-        reader: r,
-        answer: nothing,
-    };
-    let mut i: usize = 0;
-    while i < nibbles.len() {
-        if 15 < nibbles[i] {
-            let reader = f.reader;
-            let answer = Answer::Refused(refusal::NOT_A_NIBBLE);
-            return Ran {
-                reader,
-                answer,
-                taken: i,
-            };
-        }
-        let before = f.reader;
-        f = before.feed(nibbles[i], line);
-        i += 1;
-        let answer = f.answer;
-        if is_nothing(answer) {
-            continue;
-        }
-        let reader = f.reader;
-        return Ran {
-            reader,
-            answer,
-            taken: i,
-        };
-    }
-    let reader = f.reader;
-    let answer = Answer::Nothing;
-    Ran {
-        reader,
-        answer,
-        taken: i,
-    }
-}
-
-fn is_nothing(answer: Answer) -> bool
-    ensures { λ r. ⌜ r ≡ isNothing answer ⌝ }
-{
-    match answer {
-        Answer::Nothing => true,
-        Answer::Line(_) => false,
-        Answer::Gap(_, _) => false,
-        Answer::Refused(_) => false,
-    }
 }
 
 // An answer as a number.
@@ -339,11 +276,18 @@ fn store(r: Reader, state: &mut [u8])
     requires { ⌜ stateLength ≤ length (now state) ⌝ }
     ensures { λ _. ⌜ now (state .exit) ≡ stored r (now (state .entry)) ⌝ }
 {
-    let h = r.head;
-    let head = head_bytes(h);
+    let head = r.head;
     let body = r.body;
-    copy(state, 0, &head);
+    store_head(head, state);
     copy(state, HEAD, &body);
+}
+
+fn store_head(h: Head, state: &mut [u8])
+    requires { ⌜ headLength ≤ length (now state) ⌝ }
+    ensures { λ _. ⌜ now (state .exit) ≡ headBytes h ++ drop headLength (now (state .entry)) ⌝ }
+{
+    let head = head_bytes(h);
+    copy(state, 0, &head);
 }
 
 fn head_bytes(h: Head) -> [u8; 14]

@@ -10,11 +10,12 @@ use borrow.Author.Tests.{le-leb, lt-leb}
 use lib.Dec.{leb}
 use lib.ListN.{length, take, drop, getD, drop-of-length-le}
 use lib.Seq.{drop-cons}
-use Rattle.refusal.specs.Refusal.{notANibble}
+use Rattle.refusal.specs.Refusal.{notANibble, badState, noRoom}
+use Rattle.profile.specs.Profile.{bodyLength}
 use Rattle.stream.specs.Answers.{Outcome, nothing, line, gap, refused}
 use Rattle.reader.specs.declared.Reader.{Reader}
-use Rattle.reader.specs.Reader.{Took, taking}
-use Rattle.reader.specs.Run.{Ran, ran, isAnswer, stops, stopPlace, takingAll, stopping, upToStop}
+use Rattle.reader.specs.Reader.{Took, passes, taking}
+use Rattle.reader.specs.Run.{Ran, ran, isAnswer, stops, stopPlace, takingAll, stopping, upToStop, runOf}
 
 -- a run of which i nibbles are taken, from there on
 abbrev pub onward : Reader → List ℕ → ℕ → Ran
@@ -73,3 +74,30 @@ module _ (r : Reader) (s : List ℕ) (i : ℕ) where
   pub onward-on : i < length s → getD s i 0 < 16 → isAnswer (taking r (getD s i 0) .outcome) ≡ false
       → onward r (drop i s) i ≡ onward (taking r (getD s i 0) .reader) (drop (i + 1) s) (i + 1)
   onward-on h g f = there h ∙ simp (le-leb (getD s i 0) 15 (omega arith), f)
+
+-- A run that takes nothing leaves the reader as it was.
+
+none-before : (r : Reader) (w : List ℕ) (i : ℕ) → stopping r w i .taken ≡ 0 → (i ≡ 0) × (stopping r w i .reader ≡ r)
+none-before r [] i e = (e, refl)
+none-before r (n ∷ w) i e = go (leb n 15) e
+  where
+    go : (b : Bool) → cond b (ran (taking r n .reader) (taking r n .outcome) (i + 1)) (ran r (refused notANibble) i) .taken ≡ 0
+        → (i ≡ 0) × (cond b (ran (taking r n .reader) (taking r n .outcome) (i + 1)) (ran r (refused notANibble) i) .reader ≡ r)
+    go true e = absurd (omega arith)
+    go false e = (e, refl)
+
+pub none-taken : (r : Reader) (w : List ℕ) (room : ℕ) → runOf r w room .taken ≡ 0 → runOf r w room .reader ≡ r
+unfolding runOf
+none-taken r w room = go (passes (r .head)) (leb (bodyLength (r .head .profile)) room)
+  where
+    up : upToStop r w .taken ≡ 0 → upToStop r w .reader ≡ r
+    up e =
+        let p = stopPlace r w in
+        let k = none-before (takingAll r (take p w)) (drop p w) p e in
+        k .1 ∙ ap (λ j. takingAll r (take j w)) (k .0)
+
+    go : (a b : Bool) → cond a (cond b (upToStop r w) (ran r (refused noRoom) 0)) (ran r (refused badState) 0) .taken ≡ 0
+        → cond a (cond b (upToStop r w) (ran r (refused noRoom) 0)) (ran r (refused badState) 0) .reader ≡ r
+    go true true e = up e
+    go true false e = refl
+    go false b e = refl

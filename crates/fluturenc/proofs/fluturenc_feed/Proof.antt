@@ -1,82 +1,108 @@
-use mathlib.Core.Path.{sym, _∙_}
-use Rattle.fluturenc.specs.CallLaws.{feed-call, feed-short}
+use Rattle.fluturenc.specs.State.{stateLength, holdsReader}
+use mathlib.Core.Path.{sym, ap, _∙_}
+use mathlib.Core.Logic.{⊎-elim}
 use native.Mathlib.Omega.{arith}
+use borrow.Author.Tests.{lt-leb, le-leb}
+use lib.ListN.{length}
 use denote.Ref.{now}
 use Rattle.fluturenc.specs.Calls.{feedCall}
-use Rattle.fluturenc.specs.StateLaws.{holds-length}
+use Rattle.fluturenc.proofs.Telling.{told-answer}
+use Rattle.fluturenc.proofs.Feeding.{lentRun, back-front, feed-lent, left-same, left-stored}
 use borrow.Author.Needs.{needs}
 use Rattle.fluturenc.proofs.fluturenc_feed.Statement.{statement}
 use Rattle.fluturenc.proofs.fluturenc_feed.Tie as tie
 
-holds-reader-requires : tie.Need-holds-reader-requires
-holds-reader-requires c κs = search needs
-
-reader-in-requires : tie.Need-reader-in-requires
-reader-in-requires c κs = holds-length _ (sym (c .before .before .holds-reader .ensures) ∙ c .before .if1 .taken)
-
-body-length-requires : tie.Need-body-length-requires
-body-length-requires c κs = search needs
-
 cast-result : tie.Need-cast-result
 cast-result c = search needs
 
-same-length : tie.Need-same-length
-same-length c = search needs
-
 returns : tie.Need-returns
+unfolding feedCall holdsReader
 returns c =
-    let a = c .before .before .before .before .before .before .before .before .before .before .before .args in
-    let e = feed-short (now (a .state)) (c .before .before .before .reader-in .result) (sym (c .before .before .before .before .before .before .holds-reader .ensures) ∙ c .before .before .before .before .before .if1 .taken) (sym (c .before .before .before .reader-in .ensures)) (now (a .nibbles)) (now (a .line)) (omega (arith, c .before .body-length .ensures)) in
-    (simp e, simp e, simp e, simp e)
+    let short = lt-leb stateLength (length (now (c .before .before .before .before .args .state))) (omega (arith, c .if1 .taken)) in
+    (simp short, simp short, simp short, simp short)
+
+slice-read-is-tagged : tie.Need-slice-read-is-tagged
+slice-read-is-tagged c = search needs
+
+slice-read-is-tagged-2 : tie.Need-slice-read-is-tagged-2
+slice-read-is-tagged-2 c = search needs
+
+slice-read-is-tagged-3 : tie.Need-slice-read-is-tagged-3
+slice-read-is-tagged-3 c = search needs
+
+is-tagged-requires : tie.Need-is-tagged-requires
+is-tagged-requires c κs = search needs
+
+head-in-requires : tie.Need-head-in-requires
+head-in-requires c κs = search needs
+
+sub-run : tie.Need-sub-run
+sub-run c = search needs
+
+part-run-start : tie.Need-part-run-start
+part-run-start c = search needs
+
+part-run-end : tie.Need-part-run-end
+part-run-end c = search needs
 
 run-requires : tie.Need-run-requires
 run-requires c κs = search needs
 
-store-requires : tie.Need-store-requires
-store-requires c κs = holds-length _ (sym (c .before .before .before .before .before .before .before .before .before .before .before .before .holds-reader .ensures) ∙ c .before .before .before .before .before .before .before .before .before .before .before .if1 .taken)
+store-head-requires : tie.Need-store-head-requires
+store-head-requires c κs = back-front (now (c .before .before .before .before .before .before .before .before .before .before .before .before .before .before .before .before .before .before .before .before .before .before .args .state)) (c .before .before .before .before .before .before .before .before .before .before .before .before .before .before .before .before .before .before .if1 .left) (c .before .before .before .before .before .before .before .before .run .last .1 .0)
 
 answer-number-requires : tie.Need-answer-number-requires
 answer-number-requires c κs = search needs
 
+same-length : tie.Need-same-length
+same-length c = ⊎-elim (λ w. ap length (w .5) ∙ w .2 .kept .1 .0 ∙ c .before .before .before .before .before .before .before .state .given .1) (λ w. ap length (w .1) ∙ c .before .before .before .before .before .before .before .state .given .1) (c .before .if3 .came)
+
 same-length-2 : tie.Need-same-length-2
 same-length-2 c = search needs
 
-same-length-3 : tie.Need-same-length-3
-same-length-3 c = search needs
-
 returns-2 : tie.Need-returns-2
 returns-2 c =
-    let a = c .before .before .before .before .before .before .before .before .before .before .before .before .before .before .before .before .before .before .before .before .before .args in
-    let f = c .before .before .before .before .before .before .before .before .run .ensures in
-    let e = feed-call (now (a .state)) (c .before .before .before .before .before .before .before .before .before .before .before .before .before .reader-in .result) (sym (c .before .before .before .before .before .before .before .before .before .before .before .before .before .before .before .before .holds-reader .ensures) ∙ c .before .before .before .before .before .before .before .before .before .before .before .before .before .before .before .if1 .taken) (sym (c .before .before .before .before .before .before .before .before .before .before .before .before .before .reader-in .ensures)) (now (a .nibbles)) (now (a .line)) (omega (arith, c .before .before .before .before .before .before .before .before .before .before .before .body-length .ensures)) in
-    (simp (e, c .answer-number .ensures, f .1), simp (e, f .2), simp (e, c .before .before .before .store .ensures, f .0), simp (e, f .3))
+    let a = c .before .before .before .before .before .before .before .before .before .before .before .before .before .before .before .before .before .before .before .before .before .before .args in
+    let s = now (a .state) in
+    let w = now (a .nibbles) in
+    let line = now (a .line) in
+    let h = c .before .before .before .before .before .before .before .before .before .before .before .head-in .result in
+    let r = c .before .before .before .before .before .before .before .before .run in
+    let room = c .before .before .before .before .before .before .before .before .before .before .before .before .before .before .before .before .before .before .if1 .left in
+    let read = c .before .before .before .before .before .before .before .before .before .before .before .head-in .ensures in
+    let e = feed-lent s room w line h read (sym (c .before .before .before .before .before .before .before .before .before .before .before .before .before .before .is-tagged .ensures) ∙ c .before .before .before .before .before .before .before .before .before .before .before .before .before .if2 .taken) in
+    let told = told-answer (h .profile) (r .result .answer) (r .last .1 .1 .1 .0) (lentRun h s w line .outcome) (r .ensures .2) in
+    let left = ⊎-elim (λ b. b .5 ∙ b .2 .ensures ∙ left-stored s room w line h read (r .result .taken) (r .last .1 .0) (r .ensures .1) (r .ensures .3) (omega (arith, b .0 .taken)) (r .result .head) (r .ensures .0)) (λ b. b .1 ∙ left-same s room w line h read (r .result .taken) (r .last .1 .0) (r .ensures .1) (r .ensures .3) (omega (arith, b .0 .left))) (c .before .if3 .came) in
+    (simp (e, c .answer-number .ensures, told), simp (e, r .ensures .1), simp e left, simp (e, r .ensures .4))
 
 cast-result-2 : tie.Need-cast-result-2
 cast-result-2 c = search needs
 
-same-length-4 : tie.Need-same-length-4
-same-length-4 c = search needs
-
 returns-3 : tie.Need-returns-3
-unfolding feedCall
-returns-3 c = (simp (← c .before .holds-reader .ensures, c .if1 .left), simp (← c .before .holds-reader .ensures, c .if1 .left), simp (← c .before .holds-reader .ensures, c .if1 .left), simp (← c .before .holds-reader .ensures, c .if1 .left))
+unfolding feedCall holdsReader
+returns-3 c =
+    let long = le-leb stateLength (length (now (c .before .before .before .before .before .before .before .before .before .args .state))) (omega (arith, c .before .before .before .before .before .if1 .left)) in
+    (simp (long, ← c .before .is-tagged .ensures, c .if2 .left), simp (long, ← c .before .is-tagged .ensures, c .if2 .left), simp (long, ← c .before .is-tagged .ensures, c .if2 .left), simp (long, ← c .before .is-tagged .ensures, c .if2 .left))
 
 pub fluturenc-feed-spec : {M : Type 1} → statement M
 fluturenc-feed-spec =
     tie.close
     (tie.spec
-    holds-reader-requires
-    reader-in-requires
-    body-length-requires
     cast-result
-    same-length
     returns
+    slice-read-is-tagged
+    slice-read-is-tagged-2
+    slice-read-is-tagged-3
+    is-tagged-requires
+    head-in-requires
+    sub-run
+    part-run-start
+    part-run-end
     run-requires
-    store-requires
+    store-head-requires
     answer-number-requires
+    same-length
     same-length-2
-    same-length-3
     returns-2
     cast-result-2
-    same-length-4
     returns-3)

@@ -1,3 +1,7 @@
+use native.Mathlib.Omega.{arith}
+use lib.ListN.{length}
+use denote.Ref.{now}
+use Rattle.fluturenc.specs.State.{stateLength}
 use borrow.Author.Tests.{lt-leb, le-leb}
 use Rattle.fluturenc.specs.Calls.{openCall}
 use borrow.Author.Needs.{needs}
@@ -19,7 +23,9 @@ returns c = (simp (← c .before .before .numbered .ensures, c .enum-told .given
 
 returns-2 : tie.Need-returns-2
 unfolding openCall
-returns-2 c = (simp (← c .before .before .before .before .numbered .ensures, c .before .before .p .given .1, lt-leb _ _ (c .if1 .taken)), simp (← c .before .before .before .before .numbered .ensures, c .before .before .p .given .1, lt-leb _ _ (c .if1 .taken)))
+returns-2 c =
+    let short = lt-leb stateLength (length (now (c .before .before .before .before .before .before .args .state))) (omega (arith, c .if1 .taken)) in
+    (simp (← c .before .before .before .before .numbered .ensures, c .before .before .p .given .1, short), simp (← c .before .before .before .before .numbered .ensures, c .before .before .p .given .1, short))
 
 fresh-requires : tie.Need-fresh-requires
 fresh-requires c κs = search needs
@@ -32,7 +38,9 @@ same-length c = search needs
 
 returns-3 : tie.Need-returns-3
 unfolding openCall
-returns-3 c = (simp (← c .before .before .before .before .before .before .before .before .before .numbered .ensures, c .before .before .before .before .before .before .before .p .given .1, le-leb _ _ (c .before .before .before .before .before .if1 .left)), simp (← c .before .before .before .before .before .before .before .before .before .numbered .ensures, c .before .before .before .before .before .before .before .p .given .1, le-leb _ _ (c .before .before .before .before .before .if1 .left), c .before .before .store .ensures, c .before .before .before .before .fresh .ensures))
+returns-3 c =
+    let long = le-leb stateLength (length (now (c .before .before .before .before .before .before .before .before .before .before .before .args .state))) (omega (arith, c .before .before .before .before .before .if1 .left)) in
+    (simp (← c .before .before .before .before .before .before .before .before .before .numbered .ensures, c .before .before .before .before .before .before .before .p .given .1, long), simp (← c .before .before .before .before .before .before .before .before .before .numbered .ensures, c .before .before .before .before .before .before .before .p .given .1, long, c .before .before .store .ensures, c .before .before .before .before .fresh .ensures))
 
 pub fluturenc-open-spec : {M : Type 1} → statement M
 fluturenc-open-spec =

@@ -23,7 +23,7 @@ returns c =
     let a = c .before .before .before .before .before .before .before .before .before .args in
     let e = c .before .before .before .before .before .write .ensures in
     let t = told-written (writeOf (a .profile) (a .kind) (a .number) (now (a .body)) (a .first) (a .second) (a .nulls) (length (now (a .nibbles)))) (c .before .before .before .before .before .write .result) _ (c .before .w .given .1) (e .2) in
-    (t .0, t .1, e .1)
+    (simp (← t .0), simp (← t .1), e .1)
 
 same-length-2 : tie.Need-same-length-2
 same-length-2 c = search needs
@@ -33,7 +33,7 @@ returns-2 c =
     let a = c .before .before .before .before .before .before .before .before .before .args in
     let e = c .before .before .before .before .before .write .ensures in
     let t = told-not-written (writeOf (a .profile) (a .kind) (a .number) (now (a .body)) (a .first) (a .second) (a .nulls) (length (now (a .nibbles)))) (c .before .before .before .before .before .write .result) _ (c .before .w2 .given .1) (e .2) in
-    (t .0, t .1, e .1)
+    (simp (← t .0), simp (← t .1), e .1)
 
 pub fluturenc-write-spec : {M : Type 1} → statement M
 fluturenc-write-spec =

@@ -1,12 +1,15 @@
+use native.Mathlib.Omega.{arith}
+use lib.ListN.{length}
+use denote.Ref.{now}
 use borrow.Author.Tests.{lt-leb, le-leb}
-use Rattle.fluturenc.specs.State.{holdsReader}
+use Rattle.fluturenc.specs.State.{stateLength, holdsReader}
 use borrow.Author.Needs.{needs}
 use Rattle.fluturenc.proofs.holds_reader.Statement.{statement}
 use Rattle.fluturenc.proofs.holds_reader.Tie as tie
 
 returns : tie.Need-returns
 unfolding holdsReader
-returns c = simp (lt-leb _ _ (c .if1 .taken))
+returns c = simp (lt-leb stateLength (length (now (c .before .before .args .state))) (omega (arith, c .if1 .taken)))
 
 shared-slice-read-is-tagged : tie.Need-shared-slice-read-is-tagged
 shared-slice-read-is-tagged c = search needs
@@ -28,11 +31,11 @@ passes-requires c κs = search needs
 
 returns-2 : tie.Need-returns-2
 unfolding holdsReader
-returns-2 c = simp (le-leb _ _ (c .before .before .before .before .before .before .before .if1 .left), ← c .before .before .before .is-tagged .ensures, c .before .before .if2 .taken, c .passes .ensures, c .before .head-in .ensures)
+returns-2 c = simp (le-leb stateLength (length (now (c .before .before .before .before .before .before .before .before .before .args .state))) (omega (arith, c .before .before .before .before .before .before .before .if1 .left)), ← c .before .before .before .is-tagged .ensures, c .before .before .if2 .taken, c .passes .ensures, c .before .head-in .ensures)
 
 returns-3 : tie.Need-returns-3
 unfolding holdsReader
-returns-3 c = simp (le-leb _ _ (c .before .before .before .before .before .if1 .left), ← c .before .is-tagged .ensures, c .if2 .left)
+returns-3 c = simp (le-leb stateLength (length (now (c .before .before .before .before .before .before .before .args .state))) (omega (arith, c .before .before .before .before .before .if1 .left)), ← c .before .is-tagged .ensures, c .if2 .left)
 
 pub holds-reader-spec : {M : Type 1} → statement M
 holds-reader-spec =

@@ -1,0 +1,31 @@
+use mathlib.Core.Path.{sym, ap, _∙_}
+use mathlib.Core.List.{List, _++_}
+use Prim.Native.Nat.{ℕ}
+use lib.ListN.{drop}
+use denote.Ref.{now}
+use Rattle.fluturenc.specs.State.{headLength}
+use Rattle.fluturenc.proofs.Pasting.{head-pasted}
+use borrow.Author.Needs.{needs}
+use Rattle.fluturenc.proofs.store_head.Statement.{statement}
+use Rattle.fluturenc.proofs.store_head.Tie as tie
+
+head-bytes-requires : tie.Need-head-bytes-requires
+head-bytes-requires c κs = search needs
+
+slice-aggregate-copy : tie.Need-slice-aggregate-copy
+slice-aggregate-copy c = search needs
+
+copy-requires : tie.Need-copy-requires
+copy-requires c κs = search needs
+
+same-length : tie.Need-same-length
+same-length c = search needs
+
+returns : tie.Need-returns
+returns c =
+    let s = now (c .before .before .before .before .before .before .before .args .state) in
+    c .before .before .copy .ensures ∙ head-pasted s (c .before .before .before .before .before .head-bytes .result) (sym (slice-aggregate-copy (c .before .before .before))) ∙ ap (λ (l : List ℕ). l ++ drop headLength s) (c .before .before .before .before .before .head-bytes .ensures)
+
+pub store-head-spec : {M : Type 1} → statement M
+store-head-spec =
+    tie.close (tie.spec head-bytes-requires slice-aggregate-copy copy-requires same-length returns)
