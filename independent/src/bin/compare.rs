@@ -75,8 +75,8 @@ impl Pair {
         let theirs_said = self.plain.run(nibbles, &mut theirs);
         same("feeding", context, &ours_said, &theirs_said);
         same("the line buffer", context, ours, theirs);
-        if ours_said.0 == Some(Answer::Refused(12)) {
-            same("the state after 12", context, &self.proved, &before);
+        if taken == 0 {
+            same("the state after a call that took nothing", context, &self.proved, &before);
         }
         self.check_beyond();
         count.nibbles += taken;
@@ -238,8 +238,11 @@ fn compare_refused_states(random: &mut Random, count: &mut Count) {
         }
         let before = state.clone();
         let mut line = [0x44; LONGEST];
+        let (empty, none) = proved::feed(&mut state, &[], &mut line);
+        same("what no nibbles leave", &before, (&state, none, line), (&before, 0, [0x44; LONGEST]));
         let nibbles = streams::noise(random, 400);
         let (answer, taken) = proved::feed(&mut state, &nibbles, &mut line);
+        same("11 for no nibbles", &before, empty == 11, answer == 11);
         if answer == 11 {
             same("what 11 leaves", &before, (&state, taken, line), (&before, 0, [0x44; LONGEST]));
             same("finish after 11", &before, proved::finish(&mut state), 11);
@@ -247,7 +250,7 @@ fn compare_refused_states(random: &mut Random, count: &mut Count) {
         } else {
             same("11 from a state that a call left", &before, proved::finish(&mut state) == 11, false);
         }
-        count.answers += 2;
+        count.answers += 3;
     }
 }
 

@@ -1,0 +1,47 @@
+/* Lists the marks of a profile 0 capture, the bytes of an 8-wire bus on standard input: a row for each answer, with the mark's number, and
+ * a line's kind and number, or GAP, or REFUSED and the number why. Built and run by independent/run. */
+#include "fluturenc.h"
+
+#include <stdio.h>
+#include <stdlib.h>
+
+static void show(unsigned long mark, uint32_t answer)
+{
+    static const char *const kinds[] = {"", "BL", "BK", "VL", "SOF", "EOF"};
+
+    if (fluturenc_is_line(answer))
+        printf("%lu %s %u\n", mark, kinds[fluturenc_line_kind(answer)], (unsigned)fluturenc_line_number(answer));
+    else if (fluturenc_is_gap(answer))
+        printf("%lu GAP\n", mark);
+    else
+        printf("%lu REFUSED %u\n", mark, (unsigned)answer);
+}
+
+int main(void)
+{
+    uint8_t bytes[4096], nibbles[2 * sizeof bytes], line[FLUTURENC_VV5404_BODY];
+    size_t length = fluturenc_state_length(), got, at, taken;
+    uint8_t *state = malloc(length);
+    unsigned long marks = 0;
+    uint32_t answer;
+
+    if (state == NULL || fluturenc_open(FLUTURENC_VV5404, state, length) != 0)
+        return EXIT_FAILURE;
+    while ((got = fread(bytes, 1, sizeof bytes, stdin)) > 0) {
+        for (at = 0; at < got; at++) {
+            nibbles[2 * at] = bytes[at] >> 4;
+            nibbles[2 * at + 1] = bytes[at] & 15;
+        }
+        /* Nibbles, a state that open filled and room for a body: no call is refused, so each takes one nibble at least. */
+        for (at = 0; at < 2 * got; at += taken) {
+            answer = fluturenc_feed(state, length, nibbles + at, 2 * got - at, line, sizeof line, &taken);
+            if (answer != 0)
+                show(++marks, answer);
+        }
+    }
+    answer = fluturenc_finish(state, length);
+    if (answer != 0)
+        show(++marks, answer);
+    free(state);
+    return EXIT_SUCCESS;
+}

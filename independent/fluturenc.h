@@ -1,0 +1,103 @@
+/* Fluturenc for C: reads, writes and judges the digital video bus of VV5404 sensors (profile 0) and of VV5300 sensors in 8-bit conversion
+ * (profile 1). The functions are proved in Rattle; crates/fluturenc/src/lib.rt has their contracts, and `rt staticlib fluturenc` writes
+ * target/staticlib/libfluturenc.a to link, for x86-64. Nothing checks these declarations against that source.
+ *
+ * Buffers are lent: no call keeps a pointer or allocates. No pointer may be null, and no two buffers of a call may overlap. Nothing is
+ * asked of what they hold: every call is answered, and room beyond what it writes stays as it was. A call that is refused changes nothing,
+ * but that feeding takes what stands before an input above 15. */
+#ifndef FLUTURENC_H
+#define FLUTURENC_H
+
+#include <stddef.h>
+#include <stdint.h>
+
+#ifdef __cplusplus
+extern "C" {
+#endif
+
+/* The profiles' numbers. */
+#define FLUTURENC_VV5404 0
+#define FLUTURENC_VV5300 1
+
+/* The numbers of the line kinds: blank, black, visible, start of frame, end of frame. */
+#define FLUTURENC_BL 1
+#define FLUTURENC_BK 2
+#define FLUTURENC_VL 3
+#define FLUTURENC_SOF 4
+#define FLUTURENC_EOF 5
+
+/* The bytes of a body of each profile. A line buffer for the longer will do for both. */
+#define FLUTURENC_VV5404_BODY 356
+#define FLUTURENC_VV5300_BODY 168
+
+/* The reader. Its state is bytes, which may be moved and copied: a copy is a reader of its own. */
+
+/* The bytes of a reader's state. */
+size_t fluturenc_state_length(void);
+
+/* Puts a fresh reader into the state: 0; or the refusal: 11 no such profile, 12 a state shorter than fluturenc_state_length(). */
+uint8_t fluturenc_open(uint8_t profile, uint8_t *state, size_t state_length);
+
+/* Feeds nibbles, a byte each, up to the first answer or the end, and tells how many it took: the next call goes on from there. An answer
+ * tells of the mark before; 0 where there is none yet. Where it is a line, the line buffer begins with the body; else that is as it was.
+ * Refused, with nothing taken, also for no nibbles: 11 the state holds no reader that passes its own test, 12 the line buffer is shorter
+ * than the profile's body. Stopped before an input above 15: 10. A call that takes nothing leaves the state as it was. */
+uint32_t fluturenc_feed(uint8_t *state, size_t state_length, const uint8_t *nibbles, size_t nibbles_length, uint8_t *line,
+                        size_t line_length, size_t *taken);
+
+/* The last mark's answer, 0 where there was no mark; the reader is fresh again. Refused: 11. */
+uint32_t fluturenc_finish(uint8_t *state, size_t state_length);
+
+/* An answer of feed and finish is one number:
+ *   0                                              nothing
+ *   1 to 9                                         the mark is refused: 1 its code is damaged, 2 its code is reserved, 3 a line that the
+ *                                                  end cut off, 4 a text of the wrong length, 5 a bad number byte, 6 a body byte that is
+ *                                                  not allowed, 7 the next mark is no end of line, 8 an end of line with no line before,
+ *                                                  9 a gap not as laid out
+ *   10 to 12                                       the call is refused, as said above
+ *   2^24 + 2^19 (repaired) + 2^16 * kind + number  a line
+ *   2^25 + 2^8 * first + second                    a good gap, with its two bytes */
+
+static inline int fluturenc_is_refusal(uint32_t answer) { return 1 <= answer && answer <= 12; }
+
+static inline int fluturenc_is_line(uint32_t answer) { return answer >> 24 == 1; }
+
+static inline int fluturenc_is_gap(uint32_t answer) { return answer >> 24 == 2; }
+
+/* Of a line: its kind, its number, and whether its own code or that of its end was repaired. */
+
+static inline uint8_t fluturenc_line_kind(uint32_t answer) { return (uint8_t)(answer >> 16 & 7); }
+
+static inline uint16_t fluturenc_line_number(uint32_t answer) { return (uint16_t)(answer & 0xFFFF); }
+
+static inline int fluturenc_line_repaired(uint32_t answer) { return (int)(answer >> 19 & 1); }
+
+/* Of a gap. */
+
+static inline uint8_t fluturenc_gap_first(uint32_t answer) { return (uint8_t)(answer >> 8 & 0xFF); }
+
+static inline uint8_t fluturenc_gap_second(uint32_t answer) { return (uint8_t)(answer & 0xFF); }
+
+/* The writer: one line's nibbles, its end, its two gap bytes and so many null bytes, and how many nibbles that is: 0; or the refusal, in
+ * this order, and then none is written: 11 no such profile, 13 no such kind, 14 a number above 4095, 15 a body of the wrong length, 16 a
+ * byte of body or gap that is not allowed, 17 more than 255 nulls, 12 too little room. */
+uint8_t fluturenc_write(uint8_t profile, uint8_t kind, uint16_t number, const uint8_t *body, size_t body_length, uint8_t first,
+                        uint8_t second, uint32_t nulls, uint8_t *nibbles, size_t nibbles_length, size_t *written);
+
+/* The judge of profile 0 frames is a number, 0 when fresh. It is handed each line by kind and number, and FLUTURENC_BROKEN for each answer
+ * 1 to 7: FLUTURENC_WAITING for a frame, FLUTURENC_GOING within one, FLUTURENC_COMPLETE with the last line of one; 18 the line is not the
+ * one due, 19 a broken line, and the frame is given up; or the refusal, in this order, and the judge stays as it was: 11 a number that no
+ * calls leave, 13 a kind above 5, 14 a number above 4095. */
+uint8_t fluturenc_judge(uint32_t *judge, uint8_t kind, uint16_t number);
+
+#define FLUTURENC_BROKEN 0
+
+#define FLUTURENC_WAITING 0
+#define FLUTURENC_GOING 1
+#define FLUTURENC_COMPLETE 2
+
+#ifdef __cplusplus
+}
+#endif
+
+#endif
