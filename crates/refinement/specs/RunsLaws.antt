@@ -7,7 +7,7 @@ use Prim.Native.Nat.{ℕ, suc, _+_, _≤_, _<_}
 use native.Mathlib.Nat.{add-zero, zero-add}
 use native.Mathlib.Omega.{arith}
 use lib.Dec.{eqb, leb}
-use lib.ListN.{length, take}
+use lib.ListN.{length, take, replicate}
 use borrow.Author.Tests.{le-leb, leb-true, leb-false, ne-eqb}
 use Rattle.refusal.specs.Refusal.{notANibble, badState, noRoom}
 use Rattle.profile.specs.declared.Profile.{Profile}
@@ -25,17 +25,18 @@ use Rattle.recovery.specs.Calls as calls
 use Rattle.recovery.specs.Damage.{line-in-append}
 use Rattle.refinement.specs.Sound.{take-sound, refusalOf, at-most-nine}
 use Rattle.refinement.specs.Passes.{passes-test, Ok, fresh-ok, take-ok}
+use Rattle.refinement.specs.Refine.{fedOutcomes}
 use Rattle.refinement.specs.ReaderCalls.{readerCall, calls-ok, reader-demand-three}
 use Rattle.refinement.specs.Runs.{RunCall, run, one, runGives, runTakes, onRuns, runsTaken, runsLines, feeds, starts, oneByOne, allOneByOne, FinishLastRun, no-call, done-last, feed-first, run-first, SameAsFeeds, RunsMeetDemandThree}
 
 -- One nibble of a run, as a feeding call.
 
-module _ (r : Reader) (n : ℕ) (buffer : List ℕ) (ok : Ok (r .head)) (room : leb (bodyLength (r .head .profile)) (length buffer) ≡ true) where
-  fed-taken : leb n 15 ≡ true → feedOf r n (length buffer) ≡ taking r n
+module _ (r : Reader) (n room : ℕ) (ok : Ok (r .head)) (enough : leb (bodyLength (r .head .profile)) room ≡ true) where
+  fed-taken : leb n 15 ≡ true → feedOf r n room ≡ taking r n
   unfolding feedOf
-  fed-taken e = simp (passes-test (r .head) (ok .test), e, room)
+  fed-taken e = simp (passes-test (r .head) (ok .test), e, enough)
 
-  fed-above : leb n 15 ≡ false → feedOf r n (length buffer) ≡ refusing r notANibble
+  fed-above : leb n 15 ≡ false → feedOf r n room ≡ refusing r notANibble
   unfolding feedOf
   fed-above e = simp (passes-test (r .head) (ok .test), e)
 
@@ -105,7 +106,7 @@ module _ (p : Profile) (buffer : List ℕ) where
           → Counts p r (n ∷ w) buffer i (feeds buffer (n ∷ cond (not a || b) [] (upTo (t .reader) w)))
           (cond a (cond b (ran (t .reader) (t .outcome) (i + 1)) (onward (t .reader) w (i + 1))) (ran r (refused notANibble) i))
       go false b e f h =
-          let q = fed-above r n buffer ok room e in
+          let q = fed-above r n (length buffer) ok room e in
           record {
             same-reader = ap (λ (x : Took). x .reader) q;
             same-lines = ap (λ (x : Took). lineOf x []) q;
@@ -114,7 +115,7 @@ module _ (p : Profile) (buffer : List ℕ) where
             same-taken = ap (λ (x : Took). takes (answerFor (x .outcome)) n []) q;
           }
       go true true e f h =
-          let q = fed-taken r n buffer ok room e in
+          let q = fed-taken r n (length buffer) ok room e in
           record {
             same-reader = ap (λ (x : Took). x .reader) q;
             same-lines = ap (λ (x : Took). lineOf x []) q;
@@ -123,7 +124,7 @@ module _ (p : Profile) (buffer : List ℕ) where
             same-taken = ap (λ (x : Took). takes (answerFor (x .outcome)) n []) q ∙ taken [];
           }
       go true false e f h =
-          let q = fed-taken r n buffer ok room e in
+          let q = fed-taken r n (length buffer) ok room e in
           let k = h e in
           record {
             same-reader = ap (λ (x : Took). onRun readerCall (x .reader) rest) q ∙ k .same-reader;
@@ -138,6 +139,41 @@ module _ (p : Profile) (buffer : List ℕ) where
                 ∙ taken (onTaken readerCall (t .reader) rest)
                 ∙ ap (λ (l : List ℕ). n ∷ l) (k .same-taken);
           }
+
+-- No nibble before the stop gives an answer.
+
+quietly : (w : List ℕ) (r : Reader) (room : ℕ) → Ok (r .head) → leb (bodyLength (r .head .profile)) room ≡ true
+    → fedOutcomes (λ k. room) r (take (stopPlace r w) w) ≡ replicate (stopPlace r w) nothing
+unfolding stops
+quietly [] r room ok enough = refl
+quietly (n ∷ w) r room ok enough =
+    go (leb n 15) (isAnswer (taking r n .outcome)) refl refl λ e.
+    let l = leb-true n 15 e in
+    quietly w (taking r n .reader) room (take-ok (r .head) n (omega arith) ok)
+    (ap (λ (q : Profile). leb (bodyLength q) room) (take-profile (r .head) n) ∙ enough)
+  where
+    t : Took
+    t = taking r n
+
+    p : ℕ
+    p = stopPlace (t .reader) w
+
+    fed : leb n 15 ≡ true → feedOf r n room ≡ t
+    fed e = fed-taken r n room ok enough e
+
+    go : (a b : Bool) → leb n 15 ≡ a → isAnswer (t .outcome) ≡ b
+        → (leb n 15 ≡ true → fedOutcomes (λ k. room) (t .reader) (take p w) ≡ replicate p nothing)
+        → fedOutcomes (λ k. room) r (take (cond (not a || b) 0 (suc p)) (n ∷ w)) ≡ replicate (cond (not a || b) 0 (suc p)) nothing
+    go false b e f h = refl
+    go true true e f h = refl
+    go true false e f h =
+        ap (λ (x : Took). x .outcome ∷ fedOutcomes (λ k. room) (x .reader) (take p w)) (fed e)
+        ∙ ap₂ {C = List Outcome} (λ o os. o ∷ os) (no-answer (t .outcome) f) (h e)
+
+-- fed one by one, each nibble before a run's stop brings nothing
+pub quiet-before : (r : Reader) (w buffer : List ℕ) → Ok (r .head) → leb (bodyLength (r .head .profile)) (length buffer) ≡ true
+    → fedOutcomes (λ k. length buffer) r (take (stopPlace r w) w) ≡ replicate (stopPlace r w) nothing
+quiet-before r w buffer ok enough = quietly w r (length buffer) ok enough
 
 -- The whole list.
 
