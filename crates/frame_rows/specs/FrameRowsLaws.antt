@@ -26,7 +26,7 @@ use Rattle.frame.specs.declared.Judged.{Judged}
 use Rattle.frame.specs.declared.Verdict.the-variants as verdict
 use Rattle.frame.specs.Frame.{layout, lastPlace, kindAt, standsAt, kindDue, opens, begun, brokenKind, passes, gives}
 use Rattle.frame.specs.Calls.{Line, line, called, after, accepts, accepted, fits, laidFrom, IsFrame}
-use Rattle.frame.specs.Agree.{agree}
+use Rattle.bits.specs.Agree.{agree}
 use Rattle.frame.specs.FrameLaws.{frame-length, passes-high, after-snoc, accepted-snoc, opens-is, first-is, sof-within, IsDue, Effect, wrongKind, wrongNumber, waits, breaks, strays, starts, restarts, goes, ends, effect, reached-passes, complete-frame}
 use Rattle.tally.specs.Tally.{isBrokenLine}
 use Rattle.tally.specs.Answered.{handedOver, isBreak}
