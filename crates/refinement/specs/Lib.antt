@@ -6,6 +6,7 @@ pub mod Refine
 pub mod ReaderCalls
 pub mod Runs
 pub mod RunsLaws
+pub mod ByRuns
 pub mod Agree
 pub mod Equivalent
 pub mod Reachable

@@ -48,7 +48,7 @@ takes-it (gap a b) l n w = refl
 takes-it (refused k) l n w =
     ap₂ (λ (x y : Bool). cond (x || y) w (n ∷ w)) (ne-eqb k notANibble (λ q. omega arith)) (ne-eqb k noRoom (λ q. omega arith))
 
-no-answer : (o : Outcome) → isAnswer o ≡ false → o ≡ nothing
+pub no-answer : (o : Outcome) → isAnswer o ≡ false → o ≡ nothing
 no-answer nothing e = refl
 no-answer (line k n r body) e = absurd (true≢false e)
 no-answer (gap a b) e = absurd (true≢false e)

@@ -1,5 +1,5 @@
--- What an answer of a mark can be: a refusal 1 to 9, nothing, a gap, or a line whose body is as long as the profile's. So the answer and the
--- lent buffer say all of it.
+-- What an answer of a mark can be: a refusal 1 to 9, nothing, a gap, or a line whose body fits its kind's layout, and so is as long as the
+-- profile's. So the answer and the lent buffer say all of it.
 use mathlib.Core.Path.{_≡_, refl, _∙_, ap}
 use mathlib.Core.Bool.{Bool, true, false, cond}
 use mathlib.Core.List.{List}
@@ -32,7 +32,7 @@ use Rattle.profile.specs.LayoutLaws.{rules-length, fits-length}
 
 pub data Sound (p : Profile) : Outcome → Type 0 where
   sound-nothing : Sound p nothing
-  sound-line : {k : Kind} {n : ℕ} {r : Bool} {body : List ℕ} → length body ≡ bodyLength p → Sound p (line k n r body)
+  sound-line : {k : Kind} {n : ℕ} {r : Bool} {body : List ℕ} → fits (rules p k) body ≡ true → Sound p (line k n r body)
   sound-gap : {a b : ℕ} → Sound p (gap a b)
   sound-refused : (n : ℕ) → 1 ≤ n → n ≤ 9 → Sound p (refused n)
 
@@ -47,7 +47,7 @@ line-sound p k r len t body next =
     require-sound _ badNumber _ (omega arith) (omega arith) λ _.
     require-sound (fits (rules p k) (take (bodyLength p) body)) badBody _ (omega arith) (omega arith) λ h.
     require-sound _ noEndOfLine _ (omega arith) (omega arith) λ _.
-    sound-line (fits-length (rules p k) (take (bodyLength p) body) h ∙ rules-length p k)
+    sound-line h
 
 gap-sound : (p q : Profile) (k : Kind) (len : ℕ) (t : Kept) → Sound p (judgeGap q k len t)
 gap-sound p VV5404 k len t = require-sound _ badGap _ (omega arith) (omega arith) (λ _. sound-gap)
@@ -106,6 +106,6 @@ at-most-nine (sound-refused n g h) = h
 pub told : {p : Profile} {o : Outcome} → Sound p o → (buffer : List ℕ) → outcomeOf p (answerFor o) (bufferAfter o buffer) ≡ o
 told sound-nothing buffer = refl
 told {p} (sound-line {k} {n} {r} {body} h) buffer =
-    ap {B = Outcome} (λ (w : List ℕ). line k n r w) (take-at body (drop (length body) buffer) (bodyLength p) h)
+    ap {B = Outcome} (λ (w : List ℕ). line k n r w) (take-at body (drop (length body) buffer) (bodyLength p) (fits-length (rules p k) body h ∙ rules-length p k))
 told sound-gap buffer = refl
 told (sound-refused n g h) buffer = refl

@@ -1,0 +1,111 @@
+use mathlib.Core.Path.{_≡_, refl, sym, _∙_}
+use Prim.Native.Nat.{_-_}
+use native.Mathlib.Omega.{arith}
+use lib.ListN.{length}
+use borrow.Author.Needs.{needs}
+use Rattle.profile.specs.Profile.{longest}
+use Rattle.refinement.specs.Passes.{passed}
+use Rattle.frame_grabber.specs.Parts.{reader}
+use Rattle.frame_grabber.proofs.Steps.{Upto, upto-start, upto-next, upto-stop, upto-end, goes-some, taken-within, refused-state}
+use Rattle.frame_grabber.proofs.Grabber.grab.Statement.{statement}
+use Rattle.frame_grabber.proofs.Grabber.grab.Tie as tie
+
+abbrev Inv-loop : tie.InvT-loop
+Inv-loop input rows₀ head₀ body₀ gatherer₀ i₀ rows head body gatherer i = Upto (reader head₀ body₀) gatherer₀ input rows₀ i head body gatherer rows × (length body ≡ longest) × (length rows ≡ length rows₀)
+
+abbrev μ-loop : tie.MeasureT-loop
+μ-loop input rows₀ head₀ body₀ gatherer₀ i₀ rows head body gatherer i = length input - i
+
+is-sound-requires : tie.Need-is-sound-requires Inv-loop μ-loop
+is-sound-requires c κs = search needs
+
+loop-holds : tie.Need-loop-holds Inv-loop μ-loop
+loop-holds c =
+    let e = c .before .before .before .is-sound .ensures in
+    (upto-start _ _ _ _ _ (record { byte = e .1; test = passed _ (sym (e .0) ∙ c .before .before .if1 .taken) }), search needs, refl)
+
+slice-aggregate-grab-part : tie.Need-slice-aggregate-grab-part Inv-loop μ-loop
+slice-aggregate-grab-part c = search needs
+
+sub-grab-part : tie.Need-sub-grab-part Inv-loop μ-loop
+sub-grab-part c = search needs
+
+part-grab-part-start : tie.Need-part-grab-part-start Inv-loop μ-loop
+part-grab-part-start c = search needs
+
+part-grab-part-end : tie.Need-part-grab-part-end Inv-loop μ-loop
+part-grab-part-end c = search needs
+
+grab-part-requires : tie.Need-grab-part-requires Inv-loop μ-loop
+grab-part-requires c κs = (c .before .before .before .before .loop .inv .0 .sound, c .before .before .before .before .loop .inv .1)
+
+add-i : tie.Need-add-i Inv-loop μ-loop
+add-i c =
+    let l = c .before .before .before .before .before .before .before .before .before .before .before .loop in
+    omega (arith, taken-within (l .inv .0) (c .before .before .before .before .before .before .grab-part .ensures), c .before .before .before .before .before .before .before .before .before .before .before .before .before .before .before .before .before .before .before .before .good .1 .0 .0)
+
+tells-requires : tie.Need-tells-requires Inv-loop μ-loop
+tells-requires c κs = search needs
+
+hand-back-requires : tie.Need-hand-back-requires Inv-loop μ-loop
+hand-back-requires c κs = search needs
+
+same-length : tie.Need-same-length Inv-loop μ-loop
+same-length c = c .before .before .before .before .before .before .before .before .before .grab-part .kept .1 .1 .1 .1 .0 ∙ c .before .before .before .before .before .before .before .before .before .before .before .before .before .before .loop .inv .2
+
+returns : tie.Need-returns Inv-loop μ-loop
+returns c =
+    let l = c .before .before .before .before .before .before .before .before .before .before .before .before .before .before .loop in
+    let e = c .before .before .before .before .before .before .before .before .before .before .before .before .before .before .before .before .before .before .is-sound .ensures in
+    upto-stop (l .inv .0) (c .before .before .before .before .before .before .before .before .before .grab-part .ensures) (sym (e .0) ∙ c .before .before .before .before .before .before .before .before .before .before .before .before .before .before .before .before .before .if1 .taken) (sym (c .before .before .tells .ensures) ∙ c .before .if2 .taken) (c .hand-back .ensures)
+
+loop-less : tie.Need-loop-less Inv-loop μ-loop
+loop-less c =
+    let l = c .before .before .before .before .before .before .before .before .before .before .before .before .before .loop in
+    let t = goes-some (l .inv .0) (c .before .before .before .before .before .before .before .before .grab-part .ensures) (c .before .before .before .before .before .before .before .before .before .before .before .before .loop-test .taken) (sym (c .before .tells .ensures) ∙ c .if2 .left) in
+    omega (arith, t, c .before .before .before .before .before .before .before .before .before .before .before .before .loop-test .taken)
+
+loop-again : tie.Need-loop-again Inv-loop μ-loop
+loop-again c =
+    let l = c .before .before .before .before .before .before .before .before .before .before .before .before .before .loop in
+    (upto-next (l .inv .0) (c .before .before .before .before .before .before .before .before .grab-part .ensures) (sym (c .before .tells .ensures) ∙ c .if2 .left), search needs, search needs)
+
+hand-back-requires-2 : tie.Need-hand-back-requires-2 Inv-loop μ-loop
+hand-back-requires-2 c κs = search needs
+
+same-length-2 : tie.Need-same-length-2 Inv-loop μ-loop
+same-length-2 c = search needs
+
+returns-2 : tie.Need-returns-2 Inv-loop μ-loop
+returns-2 c =
+    let l = c .before .before .loop in
+    let e = c .before .before .before .before .before .before .is-sound .ensures in
+    upto-end (l .inv .0) (sym (e .0) ∙ c .before .before .before .before .before .if1 .taken) (c .before .loop-test .left) (c .hand-back2 .ensures)
+
+returns-3 : tie.Need-returns-3 Inv-loop μ-loop
+returns-3 c = refused-state _ _ _ (sym (c .before .is-sound .ensures .0) ∙ c .if1 .left)
+
+pub grab-spec : {M : Type 1} → statement M
+grab-spec =
+    tie.close
+    (tie.spec
+    Inv-loop
+    μ-loop
+    is-sound-requires
+    loop-holds
+    slice-aggregate-grab-part
+    sub-grab-part
+    part-grab-part-start
+    part-grab-part-end
+    grab-part-requires
+    add-i
+    tells-requires
+    hand-back-requires
+    same-length
+    returns
+    loop-less
+    loop-again
+    hand-back-requires-2
+    same-length-2
+    returns-2
+    returns-3)

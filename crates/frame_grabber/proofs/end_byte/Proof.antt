@@ -1,0 +1,26 @@
+use mathlib.Core.Path.{refl}
+use denote.Ref.{now}
+use Rattle.refinement.specs.ByRuns.{lent-onward}
+use Rattle.frame_grabber.proofs.Steps.{settled}
+use borrow.Author.Needs.{needs}
+use Rattle.frame_grabber.proofs.end_byte.Statement.{statement}
+use Rattle.frame_grabber.proofs.end_byte.Tie as tie
+
+slice-aggregate-run : tie.Need-slice-aggregate-run
+slice-aggregate-run c = search needs
+
+run-requires : tie.Need-run-requires
+run-requires c κs = search needs
+
+same-length : tie.Need-same-length
+same-length c = search needs
+
+returns : tie.Need-returns
+returns c =
+    let a = c .before .before .before .before .before .before .before .before .before .args in
+    let p = c .before .before .before .before .before .before .before .before .before .pre in
+    let e = c .before .before .before .before .run .ensures in
+    settled (a .head) (now (a .body)) (now (a .rest)) (p .0) (p .2) _ (lent-onward (a .head) (now (a .body)) (now (a .rest)) _ (p .0) (p .1) refl) (p .3) (e .0) (e .3)
+
+pub end-byte-spec : {M : Type 1} → statement M
+end-byte-spec = tie.close (tie.spec slice-aggregate-run run-requires same-length returns)

@@ -1,0 +1,2 @@
+pub mod FrameGrabber
+pub mod Parts
