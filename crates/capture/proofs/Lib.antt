@@ -1,4 +1,3 @@
 pub mod Part
-pub mod Nibbles
 pub mod Runs
 pub mod Upto

@@ -1,29 +1,22 @@
 -- A run of nibbles brings a lister what its nibbles one by one do: those before its stop tell nothing.
 use mathlib.Core.Path.{_≡_, refl, _∙_, ap, ap₂, sym, subst}
-use mathlib.Core.Bool.{Bool, true, false, cond, true≢false}
 use mathlib.Core.List.{List, [], _∷_, _++_, append-assoc, append-nil}
-use Prim.Native.Nat.{ℕ, zero, suc, _+_, _-_, _*_, _≤_, _<_}
-use native.Mathlib.Nat.{add-zero, zero-add}
+use Prim.Native.Nat.{ℕ, _+_, _-_, _*_, _≤_, _<_}
+use native.Mathlib.Nat.{zero-add}
 use native.Mathlib.Omega.{arith}
-use lib.Dec.{leb}
 use lib.ListN.{length, take, drop, length-drop, length-append, drop-of-length-le}
 use lib.Seq.{take-all, drop-drop}
-use borrow.Author.Tests.{le-leb}
-use Rattle.refusal.specs.Refusal.{notANibble}
-use Rattle.profile.specs.declared.Profile.{Profile}
-use Rattle.profile.specs.Profile.{bodyLength, longest}
-use Rattle.profile.specs.LayoutLaws.{body-small}
+use Rattle.profile.specs.Profile.{longest}
 use Rattle.stream.specs.declared.Answer.{Answer}
 use Rattle.stream.specs.declared.Answer.the-variants as answers
-use Rattle.stream.specs.Answers.{Outcome, nothing, line, gap, refused, outcomeOf, answerFor}
+use Rattle.stream.specs.Answers.{answerFor}
 use Rattle.reader.specs.declared.Head.{Head}
 use Rattle.reader.specs.declared.Reader.{Reader}
-use Rattle.reader.specs.Reader.{Took, taking, feedOf}
-use Rattle.reader.specs.Run.{Ran, ran, isAnswer, lentRunOf}
-use Rattle.reader.specs.RunLaws.{onward, up-to-stop}
-use Rattle.reader.proofs.Running.{lent-right, run-goes}
-use Rattle.refinement.specs.Window.{Small, small-none, small-more}
-use Rattle.refinement.specs.Passes.{passes-test, Ok, take-ok}
+use Rattle.reader.specs.Run.{Ran, lentRunOf}
+use Rattle.reader.specs.RunLaws.{onward}
+use Rattle.refinement.specs.Window.{Small}
+use Rattle.refinement.specs.Passes.{Ok}
+use Rattle.refinement.specs.ByRuns.{ByNibbles, run-on, lent-onward, small-drop}
 use Rattle.tally.specs.declared.Tally.{Tally}
 use Rattle.tally.specs.declared.Told.{Told}
 use Rattle.tally.specs.Tally.{takeOf}
@@ -57,24 +50,28 @@ onAnswer l r a = record { mode = l .mode; reader = r; tally = takeOf (l .tally) 
 abbrev pub answerText : Lister → Answer → List ℕ
 answerText l a = textOf (l .mode) (takeOf (l .tally) a) a
 
-module _ (l : Lister) (n : ℕ) (ok : Ok (l .reader .head)) (small : n < 16) where
-  fed-taken : feedOf (l .reader) n longest ≡ taking (l .reader) n
-  unfolding feedOf
-  fed-taken = simp (passes-test (l .reader .head) (ok .test), le-leb n 15 (omega arith), le-leb (bodyLength (l .reader .head .profile)) longest (body-small (l .reader .head .profile)))
+-- What nibbles bring a lister: the lister after them, and their text. One that brings nothing changes neither.
 
-  after-is : afterNibble l n ≡ onAnswer l (taking (l .reader) n .reader) (answerFor (taking (l .reader) n .outcome))
-  unfolding afterNibble answerTo
-  after-is = ap (λ (t : Took). onAnswer l (t .reader) (answerFor (t .outcome))) fed-taken
+record Told-by (l : Lister) : Type 0 where
+  lister-then : Lister
+  text-then : List ℕ
 
-  text-is : nibbleText l n ≡ answerText l (answerFor (taking (l .reader) n .outcome))
-  unfolding nibbleText answerTo
-  text-is = ap (λ (t : Took). answerText l (answerFor (t .outcome))) fed-taken
+module _ (l : Lister) where
+  abbrev at : Reader → Lister
+  at r = record { mode = l .mode; reader = r; tally = l .tally }
 
-no-answer : (o : Outcome) → isAnswer o ≡ false → o ≡ nothing
-no-answer nothing e = refl
-no-answer (line k n r body) e = absurd (true≢false e)
-no-answer (gap a b) e = absurd (true≢false e)
-no-answer (refused n) e = absurd (true≢false e)
+  abbrev tells : Lister → List ℕ → List ℕ → Told-by l
+  tells m text w = record { lister-then = listAfter m w; text-then = text ++ listText m w }
+
+  unfoldable by-nibbles : ByNibbles (Told-by l)
+  unfolding afterNibble nibbleText answerTo
+  by-nibbles =
+      record {
+        from = λ r w. tells (at r) [] w;
+        next = λ t w. tells (onAnswer l (t .reader) (answerFor (t .outcome))) (answerText l (answerFor (t .outcome))) w;
+        one = λ r n w. refl;
+        ignores = λ r w. ap₂ (λ (x : Tally) (v : List ℕ). tells (record { mode = l .mode; reader = r; tally = x }) v w) (quiet-tally (l .tally)) (quiet-text (l .mode) (l .tally));
+      }
 
 -- A run.
 
@@ -88,70 +85,18 @@ pub record Ran-on (l : Lister) (w : List ℕ) (i : ℕ) (t : Ran) : Type 0 where
   pub text-on : listText l w ≡ answerText l (answerFor (t .outcome)) ++ listText (onAnswer l (t .reader) (answerFor (t .outcome))) (drop count w)
 
 pub ran-on : {w : List ℕ} → Small w → (l : Lister) (i : ℕ) → Ok (l .reader .head) → Ran-on l w i (onward (l .reader) w i)
-ran-on small-none l i ok =
+unfolding by-nibbles
+ran-on q l i ok =
+    let k = run-on (by-nibbles l) q (l .reader) i ok in
     record {
-      count = 0;
-      counted = sym (add-zero i);
-      some = λ h. h;
-      within = omega arith;
-      sound = ok;
-      lister-on = ap (λ (t : Tally). record { mode = l .mode; reader = l .reader; tally = t }) (sym (quiet-tally (l .tally)));
-      text-on = sym (ap (λ v. v ++ []) (quiet-text (l .mode) (l .tally)));
+      count = k .count;
+      counted = k .counted;
+      some = k .some;
+      within = k .within;
+      sound = k .sound;
+      lister-on = ap (λ (x : Told-by l). x .lister-then) (k .same);
+      text-on = ap (λ (x : Told-by l). x .text-then) (k .same);
     }
-ran-on (small-more {n} {t = w} h q) l i ok =
-    go (isAnswer (t .outcome)) refl (ran-on q (record { mode = l .mode; reader = t .reader; tally = l .tally }) (i + 1) (take-ok (l .reader .head) n h ok))
-  where
-    t : Took
-    t = taking (l .reader) n
-
-    a : Answer
-    a = answerFor (t .outcome)
-
-    small : leb n 15 ≡ true
-    small = le-leb n 15 (omega arith)
-
-    whole : (b : Bool) → Ran
-    whole b = cond b (ran (t .reader) (t .outcome) (i + 1)) (onward (t .reader) w (i + 1))
-
-    by : (b : Bool) → isAnswer (t .outcome) ≡ b
-        → Ran-on (record { mode = l .mode; reader = t .reader; tally = l .tally }) w (i + 1) (onward (t .reader) w (i + 1))
-        → Ran-on l (n ∷ w) i (whole b)
-    by true e k =
-        record {
-          count = 1;
-          counted = refl;
-          some = λ _. omega arith;
-          within = omega arith;
-          sound = take-ok (l .reader .head) n h ok;
-          lister-on = ap (λ (m : Lister). listAfter m w) (after-is l n ok h);
-          text-on = ap₂ (λ v (m : Lister). v ++ listText m w) (text-is l n ok h) (after-is l n ok h);
-        }
-    by false e k =
-        let quiet : a ≡ answers.Nothing = ap answerFor (no-answer (t .outcome) e) in
-        let m : afterNibble l n ≡ record { mode = l .mode; reader = t .reader; tally = l .tally } =
-        after-is l n ok h
-        ∙ ap (λ (x : Answer). onAnswer l (t .reader) x) quiet
-        ∙ ap (λ (x : Tally). record { mode = l .mode; reader = t .reader; tally = x }) (quiet-tally (l .tally)) in
-        let z : i + 1 + k .count ≡ i + suc (k .count) = omega arith in
-        let v = k .within in
-        record {
-          count = suc (k .count);
-          counted = k .counted ∙ z;
-          some = λ _. omega arith;
-          within = omega arith;
-          sound = k .sound;
-          lister-on = ap (λ (x : Lister). listAfter x w) m ∙ k .lister-on;
-          text-on =
-              ap₂ (λ v (x : Lister). v ++ listText x w) (text-is l n ok h ∙ ap (answerText l) quiet ∙ quiet-text (l .mode) (l .tally)) m
-              ∙ k .text-on;
-        }
-
-    go : (b : Bool) → isAnswer (t .outcome) ≡ b
-        → Ran-on (record { mode = l .mode; reader = t .reader; tally = l .tally }) w (i + 1) (onward (t .reader) w (i + 1))
-        → Ran-on l (n ∷ w) i (onward (l .reader) (n ∷ w) i)
-    go b e k =
-        subst (λ (x : Ran). Ran-on l (n ∷ w) i x)
-        (ap whole (sym e) ∙ ap (λ (c : Bool). cond c (whole (isAnswer (t .outcome))) (ran (l .reader) (refused notANibble) i)) (sym small)) (by b e k)
 
 -- Many runs.
 
@@ -168,11 +113,6 @@ pub record Along (l : Lister) (w : List ℕ) (i : ℕ) (m : Lister) (d : List �
 pub along-start : (l : Lister) (w d : List ℕ) (at : ℕ) → at ≤ length d → Ok (l .reader .head) → Along l w 0 l d at at d
 along-start l w d at h ok =
     record { text = []; within = omega arith; lister-rest = refl; text-rest = refl; text-put = none d at at h refl; short = omega arith; sound = ok }
-
-small-drop : {w : List ℕ} → Small w → (i : ℕ) → Small (drop i w)
-small-drop q zero = q
-small-drop small-none (suc i) = small-none
-small-drop (small-more h q) (suc i) = small-drop q i
 
 pub along-next : {l m : Lister} {w d after after′ : List ℕ} {i at used used′ : ℕ} → Along l w i m d at used after → Small w → i < length w
     → (t : Ran) → t ≡ onward (m .reader) (drop i w) 0 → {h : Head} {body : List ℕ} {k : ℕ} {a : Answer} {e : Told}
@@ -226,21 +166,11 @@ along-end {l} {m} {w} {d} {after} {i} {at} {used} p h =
       sound = p .sound;
     }
 
--- an answer is told by what it says
-pub answer-of : (p : Profile) (a : Answer) (buffer : List ℕ) (o : Outcome) → outcomeOf p a buffer ≡ o → a ≡ answerFor o
-answer-of p answers.Nothing buffer o e = ap answerFor e
-answer-of p (answers.Line f) buffer o e = ap answerFor e
-answer-of p (answers.Gap a b) buffer o e = ap answerFor e
-answer-of p (answers.Refused n) buffer o e = ap answerFor e
-
 -- the run that the code makes, of what is left of w at the place i, is the one from there on
-pub lent-onward : (h : Head) (B w : List ℕ) (i room : ℕ) → Ok h → length B ≡ longest → room ≡ longest
+pub part-onward : (h : Head) (B w : List ℕ) (i room : ℕ) → Ok h → length B ≡ longest → room ≡ longest
     → lentRunOf h B (take (length w - i) (drop i w)) room ≡ onward (record { head = h; body = B }) (drop i w) 0
-lent-onward h B w i room ok full e =
-    ap (λ v. lentRunOf h B v room) (take-all (length w - i) (drop i w) (omega (arith, length-drop i w)))
-    ∙ lent-right h B (drop i w) room full
-    ∙ run-goes h B (drop i w) room (passes-test h (ok .test)) (omega (arith, body-small (h .profile)))
-    ∙ up-to-stop (record { head = h; body = B }) (drop i w)
+part-onward h B w i room ok full e =
+    ap (λ v. lentRunOf h B v room) (take-all (length w - i) (drop i w) (omega (arith, length-drop i w))) ∙ lent-onward h B (drop i w) room ok full e
 
 pub lists-of : {l m : Lister} {w w′ d after : List ℕ} {at used : ℕ} → w ≡ w′ → Lists l w m d at used after → Lists l w′ m d at used after
 lists-of {l} {m} {w} {w′} {d} {after} {at} {used} e h = subst (λ v. Lists l v m d at used after) e h

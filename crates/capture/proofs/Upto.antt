@@ -17,7 +17,7 @@ use Rattle.listing.specs.PutLaws.{none, joined, on-front}
 use Rattle.capture.specs.declared.Lister.{Lister}
 use Rattle.capture.specs.Listed.{answerTo, afterNibble, nibbleText, listAfter, listText, takenFrom, takenOf, listedText, listedOf}
 use Rattle.capture.specs.ListedLaws.{text-short}
-use Rattle.capture.proofs.Nibbles.{nibbles-append}
+use Rattle.feeding.specs.UnpackedLaws.{nibbles-append}
 use Rattle.capture.specs.Portions.{byteRoom, portionOf, Lists}
 
 -- Nibbles, and nibbles after them.

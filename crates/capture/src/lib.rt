@@ -4,14 +4,11 @@
 // marks that are answered, at the front of a lent buffer, and how many bytes were taken and used. A piece is taken as far as the buffer
 // has room for the text of one byte more. Nothing is refused. Cost: that of the reader's runs, and linear in the text.
 ghost use mathlib.Core.Path.{_≡_};
-ghost use mathlib.Core.List.{_++_};
-ghost use Prim.Native.Nat.{_+_, _*_, _/_, _≤_, _<_, min};
-ghost use lib.ListN.{length, drop};
+ghost use Prim.Native.Nat.{_+_, _*_, _≤_, min};
+ghost use lib.ListN.{length};
 ghost use Rattle.profile.specs.Profile.{longest};
 ghost use Rattle.stream.specs.Written.{nibbles};
-ghost use Rattle.reader.specs.Reader.{passes};
-ghost use Rattle.refinement.specs.Window.{Small};
-ghost use Rattle.refinement.specs.Passes.{Byte, Ok};
+ghost use Rattle.refinement.specs.Passes.{Ok};
 ghost use Rattle.tally.specs.Tally.{isGood};
 ghost use Rattle.listing.specs.Rows.{rowOf, rowRoom, ifRoom, onFront};
 ghost use Rattle.listing.specs.Frames.{newsLine, summaryLines};
@@ -22,7 +19,6 @@ use profile::Profile;
 use reader::Head;
 use reader::Reader;
 use stream::Answer;
-use stream::Mark;
 use tally::News;
 use tally::Tally;
 use tally::Told;
@@ -79,7 +75,7 @@ impl Lister {
         let mode = self.mode;
         let reader = self.reader;
         let mut head = reader.head;
-        if is_sound(head) {
+        if feeding::is_sound(head) {
             let mut body = reader.body;
             let mut line = [0u8; Profile::LONGEST];
             let mut tally = self.tally;
@@ -185,17 +181,6 @@ fn lesser(a: usize, b: usize) -> usize
     b
 }
 
-// Whether a reader passes its own test. That its code is a byte is a fact of its type.
-fn is_sound(h: Head) -> bool
-    ensures { λ r. ⌜ (r ≡ passes h) × Byte (h .at) ⌝ }
-{
-    let at = h.at;
-    match at {
-        Mark::NoMark => h.passes(),
-        Mark::Open(_, _code) => h.passes(),
-    }
-}
-
 // What is left after a portion: the reader but for its body, the tally, and the place after the text.
 struct Portioned {
     head: Head,
@@ -218,8 +203,7 @@ fn list_portion(
     ensures { λ r. ⌜ Lists (lister mode start (now (body .entry)) first) (nibbles (now (bytes .entry))) (lister mode (r .head) (now (body .exit)) (r .tally)) (now (out .entry)) at (r .used) (now (out .exit)) ⌝ }
 {
     let mut nibbles = [0u8; 2 * PORTION];
-    unpack(bytes, &mut nibbles);
-    let n = 2 * bytes.len();
+    let n = 2 * feeding::unpack(bytes, &mut nibbles);
     let all: &[u8] = &nibbles[..n];
     let mut head = start;
     let mut tally = first;
@@ -235,26 +219,6 @@ fn list_portion(
         used = put_text(mode, told, answer, out, used);
     }
     Portioned { head, tally, used }
-}
-
-// Puts the nibbles of bytes, the high one of each first, at the front of a buffer.
-fn unpack(bytes: &[u8], to: &mut [u8])
-    requires { ⌜ 2 * length (now bytes) ≤ length (now to) ⌝ }
-    ensures { λ _. ⌜ (now (to .exit) ≡ nibbles (now (bytes .entry)) ++ drop (2 * length (now (bytes .entry))) (now (to .entry))) × Small (nibbles (now (bytes .entry))) ⌝ }
-{
-    let mut i: usize = 0;
-    while i < bytes.len() {
-        let b = bytes[i];
-        to[2 * i] = high(b);
-        to[2 * i + 1] = b % 16;
-        i += 1;
-    }
-}
-
-fn high(byte: u8) -> u8
-    ensures { λ r. ⌜ (r ≡ byte / 16) × (r < 16) ⌝ }
-{
-    byte / 16
 }
 
 // Puts the text of an answer at a place, and gives the place after it.

@@ -1,7 +1,9 @@
 use mathlib.Core.Path.{_≡_, refl, sym, ap, subst, _∙_}
-use Prim.Native.Nat.{_+_, _-_, _*_, _≤_, _<_}
+use mathlib.Core.List.{List}
+use Prim.Native.Nat.{ℕ, _+_, _-_, _*_, _≤_, _<_}
 use native.Mathlib.Omega.{arith}
-use lib.ListN.{length, drop}
+use lib.ListN.{length, take, drop}
+use lib.Seq.{take-all}
 use denote.Ref.{now}
 use borrow.Author.Needs.{needs}
 use Rattle.profile.specs.Profile.{longest}
@@ -9,8 +11,11 @@ use Rattle.refinement.specs.Window.{Small}
 use Rattle.listing.specs.Rows.{rowRoom}
 use Rattle.listing.specs.PutLaws.{put-length}
 use Rattle.capture.specs.Portions.{lister}
-use Rattle.capture.proofs.Nibbles.{nibbles-length, front-nibbles}
-use Rattle.capture.proofs.Runs.{Along, along-start, along-next, along-count, along-end, answer-of, lent-onward, lists-of}
+use Rattle.refinement.specs.ByRuns.{answer-of}
+use Rattle.stream.specs.Written.{nibbles}
+use Rattle.feeding.specs.Unpacked.{unpacked}
+use Rattle.feeding.specs.UnpackedLaws.{nibbles-length, front-nibbles}
+use Rattle.capture.proofs.Runs.{Along, along-start, along-next, along-count, along-end, part-onward, lists-of}
 use Rattle.capture.proofs.list_portion.Statement.{statement}
 use Rattle.capture.proofs.list_portion.Tie as tie
 
@@ -22,6 +27,11 @@ Inv-loop mode body₀ bytes line₀ out₀ at n all head₀ tally₀ used₀ i�
 abbrev μ-loop : tie.MeasureT-loop
 μ-loop mode body₀ bytes line₀ out₀ at n all head₀ tally₀ used₀ i₀ body line out head tally used i = n - i
 
+-- all bytes are taken apart
+whole : (bs d w : List ℕ) (r : ℕ) → r ≡ length bs → w ≡ unpacked bs d r → take (2 * r) w ≡ nibbles bs
+whole bs d w r e f =
+    ap (take (2 * r)) f ∙ front-nibbles bs r (omega arith) d ∙ ap nibbles (take-all r bs (omega arith))
+
 slice-aggregate-unpack : tie.Need-slice-aggregate-unpack Inv-loop μ-loop
 slice-aggregate-unpack c = search needs
 
@@ -32,16 +42,21 @@ mul-n : tie.Need-mul-n Inv-loop μ-loop
 mul-n c = search needs
 
 array-share-prefix-nibbles : tie.Need-array-share-prefix-nibbles Inv-loop μ-loop
-array-share-prefix-nibbles c = search needs
+array-share-prefix-nibbles c = omega (arith, c .before .unpack .ensures .0, c .before .unpack .kept .1 .0)
 
 slice-aggregate-all : tie.Need-slice-aggregate-all Inv-loop μ-loop
-slice-aggregate-all c = let a = c .before .before .before .before .before .before .before .before .args in sym (ap length (front-nibbles (now (c .before .before .before .before .before .before .before .before .args .bytes)) _ _ (c .before .before .unpack .ensures .0)) ∙ nibbles-length (now (a .bytes)))
+slice-aggregate-all c =
+    let a = c .before .before .before .before .before .before .before .before .args in
+    let k : c .before .before .unpack .result ≡ length (now (a .bytes)) = omega (arith, c .before .before .unpack .ensures .0) in
+    sym (ap length (whole (now (a .bytes)) _ _ _ k (c .before .before .unpack .ensures .1)) ∙ nibbles-length (now (a .bytes)) ∙ ap (λ n. 2 * n) (sym k))
 
 loop-holds : tie.Need-loop-holds Inv-loop μ-loop
 loop-holds c =
     let a = c .before .before .before .before .before .before .before .before .args in
-    let e = front-nibbles (now (c .before .before .before .before .before .before .before .before .args .bytes)) _ _ (c .before .before .unpack .ensures .0) in
-    (along-start _ _ _ _ (omega arith) (c .before .before .before .before .before .before .before .before .pre .0), search needs, search needs, subst Small (sym e) (c .before .before .unpack .ensures .1), ap length e ∙ nibbles-length (now (a .bytes)), omega arith, omega arith)
+    let k : c .before .before .unpack .result ≡ length (now (a .bytes)) = omega (arith, c .before .before .unpack .ensures .0) in
+    let e = whole (now (a .bytes)) _ _ _ k (c .before .before .unpack .ensures .1) in
+    let small = subst (λ v. Small (nibbles v)) (take-all (c .before .before .unpack .result) (now (a .bytes)) (omega (arith, k))) (c .before .before .unpack .ensures .2) in
+    (along-start _ _ _ _ (omega arith) (c .before .before .before .before .before .before .before .before .pre .0), search needs, search needs, subst Small (sym e) small, ap length e ∙ nibbles-length (now (a .bytes)) ∙ ap (λ n. 2 * n) (sym k), omega (arith, k), omega (arith, k))
 
 sub-run : tie.Need-sub-run Inv-loop μ-loop
 sub-run c = c .before .before .loop .inv .0 .within
@@ -59,7 +74,7 @@ add-i : tie.Need-add-i Inv-loop μ-loop
 add-i c =
     let l = c .before .before .before .before .before .before .before .before .before .before .before .loop in
     let e = c .before .before .before .before .before .before .run .ensures in
-    let t = lent-onward (l .head) (l .body) _ (l .i) _ (l .inv .0 .sound) (l .inv .1) (l .inv .2) in
+    let t = part-onward (l .head) (l .body) _ (l .i) _ (l .inv .0 .sound) (l .inv .1) (l .inv .2) in
     let lt = subst (λ n. l .i < n) (sym (l .inv .4)) (c .before .before .before .before .before .before .before .before .before .before .loop-test .taken) in
     let n = along-count (l .inv .0) (l .inv .3) lt _ t (e .1) in
     omega (arith, n .1, l .inv .4, l .inv .6)
@@ -77,7 +92,7 @@ loop-less : tie.Need-loop-less Inv-loop μ-loop
 loop-less c =
     let l = c .before .before .before .before .before .before .before .before .before .before .before .before .before .before .before .before .before .loop in
     let e = c .before .before .before .before .before .before .before .before .before .before .before .before .run .ensures in
-    let t = lent-onward (l .head) (l .body) _ (l .i) _ (l .inv .0 .sound) (l .inv .1) (l .inv .2) in
+    let t = part-onward (l .head) (l .body) _ (l .i) _ (l .inv .0 .sound) (l .inv .1) (l .inv .2) in
     let lt = subst (λ n. l .i < n) (sym (l .inv .4)) (c .before .before .before .before .before .before .before .before .before .before .before .before .before .before .before .before .loop-test .taken) in
     let n = along-count (l .inv .0) (l .inv .3) lt _ t (e .1) in
     omega (arith, n .0, n .1, l .inv .4, lt)
@@ -86,7 +101,7 @@ loop-again : tie.Need-loop-again Inv-loop μ-loop
 loop-again c =
     let l = c .before .before .before .before .before .before .before .before .before .before .before .before .before .before .before .before .before .loop in
     let e = c .before .before .before .before .before .before .before .before .before .before .before .before .run .ensures in
-    let t = lent-onward (l .head) (l .body) _ (l .i) _ (l .inv .0 .sound) (l .inv .1) (l .inv .2) in
+    let t = part-onward (l .head) (l .body) _ (l .i) _ (l .inv .0 .sound) (l .inv .1) (l .inv .2) in
     let lt = subst (λ n. l .i < n) (sym (l .inv .4)) (c .before .before .before .before .before .before .before .before .before .before .before .before .before .before .before .before .loop-test .taken) in
     let told = answer-of _ _ _ _ (e .2) in (
       along-next (l .inv .0) (l .inv .3) lt _ t (e .0) (e .3) (e .1) told (c .before .before .before .before .before .take .ensures) (c .before .before .put-text .ensures),
@@ -110,7 +125,9 @@ same-length-3 c = put-length (c .before .loop .inv .0 .text-put)
 returns : tie.Need-returns Inv-loop μ-loop
 returns c =
     let l = c .before .loop in
-    let e = front-nibbles (now (c .before .before .before .before .before .before .before .before .before .before .args .bytes)) _ _ (c .before .before .before .before .unpack .ensures .0) in
+    let a = c .before .before .before .before .before .before .before .before .before .before .args in
+    let k : c .before .before .before .before .unpack .result ≡ length (now (a .bytes)) = omega (arith, c .before .before .before .before .unpack .ensures .0) in
+    let e = whole (now (a .bytes)) _ _ _ k (c .before .before .before .before .unpack .ensures .1) in
     lists-of e (along-end (l .inv .0) (omega (arith, c .loop-test .left, l .inv .4)))
 
 pub list-portion-spec : {M : Type 1} → statement M
