@@ -32,10 +32,11 @@ pub fn unpack(bytes: &[u8], to: &mut [u8]) -> usize
 pub fn is_sound(head: Head) -> bool
     ensures { λ r. ⌜ (r ≡ passes head) × Byte (head .at) ⌝ }
 {
+    let passed = head.passes();
     let at = head.at;
     match at {
-        Mark::NoMark => head.passes(),
-        Mark::Open(_, _code) => head.passes(),
+        Mark::NoMark => passed,
+        Mark::Open(_, _code) => passed,
     }
 }
 

@@ -1,21 +1,20 @@
 -- A piece part by part, and a part run by run: each step leaves what is sought the same, so the first that says something says what is sought.
 use mathlib.Core.Path.{_≡_, refl, sym, ap, ap₂, subst, _∙_}
 use mathlib.Core.Bool.{Bool, true, false, cond, true≢false}
-use mathlib.Core.List.{List, [], _∷_, _++_}
+use mathlib.Core.List.{List, [], _++_}
 use Prim.Native.Nat.{ℕ, zero, suc, _+_, _-_, _*_, _/_, _%_, _≤_, _<_}
 use native.Mathlib.Nat.{zero-add}
 use native.Mathlib.Omega.{arith}
 use lib.ListN.{length, take, drop, length-append, length-drop, take-append-drop, drop-of-length-le}
 use lib.Seq.{take-all, drop-drop, take-append-le}
 use Rattle.refusal.specs.Refusal.{badState}
-use Rattle.profile.specs.Profile.{longest}
 use Rattle.stream.specs.declared.Answer.{Answer}
 use Rattle.stream.specs.declared.Answer.the-variants as answers
 use Rattle.stream.specs.Answers.{answerFor, bufferAfter}
 use Rattle.stream.specs.Written.{nibbles}
 use Rattle.reader.specs.declared.Head.{Head}
 use Rattle.reader.specs.declared.Reader.{Reader}
-use Rattle.reader.specs.Reader.{Took, passes}
+use Rattle.reader.specs.Reader.{passes}
 use Rattle.reader.specs.Run.{Ran}
 use Rattle.reader.specs.RunLaws.{onward}
 use Rattle.refinement.specs.Window.{Small}
@@ -33,6 +32,7 @@ use Rattle.frame_grabber.specs.declared.Grabber.{Grabber}
 use Rattle.frame_grabber.specs.declared.Grabbed.{Grabbed}
 use Rattle.frame_grabber.specs.declared.Step.{Step}
 use Rattle.frame_grabber.specs.FrameGrabber.{blank, given, isSaid, Sought, sought, seek, fedAll, restOfByte, After, byBytes, grabOf, Gives}
+use Rattle.frame_grabber.specs.FrameGrabberLaws.{grab-is, grab-fails}
 use Rattle.frame_grabber.specs.Parts.{reader, tells, outcome, onAnswer, Turns, Stops, Goes, Takes}
 
 -- What is worked out from nibbles one by one.
@@ -256,11 +256,6 @@ upto-start h B g input held ok = record { within = omega arith; sound = ok; same
 abbrev handed : Reader → Gatherer → ℕ → Progress → Grabbed
 handed r g n p = record { grabber = record { reader = r; gatherer = g }; taken = n; progress = p }
 
-grab-is : (s : Grabber) (input held : List ℕ) → passes (s .reader .head) ≡ true
-    → grabOf s input held ≡ byBytes (length input) (seek (s .reader) (s .gatherer) held (nibbles input))
-unfolding grabOf
-grab-is s input held e = simp e
-
 module _ {s : Grabber} {input held : List ℕ} {i : ℕ} {h : Head} {B : List ℕ} {m : Gatherer} {held′ : List ℕ}
     (p : Upto (s .reader) (s .gatherer) input held i h B m held′) where
   -- the piece is at its end
@@ -326,5 +321,11 @@ module _ {s : Grabber} {input held : List ℕ} {i : ℕ} {h : Head} {B : List �
 -- a reader that fails its own test: nothing is taken
 pub refused-state : (s : Grabber) (input held : List ℕ) → passes (s .reader .head) ≡ false
     → Gives (grabOf s input held) (record { grabber = s; taken = 0; progress = progress.Refused badState }) held
-unfolding grabOf
-refused-state s input held e = record { next = simp e; counts = simp e; says = simp e; leaves = simp e }
+refused-state s input held e =
+    let q = grab-fails s input held e in
+    record {
+      next = ap (λ (a : After). a .grabber) (sym q);
+      counts = ap (λ (a : After). a .taken) (sym q);
+      says = ap (λ (a : After). a .output) (sym q);
+      leaves = ap (λ (a : After). a .buffer) (sym q);
+    }

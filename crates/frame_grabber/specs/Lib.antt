@@ -1,2 +1,4 @@
 pub mod FrameGrabber
 pub mod Parts
+pub mod Pieces
+pub mod FrameGrabberLaws

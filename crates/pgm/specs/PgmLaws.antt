@@ -8,11 +8,13 @@ use native.Mathlib.Nat.{not-suc-le-zero, le-of-suc-le-suc}
 use native.Mathlib.Omega.{arith}
 use borrow.Author.Tests.{eqb-true, eq-eqb}
 use lib.Dec.{eqb, lit≤}
-use lib.ListN.{length, drop, length-append}
+use lib.ListN.{length, drop, length-append, length-take}
 use lib.Seq.{drop-at}
 use Rattle.bits.specs.Every.{and-left, and-right}
 use Rattle.refusal.specs.Refusal.{badHeader, wrongPictureLength}
-use Rattle.lent_buffer.specs.Filled.{Output, used, refused, require}
+use Rattle.lent_buffer.specs.declared.Filled.{Filled}
+use Rattle.lent_buffer.specs.declared.Filled.the-variants as filled
+use Rattle.lent_buffer.specs.Filled.{Output, used, refused, outputOf, Gives, require}
 use Rattle.lent_buffer.specs.FilledLaws.{fitted-used, passed, used-fitted}
 use Rattle.pgm.specs.declared.Borders.{Borders}
 use Rattle.pgm.specs.declared.Borders.the-variants.{On, Off}
@@ -102,6 +104,15 @@ written-picture rows file room n h =
     let t = told (λ b. eqb (length rows) (size b)) (λ b. writeAs b rows room) _ h in
     let p = passed (pixels rows) _ _ (t .gives) in
     record { borders = t .borders; sized = eqb-true _ _ (t .passes); good = p .0; made = used-fitted (imageOf (t .borders) rows) room (p .1) .0 }
+
+-- the length used is within the buffer
+pub written-within : (rows before after : List ℕ) (room : ℕ) (y : Filled) (n : ℕ) → Gives (writeOf rows room) y before after → y ≡ filled.Length n
+    → n ≤ length after
+unfolding writeOf
+written-within rows before after room y n g e =
+    let t = told (λ b. eqb (length rows) (size b)) (λ b. writeAs b rows room) _ (sym (g .says) ∙ ap (λ (x : Filled). outputOf x after) e) in
+    let f = used-fitted (imageOf (t .borders) rows) room (passed (pixels rows) _ _ (t .gives) .1) in
+    omega (arith, f .1, ap length (f .0), length-take n after)
 
 -- Reading accepts exactly the files of pictures.
 

@@ -1,0 +1,66 @@
+-- A capture handed over in pieces, and the picture of its first complete frame.
+use mathlib.Core.Path.{_≡_}
+use mathlib.Core.Bool.{cond}
+use mathlib.Core.List.{List, [], _∷_, _++_}
+use Prim.Native.Nat.{ℕ, _+_, _≤_}
+use lib.ListN.{length, take}
+use Rattle.profile.specs.declared.Profile.the-variants.{VV5404}
+use Rattle.profile.specs.Profile.{longest}
+use Rattle.stream.specs.Written.{nibbles}
+use Rattle.lent_buffer.specs.Filled.{used}
+use Rattle.reader.specs.declared.Reader.{Reader}
+use Rattle.reader.specs.Reader.{freshReader, feedOf}
+use Rattle.pgm.specs.Pgm.{imageOf, writeOf}
+use Rattle.frame_rows.specs.declared.Order.{Order}
+use Rattle.frame_rows.specs.FrameRows.{Shown, nothing, quiet}
+use Rattle.frame_rows.specs.Gathering.{Given, calls, start, taken, pictureOf, Completes, Laid, Every}
+use Rattle.frame_grabber.specs.declared.Grabber.{Grabber}
+use Rattle.frame_grabber.specs.FrameGrabber.{given, isSaid, fedAll, After, grabOf}
+
+-- Pieces.
+
+-- end to end
+abbrev pub joined : List (List ℕ) → List ℕ
+joined [] = []
+joined (p ∷ ps) = p ++ joined ps
+
+abbrev pub withMore : ℕ → After → After
+withMore n a = record { grabber = a .grabber; taken = n + a .taken; output = a .output; buffer = a .buffer }
+
+-- call after call, up to the first that says something; the bytes taken are counted over all of them
+abbrev pub grabPieces : Grabber → List ℕ → List (List ℕ) → After
+grabPieces s rows [] = record { grabber = s; taken = 0; output = nothing; buffer = rows }
+grabPieces s rows (p ∷ ps) =
+    let a : After = grabOf s p rows in
+    cond (isSaid (a .output)) a (withMore (a .taken) (grabPieces (a .grabber) (a .buffer) ps))
+
+-- Every answer.
+
+-- what the gatherer is given of nibbles fed one by one
+abbrev pub givens : Reader → List ℕ → List Given
+givens r [] = []
+givens r (n ∷ w) = given (feedOf r n longest) ∷ givens (feedOf r n longest .reader) w
+
+-- after a call: the reader has taken every nibble of the bytes that count as taken, and each answer was handed to the gatherer
+pub record Stands (s : Grabber) (input rows : List ℕ) (a : After) : Type 0 where
+  pub reader-is : a .grabber .reader ≡ fedAll (s .reader) (nibbles (take (a .taken) input))
+  pub gatherer-is : a .grabber .gatherer ≡ calls (quiet (s .gatherer) rows) (givens (s .reader) (nibbles (take (a .taken) input))) .gatherer
+  pub rows-are : a .buffer ≡ calls (quiet (s .gatherer) rows) (givens (s .reader) (nibbles (take (a .taken) input))) .buffer
+
+-- The picture.
+
+-- the lines that nibbles of a capture hand over, from a fresh reader and a fresh gatherer on
+abbrev pub linesIn : Order → List ℕ → List ℕ → List Shown
+linesIn o rows w = taken (start o rows) (givens (freshReader VV5404) w)
+
+-- the rows of a capture's first complete frame: the nibbles up to its last line's answer; their lines, which end in those of a whole frame, its
+-- rows being these; each visible body laid out as 01 says; and the rows' file, which is written where there is room for it
+pub record Pictured (o : Order) (rows capture : List ℕ) (n : ℕ) (shown : List ℕ) : Type 0 where
+  pub upTo : List ℕ
+  pub left : List ℕ
+  pub splits : nibbles capture ≡ upTo ++ left
+  pub completes : Completes o (linesIn o rows upTo) n shown
+  pub laid : Every Laid (linesIn o rows upTo)
+  pub written : (room : ℕ) → length (imageOf (pictureOf (completes .borders)) shown) ≤ room
+      → writeOf shown room
+      ≡ used (length (imageOf (pictureOf (completes .borders)) shown)) (imageOf (pictureOf (completes .borders)) shown)
