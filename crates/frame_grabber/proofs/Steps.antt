@@ -32,7 +32,7 @@ use Rattle.frame_grabber.specs.declared.Grabber.{Grabber}
 use Rattle.frame_grabber.specs.declared.Grabbed.{Grabbed}
 use Rattle.frame_grabber.specs.declared.Step.{Step}
 use Rattle.frame_grabber.specs.FrameGrabber.{blank, given, isSaid, Sought, sought, seek, fedAll, restOfByte, After, byBytes, grabOf, Gives}
-use Rattle.frame_grabber.specs.FrameGrabberLaws.{grab-is, grab-fails}
+use Rattle.frame_grabber.specs.PieceLaws.{grab-is, grab-fails}
 use Rattle.frame_grabber.specs.Parts.{reader, tells, outcome, onAnswer, Turns, Stops, Goes, Takes}
 
 -- What is worked out from nibbles one by one.

@@ -75,22 +75,22 @@ fedAll r (n ∷ w) = fedAll (feedOf r n longest .reader) w
 abbrev pub restOfByte : List ℕ → List ℕ
 restOfByte left = take (length left % 2) left
 
+abbrev pub leaving : Reader → ℕ → Outcome → After
+leaving r n x = record { grabber = record { reader = r; gatherer = x .gatherer }; taken = n; output = x .output; buffer = x .buffer }
+
 -- of so many bytes, those count as taken of which a nibble was; the reader takes the rest of the last one
 abbrev pub byBytes : ℕ → Sought → After
-byBytes n s =
-    record {
-      grabber = record { reader = fedAll (s .reader) (restOfByte (s .left)); gatherer = s .outcome .gatherer };
-      taken = n - length (s .left) / 2;
-      output = s .outcome .output;
-      buffer = s .outcome .buffer;
-    }
+byBytes n s = leaving (fedAll (s .reader) (restOfByte (s .left))) (n - length (s .left) / 2) (s .outcome)
+
+abbrev pub failing : Grabber → List ℕ → After
+failing s rows = record { grabber = s; taken = 0; output = refused badState; buffer = rows }
 
 -- a piece: 11 where the reader fails its own test, and then nothing is taken; or up to the first time that something is said
 unfoldable pub grabOf : Grabber → List ℕ → List ℕ → After
 grabOf s input rows =
     cond (passes (s .reader .head))
     (byBytes (length input) (seek (s .reader) (s .gatherer) rows (nibbles input)))
-    (record { grabber = s; taken = 0; output = refused badState; buffer = rows })
+    (failing s rows)
 
 -- a call that answers, and leaves the rows' buffer, so
 pub record Gives (a : After) (answer : Grabbed) (after : List ℕ) : Type 0 where

@@ -1,4 +1,6 @@
 pub mod FrameGrabber
 pub mod Parts
 pub mod Pieces
+pub mod SeekLaws
+pub mod PieceLaws
 pub mod FrameGrabberLaws

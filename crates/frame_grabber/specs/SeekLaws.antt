@@ -1,0 +1,226 @@
+-- What is sought, nibble by nibble: it is the gatherer's calls up to the first that says something, and a mark is complete there.
+use mathlib.Core.Path.{_≡_, refl, sym, ap, subst, _∙_}
+use mathlib.Core.Bool.{Bool, true, false, _&&_, cond, true≢false}
+use mathlib.Core.List.{List, [], _∷_, _++_}
+use mathlib.Core.Option.{some}
+use Prim.Native.Nat.{ℕ, _+_, _-_, _*_, _/_, _%_, _≤_, _<_}
+use native.Mathlib.Omega.{arith}
+use lib.ListN.{length, take, length-append}
+use lib.Dec.{eqb, leb}
+use lib.Seq.{length-take-le}
+use borrow.Author.Tests.{ne-eqb, leb-true}
+use Rattle.refusal.specs.Refusal.{noRoom}
+use Rattle.profile.specs.Profile.{longest}
+use Rattle.stream.specs.Answers.{Outcome}
+use Rattle.stream.specs.Answers as answers
+use Rattle.reader.specs.declared.Reader.{Reader}
+use Rattle.mark_answer.specs.Kept.{topPlace}
+use Rattle.mark_answer.specs.Judge.{judge}
+use Rattle.reader.specs.declared.Head.{Head}
+use Rattle.reader.specs.Reader.{Took, groupNumber, isMark, slide, leaveKept, leaveBody, shifted, opened, takeHead, takeOutcome, taking, feedOf}
+use Rattle.refinement.specs.ByRuns.{took}
+use Rattle.refinement.specs.Passes.{Feeding, feed-state, feed-nibble, feed-room, feed-taken, feeding}
+use Rattle.frame.specs.declared.Judge.{Judge}
+use Rattle.frame.specs.declared.Verdict.{Verdict}
+use Rattle.frame.specs.declared.Verdict.the-variants as verdict
+use Rattle.frame.specs.Calls.{called}
+use Rattle.tally.specs.Tally.{breaksFrame, isBrokenLine}
+use Rattle.tally.specs.Answered.{handedOver}
+use Rattle.frame_rows.specs.declared.Gatherer.{Gatherer}
+use Rattle.frame_rows.specs.FrameRows.{Output, Shown, nothing, complete, refused, isVisible, quiet}
+use Rattle.frame_rows.specs.FrameRows as rows
+use Rattle.frame_rows.specs.Gathering.{Given, call, calls, shown}
+use Rattle.frame_rows.specs.FrameRowsLaws.{Hands, none, one, hands}
+use Rattle.frame_grabber.specs.FrameGrabber.{given, isSaid, Sought, sought, seek, fedAll}
+use Rattle.frame_grabber.specs.Pieces.{givens}
+
+not-said : (o : Output) → isSaid o ≡ false → o ≡ nothing
+not-said nothing e = refl
+not-said (complete n w) e = absurd (true≢false e)
+not-said (refused n) e = absurd (true≢false e)
+
+-- Where something is said a mark is complete, and the nibble after it brings no answer.
+
+-- a mark is complete, and no nibble came after its code
+abbrev pub AtMark : Reader → Type 0
+AtMark r = r .head .window < 256
+
+-- what is answered where a nibble completes a mark
+abbrev marked-outcome : Head → List ℕ → ℕ → Outcome
+marked-outcome h body n = judge (h .profile) (h .at) (h .count - 7) (leaveKept h) (leaveBody h body) (some (slide (h .window) n % 256))
+
+no-mark : (w n : ℕ) → w < 256 → n < 16 → isMark (slide w n) ≡ false
+unfolding isMark slide
+no-mark w n l h = ne-eqb ((w % topPlace * 16 + n) / 256) groupNumber (λ e. omega arith)
+
+pub silent : (r : Reader) (n : ℕ) (x : rows.Outcome) → AtMark r → call x (given (feedOf r n longest)) ≡ quiet (x .gatherer) (x .buffer)
+unfolding rows.takeOf takeOutcome isBrokenLine
+silent r n x l = go (feeding r n longest)
+  where
+    go : {t : Took} → Feeding r n longest t → call x (given t) ≡ quiet (x .gatherer) (x .buffer)
+    go (feed-state e) = refl
+    go (feed-nibble e) = refl
+    go (feed-room e) = refl
+    go (feed-taken h) =
+        ap (λ (b : Bool). call x (given (took (taking r n .reader) (cond b (marked-outcome (r .head) (r .body) n) answers.nothing)))) (no-mark (r .head .window) n l h)
+
+said-mark : (r : Reader) (n : ℕ) (x : rows.Outcome) → isSaid (call x (given (feedOf r n longest)) .output) ≡ true → AtMark (feedOf r n longest .reader)
+unfolding rows.takeOf takeOutcome takeHead isBrokenLine
+said-mark r n x = go (feeding r n longest)
+  where
+    w : ℕ
+    w = slide (r .head .window) n
+
+    by : (b : Bool) → isSaid (call x (given (took (taking r n .reader) (cond b (marked-outcome (r .head) (r .body) n) answers.nothing))) .output) ≡ true
+        → cond b (opened (r .head) (w % 256)) (shifted (r .head) n) .window < 256
+    by true e = omega arith
+    by false e = absurd (true≢false (sym e))
+
+    go : {t : Took} → Feeding r n longest t → isSaid (call x (given t) .output) ≡ true → AtMark (t .reader)
+    go (feed-state q) e = absurd (true≢false (sym e))
+    go (feed-nibble q) e = absurd (true≢false (sym e))
+    go (feed-room q) e = absurd (true≢false (sym e))
+    go (feed-taken h) e = by (isMark w) e
+
+-- What is sought, as the gatherer's calls.
+
+-- where an answer was handed over: it stops, or goes on
+abbrev stopIf : Bool → Reader → rows.Outcome → List ℕ → Sought
+stopIf b r x w = cond b (sought r x w) (seek r (x .gatherer) (x .buffer) w)
+
+-- the nibbles taken, and those left; what is said with the last one taken, and the reader then
+pub record Seeks (r : Reader) (g : Gatherer) (held w : List ℕ) : Type 0 where
+  pub upTo : List ℕ
+  pub splits : w ≡ upTo ++ seek r g held w .left
+  pub outcome-is : seek r g held w .outcome ≡ calls (quiet g held) (givens r upTo)
+  pub reader-is : seek r g held w .reader ≡ fedAll r upTo
+  pub marked : isSaid (seek r g held w .outcome .output) ≡ true → AtMark (seek r g held w .reader)
+
+pub seeks : (w : List ℕ) (r : Reader) (g : Gatherer) (held : List ℕ) → Seeks r g held w
+seeks [] r g held = record { upTo = []; splits = refl; outcome-is = refl; reader-is = refl; marked = λ e. absurd (true≢false (sym e)) }
+seeks (n ∷ w) r g held = by (isSaid (x .output)) refl (seeks w (t .reader) (x .gatherer) (x .buffer))
+  where
+    t : Took
+    t = feedOf r n longest
+
+    x : rows.Outcome
+    x = call (quiet g held) (given t)
+
+    either : Bool → Sought
+    either b = stopIf b (t .reader) x w
+
+    by : (b : Bool) → isSaid (x .output) ≡ b → Seeks (t .reader) (x .gatherer) (x .buffer) w → Seeks r g held (n ∷ w)
+    by true e k =
+        let q : either true ≡ seek r g held (n ∷ w) = ap either (sym e) in
+        record {
+          upTo = n ∷ [];
+          splits = ap (λ (s : Sought). n ∷ s .left) q;
+          outcome-is = sym (ap (λ (s : Sought). s .outcome) q);
+          reader-is = sym (ap (λ (s : Sought). s .reader) q);
+          marked = λ _. subst (λ (s : Sought). AtMark (s .reader)) q (said-mark r n (quiet g held) e);
+        }
+    by false e k =
+        let q : either false ≡ seek r g held (n ∷ w) = ap either (sym e) in
+        let still : quiet (x .gatherer) (x .buffer) ≡ x =
+        ap (λ (o : Output). record { gatherer = x .gatherer; output = o; buffer = x .buffer }) (sym (not-said (x .output) e)) in
+        record {
+          upTo = n ∷ k .upTo;
+          splits = ap (λ (v : List ℕ). n ∷ v) (k .splits) ∙ ap (λ (s : Sought). n ∷ (k .upTo ++ s .left)) q;
+          outcome-is =
+              sym (ap (λ (s : Sought). s .outcome) q) ∙ k .outcome-is ∙ ap (λ (y : rows.Outcome). calls y (givens (t .reader) (k .upTo))) still;
+          reader-is = sym (ap (λ (s : Sought). s .reader) q) ∙ k .reader-is;
+          marked = λ f. subst (λ (s : Sought). AtMark (s .reader)) q (k .marked (ap (λ (s : Sought). isSaid (s .outcome .output)) q ∙ f));
+        }
+
+-- Nibbles, and nibbles after them.
+
+-- what is sought in nibbles with more after them
+abbrev pub andThen : Sought → List ℕ → Sought
+andThen s w = cond (isSaid (s .outcome .output)) (sought (s .reader) (s .outcome) (s .left ++ w)) (seek (s .reader) (s .outcome .gatherer) (s .outcome .buffer) w)
+
+pub seek-append : (v : List ℕ) (r : Reader) (g : Gatherer) (held w : List ℕ) → seek r g held (v ++ w) ≡ andThen (seek r g held v) w
+seek-append [] r g held w = refl
+seek-append (n ∷ v) r g held w = by (isSaid (x .output)) refl (seek-append v (t .reader) (x .gatherer) (x .buffer) w)
+  where
+    t : Took
+    t = feedOf r n longest
+
+    x : rows.Outcome
+    x = call (quiet g held) (given t)
+
+    by : (b : Bool) → isSaid (x .output) ≡ b → seek (t .reader) (x .gatherer) (x .buffer) (v ++ w) ≡ andThen (seek (t .reader) (x .gatherer) (x .buffer) v) w
+        → stopIf b (t .reader) x (v ++ w) ≡ andThen (stopIf b (t .reader) x v) w
+    by true e h = sym (ap (λ (b : Bool). cond b (sought (t .reader) x (v ++ w)) (seek (t .reader) (x .gatherer) (x .buffer) w)) e)
+    by false e h = h
+
+pub left-none : (w : List ℕ) (r : Reader) (g : Gatherer) (held : List ℕ) → isSaid (seek r g held w .outcome .output) ≡ false → seek r g held w .left ≡ []
+left-none [] r g held e = refl
+left-none (n ∷ w) r g held f = by (isSaid (x .output)) refl (left-none w (t .reader) (x .gatherer) (x .buffer)) f
+  where
+    t : Took
+    t = feedOf r n longest
+
+    x : rows.Outcome
+    x = call (quiet g held) (given t)
+
+    either : Bool → Sought
+    either b = stopIf b (t .reader) x w
+
+    by : (b : Bool) → isSaid (x .output) ≡ b
+        → (isSaid (seek (t .reader) (x .gatherer) (x .buffer) w .outcome .output) ≡ false → seek (t .reader) (x .gatherer) (x .buffer) w .left ≡ [])
+        → isSaid (either b .outcome .output) ≡ false → either b .left ≡ []
+    by true e h d = absurd (true≢false (sym e ∙ d))
+    by false e h d = h d
+
+pub left-few : (r : Reader) (g : Gatherer) (held w : List ℕ) → length (seek r g held w .left) ≤ length w
+left-few r g held w = let k = seeks w r g held in omega (arith, ap length (k .splits), length-append (k .upTo) (seek r g held w .left))
+
+-- What complete says is the length of its rows.
+
+abbrev pub Sized : Output → Type 0
+Sized nothing = Unit {0}
+Sized (complete n w) = length w ≡ n
+Sized (refused n) = Unit {0}
+
+either-sized : (b : Bool) (x y : rows.Outcome) → (b ≡ true → Sized (x .output)) → Sized (y .output) → Sized (cond b x y .output)
+either-sized true x y h g = h refl
+either-sized false x y h g = g
+
+handed-sized : (g : Gatherer) (l : Shown) (held : List ℕ) → Sized (rows.handed g l held .output)
+unfolding rows.handed rows.onward rows.keepRow rows.completed rows.refusedBy
+handed-sized g l held = by (called (g .judge) (l .given) .verdict)
+  where
+    j : Judge
+    j = called (g .judge) (l .given) .judge
+
+    by : (v : Verdict) → Sized (rows.byVerdict g l held j v .output)
+    by verdict.Waiting = tt
+    by verdict.Going =
+        either-sized (isVisible (l .given .kind)) (rows.keepRow g j (l .body) held) (quiet (rows.moved g j (g .kept)) held)
+        (λ _. either-sized (eqb (length (l .body)) longest && leb (g .kept + longest) (length held)) _ (rows.refuses g noRoom held) (λ _. tt) tt) tt
+    by verdict.Complete =
+        either-sized (leb (g .kept) (length held)) (record { gatherer = rows.moved g j 0; output = complete (g .kept) (take (g .kept) held); buffer = held }) (rows.refuses g noRoom held)
+        (λ e. length-take-le (g .kept) held (leb-true _ _ e)) tt
+    by (verdict.Refused n) = either-sized (breaksFrame n) (quiet (rows.moved g j 0) held) (rows.refuses g n held) (λ _. tt) tt
+
+call-sized : (x : rows.Outcome) (a : Given) → Sized (call x a .output)
+call-sized x a = by (shown (handedOver (a .answer)) (a .held)) (call x a) (hands x a)
+  where
+    by : (ls : List Shown) (y : rows.Outcome) → Hands x ls y → Sized (y .output)
+    by _ _ none = tt
+    by _ _ (one l) = handed-sized (x .gatherer) l (x .buffer)
+
+pub seek-sized : (w : List ℕ) (r : Reader) (g : Gatherer) (held : List ℕ) → Sized (seek r g held w .outcome .output)
+seek-sized [] r g held = tt
+seek-sized (n ∷ w) r g held = by (isSaid (x .output)) (seek-sized w (t .reader) (x .gatherer) (x .buffer))
+  where
+    t : Took
+    t = feedOf r n longest
+
+    x : rows.Outcome
+    x = call (quiet g held) (given t)
+
+    by : (b : Bool) → Sized (seek (t .reader) (x .gatherer) (x .buffer) w .outcome .output)
+        → Sized (stopIf b (t .reader) x w .outcome .output)
+    by true h = call-sized (quiet g held) (given t)
+    by false h = h
