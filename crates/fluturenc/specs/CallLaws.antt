@@ -18,7 +18,7 @@ use Rattle.profile.specs.declared.Profile.the-variants.{VV5404, VV5300}
 use Rattle.profile.specs.Profile.{profileNumber, profileNumbered, bodyLength, longest}
 use Rattle.stream.specs.declared.LineFacts.{LineFacts}
 use Rattle.stream.specs.declared.Answer.the-variants as answers
-use Rattle.stream.specs.Answers.{refused, answerFor}
+use Rattle.stream.specs.Answers.{eitherRepaired, refused, answerFor}
 use Rattle.mark_answer.specs.Kept.{topPlace, bodyAt}
 use Rattle.reader.specs.declared.Reader.{Reader}
 use Rattle.reader.specs.Reader.{Took, passes, freshReader, taking, finishOf, leaveBody}
@@ -214,11 +214,11 @@ bit-small true = omega arith
 bit-small false = omega arith
 
 pub line-told : (f : LineFacts) → f .number < 0x10000
-    → (answerNumber (answers.Line f) / 0x1000000 ≡ 1) × (answerNumber (answers.Line f) / 0x80000 % 2 ≡ bitOf (f .repaired))
+    → (answerNumber (answers.Line f) / 0x1000000 ≡ 1) × (answerNumber (answers.Line f) / 0x80000 % 2 ≡ bitOf (eitherRepaired f))
     × (answerNumber (answers.Line f) / 0x10000 % 8 ≡ kindNumber (f .kind)) × (answerNumber (answers.Line f) % 0x10000 ≡ f .number)
 line-told f h =
     let k = kind-small (f .kind) in
-    let b = bit-small (f .repaired) in
+    let b = bit-small (eitherRepaired f) in
     (omega arith, omega arith, omega arith, omega arith)
 
 pub gap-told : (a b : ℕ) → a < 0x100 → b < 0x100

@@ -11,7 +11,7 @@ use Rattle.profile.specs.declared.Numbered.the-variants as numbered
 use Rattle.profile.specs.Profile.{profileNumbered}
 use Rattle.stream.specs.declared.Answer.{Answer}
 use Rattle.stream.specs.declared.Answer.the-variants as answers
-use Rattle.stream.specs.Answers.{refused, answerFor, bufferAfter}
+use Rattle.stream.specs.Answers.{eitherRepaired, refused, answerFor, bufferAfter}
 use Rattle.reader.specs.Reader.{freshReader, finishOf}
 use Rattle.reader.specs.Run.{Ran, ran, runOf}
 use Rattle.writer.specs.Writer as writer
@@ -29,7 +29,7 @@ use Rattle.fluturenc.specs.State.{stateLength, bitOf, stored, holdsReade
 
 abbrev pub answerNumber : Answer → ℕ
 answerNumber answers.Nothing = 0
-answerNumber (answers.Line f) = 0x1000000 + 0x80000 * bitOf (f .repaired) + 0x10000 * kindNumber (f .kind) + f .number
+answerNumber (answers.Line f) = 0x1000000 + 0x80000 * bitOf (eitherRepaired f) + 0x10000 * kindNumber (f .kind) + f .number
 answerNumber (answers.Gap a b) = 0x2000000 + 0x100 * a + b
 answerNumber (answers.Refused n) = n
 

@@ -167,7 +167,10 @@ fn answer_number(answer: Answer) -> u32
         Answer::Nothing => 0,
         Answer::Line(f) => {
             let kind = f.kind;
-            LINE + REPAIRED * bit(f.repaired) as u32 + KIND * kind.number() as u32 + f.number as u32
+            LINE
+                + REPAIRED * bit(f.is_repaired()) as u32
+                + KIND * kind.number() as u32
+                + f.number as u32
         }
         Answer::Gap(first, second) => GAP + 256 * first as u32 + second as u32,
         Answer::Refused(n) => n as u32,

@@ -53,11 +53,11 @@ GivenLaid o = Every Laid (shown (handedOver (answerFor o)) (bufferAfter o blank)
 
 sound-laid : {o : Outcome} → Sound VV5404 o → GivenLaid o
 sound-laid sound-nothing = tt
-sound-laid (sound-line {k} {n} {r} {body} f) = (
+sound-laid (sound-line {f} {body} h) = (
   λ e.
       subst (λ (b : List ℕ). fits (rules VV5404 VL) b ≡ true)
-      (sym (take-at body (drop (length body) blank) longest (fits-length (rules VV5404 k) body f ∙ rules-length VV5404 k)))
-      (kind-laid k body f e),
+      (sym (take-at body (drop (length body) blank) longest (fits-length (rules VV5404 (f .kind)) body h ∙ rules-length VV5404 (f .kind))))
+      (kind-laid (f .kind) body h e),
   tt,
 )
 sound-laid sound-gap = tt

@@ -8,8 +8,10 @@ use Rattle.line_code.specs.declared.Kind.{Kind}
 use Rattle.line_code.specs.declared.Kind.the-variants.{BL, BK, VL, SOF, EOF}
 use Rattle.line_code.specs.declared.Meaning.{Meaning}
 use Rattle.line_code.specs.declared.Meaning.the-variants.{EndOfLine, Line, ReservedEC, ReservedF1}
+use Rattle.line_code.specs.declared.Repair.{Repair}
+use Rattle.line_code.specs.declared.Repair.the-variants.{Clean, OneBit}
 use Rattle.line_code.specs.declared.Reading.{Reading}
-use Rattle.line_code.specs.declared.Reading.the-variants.{Clean, Repaired, Damaged}
+use Rattle.line_code.specs.declared.Reading.the-variants.{Says, Damaged}
 use Rattle.line_code.specs.declared.LineKind.{LineKind}
 use Rattle.line_code.specs.declared.LineKind.the-variants.{NotLine, LineOf}
 
@@ -84,11 +86,11 @@ cleanByte m =
 -- repaired to a clean byte that differs in one of the n lowest bits, or damaged
 abbrev pub repairedIn : ℕ → ℕ → Reading
 repairedIn zero b = Damaged
-repairedIn (suc n) b = cond (clean (flipped b n)) (Repaired (meaningOf (codeBits (flipped b n)))) (repairedIn n b)
+repairedIn (suc n) b = cond (clean (flipped b n)) (Says (meaningOf (codeBits (flipped b n))) OneBit) (repairedIn n b)
 
 -- the reading of a byte: clean, or repaired in one of its low seven bits, or damaged
 unfoldable pub readingOf : ℕ → Reading
-readingOf b = cond (clean b) (Clean (meaningOf (codeBits b))) (cond (topBit b) (repairedIn 7 b) Damaged)
+readingOf b = cond (clean b) (Says (meaningOf (codeBits b)) Clean) (cond (topBit b) (repairedIn 7 b) Damaged)
 
 -- the line kind that a meaning names
 abbrev pub kindMeant : Meaning → LineKind
@@ -99,8 +101,7 @@ kindMeant ReservedF1 = NotLine
 
 -- the line kind of a clean or repaired code
 abbrev pub kindOf : Reading → LineKind
-kindOf (Clean m) = kindMeant m
-kindOf (Repaired m) = kindMeant m
+kindOf (Says m r) = kindMeant m
 kindOf Damaged = NotLine
 
 abbrev pub endMeant : Meaning → Bool
@@ -111,32 +112,38 @@ endMeant ReservedF1 = false
 
 -- end of line, clean or repaired
 abbrev pub isEnd : Reading → Bool
-isEnd (Clean m) = endMeant m
-isEnd (Repaired m) = endMeant m
+isEnd (Says m r) = endMeant m
 isEnd Damaged = false
 
-abbrev pub isRepaired : Reading → Bool
-isRepaired (Clean m) = false
-isRepaired (Repaired m) = true
-isRepaired Damaged = false
+-- what was repaired: of a damaged code nothing
+abbrev pub repairOf : Reading → Repair
+repairOf (Says m r) = r
+repairOf Damaged = Clean
+
+-- a bit was repaired
+abbrev pub isBit : Repair → Bool
+isBit Clean = false
+isBit OneBit = true
 
 abbrev pub isClean : Reading → Bool
-isClean (Clean m) = true
-isClean (Repaired m) = false
+isClean (Says m Clean) = true
+isClean (Says m OneBit) = false
 isClean Damaged = false
 
+abbrev pub isRepaired : Reading → Bool
+isRepaired r = isBit (repairOf r)
+
 abbrev pub isDamaged : Reading → Bool
-isDamaged (Clean m) = false
-isDamaged (Repaired m) = false
+isDamaged (Says m r) = false
 isDamaged Damaged = true
 
 -- A reading as a number, and back: what the program's table holds.
 
 -- 0 to 7 a clean code, 8 to 15 a repaired one, 16 damaged
 abbrev pub readingNumber : Reading → ℕ
-readingNumber (Clean m) = codeOf m
-readingNumber (Repaired m) = 8 + codeOf m
+readingNumber (Says m Clean) = codeOf m
+readingNumber (Says m OneBit) = 8 + codeOf m
 readingNumber Damaged = 16
 
 unfoldable pub readingNumbered : ℕ → Reading
-readingNumbered n = cond (ltb n 8) (Clean (meaningOf n)) (cond (ltb n 16) (Repaired (meaningOf (n - 8))) Damaged)
+readingNumbered n = cond (ltb n 8) (Says (meaningOf n) Clean) (cond (ltb n 16) (Says (meaningOf (n - 8)) OneBit) Damaged)

@@ -12,8 +12,10 @@ use Rattle.line_code.specs.declared.Kind.{Kind}
 use Rattle.line_code.specs.declared.Kind.the-variants.{BL, BK, VL, SOF, EOF}
 use Rattle.line_code.specs.declared.Meaning.{Meaning}
 use Rattle.line_code.specs.declared.Meaning.the-variants.{EndOfLine, Line, ReservedEC, ReservedF1}
+use Rattle.line_code.specs.declared.Repair.{Repair}
+use Rattle.line_code.specs.declared.Repair.the-variants.{Clean, OneBit}
 use Rattle.line_code.specs.declared.Reading.{Reading}
-use Rattle.line_code.specs.declared.Reading.the-variants.{Clean, Repaired, Damaged}
+use Rattle.line_code.specs.declared.Reading.the-variants.{Says, Damaged}
 use Rattle.line_code.specs.declared.LineKind.{LineKind}
 use Rattle.line_code.specs.declared.LineKind.the-variants.{NotLine, LineOf}
 use Rattle.line_code.specs.LineCode.{kindNumber, kindNumbered, codeOf, reservedOf, meaningOf, meanings, topBit, cleanByte, readingOf, readingNumber, readingNumbered, kindOf, isEnd, isClean, isRepaired, isDamaged}
@@ -55,8 +57,8 @@ at-each f h m = subst (λ (x : Meaning). f x ≡ true) (meaning-code m) (each (�
 
 pub number-back : (r : Reading) → readingNumbered (readingNumber r) ≡ r
 unfolding readingNumbered
-number-back (Clean m) = simp (lt-ltb (codeOf m) 8 (code-small m), meaning-code m)
-number-back (Repaired m) =
+number-back (Says m Clean) = simp (lt-ltb (codeOf m) 8 (code-small m), meaning-code m)
+number-back (Says m OneBit) =
     let s = code-small m in
     let e : 8 + codeOf m - 8 ≡ codeOf m = omega arith in
     simp (le-ltb (8 + codeOf m) 8 (omega arith), lt-ltb (8 + codeOf m) 16 (omega arith), e, meaning-code m)
@@ -92,45 +94,45 @@ unfolding cleanByte
 clean-table = (refl, refl, refl, refl, refl, refl, refl, refl)
 
 abbrev cleanTest : ℕ → Meaning → Bool
-cleanTest b m = Bool·beq (same (readingOf b) (Clean m)) (eqb b (cleanByte m))
+cleanTest b m = Bool·beq (same (readingOf b) (Says m Clean)) (eqb b (cleanByte m))
 
-clean-test : (b : ℕ) (m : Meaning) → b < 256 → same (readingOf b) (Clean m) ≡ eqb b (cleanByte m)
+clean-test : (b : ℕ) (m : Meaning) → b < 256 → same (readingOf b) (Says m Clean) ≡ eqb b (cleanByte m)
 unfolding cleanByte readingOf meaningOf kindNumbered reservedOf
 clean-test b m h =
-    agree (same (readingOf b) (Clean m)) (eqb b (cleanByte m))
+    agree (same (readingOf b) (Says m Clean)) (eqb b (cleanByte m))
     (at-each (cleanTest b) (each (λ (n : ℕ). atAll (cleanTest n)) 256 refl b h) m)
 
 -- a byte reads clean with a meaning exactly if it is that meaning's clean byte
-pub clean-is : (b : ℕ) (m : Meaning) → b < 256 → readingOf b ≡ Clean m → b ≡ cleanByte m
-clean-is b m h e = eqb-true b (cleanByte m) (sym (clean-test b m h) ∙ eq-same (readingOf b) (Clean m) e)
+pub clean-is : (b : ℕ) (m : Meaning) → b < 256 → readingOf b ≡ Says m Clean → b ≡ cleanByte m
+clean-is b m h e = eqb-true b (cleanByte m) (sym (clean-test b m h) ∙ eq-same (readingOf b) (Says m Clean) e)
 
 clean-small : (m : Meaning) → ltb (cleanByte m) 256 ≡ true
 unfolding cleanByte meaningOf kindNumbered reservedOf
 clean-small = at-each (λ (m : Meaning). ltb (cleanByte m) 256) refl
 
-pub clean-reading : (m : Meaning) → readingOf (cleanByte m) ≡ Clean m
+pub clean-reading : (m : Meaning) → readingOf (cleanByte m) ≡ Says m Clean
 clean-reading m =
-    same-eq (readingOf (cleanByte m)) (Clean m)
+    same-eq (readingOf (cleanByte m)) (Says m Clean)
     (clean-test (cleanByte m) m (ltb-true (cleanByte m) 256 (clean-small m)) ∙ eq-eqb (cleanByte m) (cleanByte m) refl)
 
 abbrev repairedTest : ℕ → Meaning → Bool
-repairedTest b m = Bool·beq (same (readingOf b) (Repaired m)) (topBit b && eqb (differ 7 b (cleanByte m)) 1)
+repairedTest b m = Bool·beq (same (readingOf b) (Says m OneBit)) (topBit b && eqb (differ 7 b (cleanByte m)) 1)
 
-repaired-test : (b : ℕ) (m : Meaning) → b < 256 → same (readingOf b) (Repaired m) ≡ (topBit b && eqb (differ 7 b (cleanByte m)) 1)
+repaired-test : (b : ℕ) (m : Meaning) → b < 256 → same (readingOf b) (Says m OneBit) ≡ (topBit b && eqb (differ 7 b (cleanByte m)) 1)
 unfolding cleanByte readingOf meaningOf kindNumbered reservedOf
 repaired-test b m h =
-    agree (same (readingOf b) (Repaired m)) (topBit b && eqb (differ 7 b (cleanByte m)) 1)
+    agree (same (readingOf b) (Says m OneBit)) (topBit b && eqb (differ 7 b (cleanByte m)) 1)
     (at-each (repairedTest b) (each (λ (n : ℕ). atAll (repairedTest n)) 256 refl b h) m)
 
 -- a byte is repaired to a clean byte exactly if its top bit is 1 and it differs from it in one of its low seven bits
-pub repaired-is : (b : ℕ) (m : Meaning) → b < 256 → readingOf b ≡ Repaired m → (topBit b ≡ true) × (differ 7 b (cleanByte m) ≡ 1)
+pub repaired-is : (b : ℕ) (m : Meaning) → b < 256 → readingOf b ≡ Says m OneBit → (topBit b ≡ true) × (differ 7 b (cleanByte m) ≡ 1)
 repaired-is b m h e =
-    let t : (topBit b && eqb (differ 7 b (cleanByte m)) 1) ≡ true = sym (repaired-test b m h) ∙ eq-same (readingOf b) (Repaired m) e in
+    let t : (topBit b && eqb (differ 7 b (cleanByte m)) 1) ≡ true = sym (repaired-test b m h) ∙ eq-same (readingOf b) (Says m OneBit) e in
     (and-left (topBit b) _ t, eqb-true (differ 7 b (cleanByte m)) 1 (and-right (topBit b) _ t))
 
-pub repaired-reading : (b : ℕ) (m : Meaning) → b < 256 → topBit b ≡ true → differ 7 b (cleanByte m) ≡ 1 → readingOf b ≡ Repaired m
+pub repaired-reading : (b : ℕ) (m : Meaning) → b < 256 → topBit b ≡ true → differ 7 b (cleanByte m) ≡ 1 → readingOf b ≡ Says m OneBit
 repaired-reading b m h t d =
-    same-eq (readingOf b) (Repaired m)
+    same-eq (readingOf b) (Says m OneBit)
     (repaired-test b m h ∙ and-both (topBit b) _ t (eq-eqb (differ 7 b (cleanByte m)) 1 d))
 
 -- of 256 there are 8 clean, 56 repaired, 192 damaged
@@ -141,13 +143,13 @@ counts = (refl, refl, refl)
 -- Demand 2: flipped bits.
 
 abbrev mended : Meaning → ℕ → Bool
-mended m i = same (readingOf (flipped (cleanByte m) i)) (Repaired m)
+mended m i = same (readingOf (flipped (cleanByte m) i)) (Says m OneBit)
 
 -- any one of the low seven bits of a clean byte flipped is read as the same meaning, repaired
-pub one-flip : (m : Meaning) (i : ℕ) → i < 7 → readingOf (flipped (cleanByte m) i) ≡ Repaired m
+pub one-flip : (m : Meaning) (i : ℕ) → i < 7 → readingOf (flipped (cleanByte m) i) ≡ Says m OneBit
 unfolding cleanByte readingOf meaningOf kindNumbered reservedOf
 one-flip m i h =
-    same-eq (readingOf (flipped (cleanByte m) i)) (Repaired m)
+    same-eq (readingOf (flipped (cleanByte m) i)) (Says m OneBit)
     (each (mended m) 7 (at-each (λ (x : Meaning). every (mended x) 7) refl m) i h)
 
 abbrev noLine : LineKind → Bool
@@ -177,7 +179,7 @@ two-flips m i j h g d =
 
 -- Codes that end in F.
 
-damaged-far : (b : ℕ) → 256 ≤ b → readingOf b ≡ Damaged
+pub damaged-far : (b : ℕ) → 256 ≤ b → readingOf b ≡ Damaged
 unfolding readingOf
 damaged-far b h = simp (ne-eqb (b / 128) 1 (λ e. omega arith))
 

@@ -3,7 +3,7 @@
 // In: the byte after a mark's F F F F 0 0. Out: how it reads: one of eight meanings, clean or with one of its low seven bits
 // repaired, or damaged. Every byte has a reading, so nothing is refused here. Cost: a few operations, no loop.
 ghost use mathlib.Core.Path.{_≡_};
-ghost use Rattle.line_code.specs.LineCode.{meaningOf, reservedOf, kindMeant, endMeant, cleanByte, readingOf, readingNumbered, kindOf, isEnd, isRepaired, kindNumber, kindNumbered};
+ghost use Rattle.line_code.specs.LineCode.{meaningOf, reservedOf, kindMeant, endMeant, cleanByte, readingOf, readingNumbered, kindOf, isEnd, repairOf, isBit, kindNumber, kindNumbered};
 ghost use Rattle.line_code.specs.declared.Meaning.the-variants.{Line};
 
 // The line kinds, numbered 1 to 5.
@@ -23,10 +23,15 @@ pub enum Meaning {
     ReservedF1,
 }
 
+// What was repaired of a code: nothing, or one of its bits.
+pub enum Repair {
+    Clean,
+    OneBit,
+}
+
 // How a code byte reads.
 pub enum Reading {
-    Clean(Meaning),
-    Repaired(Meaning),
+    Says(Meaning, Repair),
     Damaged,
 }
 
@@ -100,14 +105,25 @@ impl Meaning {
     }
 }
 
+impl Repair {
+    // Whether a bit was repaired.
+    pub fn is_bit(self) -> bool
+        ensures { λ r. ⌜ r ≡ isBit self ⌝ }
+    {
+        match self {
+            Repair::Clean => false,
+            Repair::OneBit => true,
+        }
+    }
+}
+
 impl Reading {
     // The line kind, of a clean or repaired code.
     pub fn kind(self) -> LineKind
         ensures { λ r. ⌜ r ≡ kindOf self ⌝ }
     {
         match self {
-            Reading::Clean(m) => kind_of(m),
-            Reading::Repaired(m) => kind_of(m),
+            Reading::Says(m, _) => kind_of(m),
             Reading::Damaged => LineKind::NotLine,
         }
     }
@@ -117,20 +133,18 @@ impl Reading {
         ensures { λ r. ⌜ r ≡ isEnd self ⌝ }
     {
         match self {
-            Reading::Clean(m) => says_end(m),
-            Reading::Repaired(m) => says_end(m),
+            Reading::Says(m, _) => says_end(m),
             Reading::Damaged => false,
         }
     }
 
-    // Whether a bit was repaired.
-    pub fn is_repaired(self) -> bool
-        ensures { λ r. ⌜ r ≡ isRepaired self ⌝ }
+    // What was repaired: of a damaged code nothing.
+    pub fn repair(self) -> Repair
+        ensures { λ r. ⌜ r ≡ repairOf self ⌝ }
     {
         match self {
-            Reading::Clean(_) => false,
-            Reading::Repaired(_) => true,
-            Reading::Damaged => false,
+            Reading::Says(_, repair) => repair,
+            Reading::Damaged => Repair::Clean,
         }
     }
 }
@@ -410,11 +424,11 @@ fn reading_numbered(n: u8) -> Reading
 {
     if n < 8 {
         let m = meaning_of(n);
-        return Reading::Clean(m);
+        return Reading::Says(m, Repair::Clean);
     }
     if n < 16 {
         let m = meaning_of(n - 8);
-        return Reading::Repaired(m);
+        return Reading::Says(m, Repair::OneBit);
     }
     Reading::Damaged
 }

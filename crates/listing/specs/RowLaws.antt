@@ -12,6 +12,7 @@ use Rattle.line_code.specs.declared.Kind.the-variants.{BL, BK, VL, SOF, EOF}
 use Rattle.stream.specs.declared.LineFacts.{LineFacts}
 use Rattle.stream.specs.declared.Answer.{Answer}
 use Rattle.stream.specs.declared.Answer.the-variants.{Nothing, Line, Gap, Refused}
+use Rattle.stream.specs.Answers.{eitherRepaired}
 use Rattle.listing.specs.Rows.{digit, digits, decimal, kindWord, noteWord, lineWords, refusedWords, rowOf, rowRoom, ifRoom}
 
 pub no-digits : (k n : ℕ) → k ≡ 0 → digits k n ≡ []
@@ -52,7 +53,7 @@ note-short false = omega arith
 
 pub line-short : (f : LineFacts) → length (lineWords f) ≤ 33
 unfolding lineWords
-line-short f = simp length-append (omega (arith, kind-short (f .kind), decimal-short (f .number), note-short (f .repaired)))
+line-short f = simp length-append (omega (arith, kind-short (f .kind), decimal-short (f .number), note-short (eitherRepaired f)))
 
 -- no row is longer than the room that is asked for it
 pub row-short : (mark : ℕ) (a : Answer) → length (rowOf mark a) ≤ rowRoom

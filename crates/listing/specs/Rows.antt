@@ -9,6 +9,7 @@ use Rattle.line_code.specs.declared.Kind.the-variants.{BL, BK, VL, SOF, EOF}
 use Rattle.stream.specs.declared.LineFacts.{LineFacts}
 use Rattle.stream.specs.declared.Answer.{Answer}
 use Rattle.stream.specs.declared.Answer.the-variants.{Nothing, Line, Gap, Refused}
+use Rattle.stream.specs.Answers.{eitherRepaired}
 
 -- Words, in ASCII.
 
@@ -60,7 +61,7 @@ decimal n = digits 20 n
 
 -- what a row says of a line: kind, number, note
 unfoldable pub lineWords : LineFacts → List ℕ
-lineWords f = kindWord (f .kind) ++ (space ∷ (decimal (f .number) ++ (space ∷ noteWord (f .repaired))))
+lineWords f = kindWord (f .kind) ++ (space ∷ (decimal (f .number) ++ (space ∷ noteWord (eitherRepaired f))))
 
 -- REFUSED - and the number
 unfoldable pub refusedWords : ℕ → List ℕ

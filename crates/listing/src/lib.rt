@@ -84,7 +84,7 @@ fn put_line(facts: LineFacts, out: &mut [u8], at: usize) -> usize
     let at = put(b" ", out, at);
     let at = put_decimal(facts.number as u64, out, at);
     let at = put(b" ", out, at);
-    put_note(facts.repaired, out, at)
+    put_note(facts.is_repaired(), out, at)
 }
 
 fn put_kind(kind: Kind, out: &mut [u8], at: usize) -> usize

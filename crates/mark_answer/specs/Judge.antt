@@ -1,5 +1,5 @@
 -- The answer of a mark, from its text's length and what is kept of it: as Answers.antt has it from the text itself.
-use mathlib.Core.Bool.{Bool, true, false, _&&_, _||_, not}
+use mathlib.Core.Bool.{_&&_, not}
 use mathlib.Core.List.{List}
 use mathlib.Core.Option.{Option, none, some}
 use Prim.Native.Nat.{ℕ, _+_, _*_}
@@ -10,10 +10,11 @@ use Rattle.line_code.specs.declared.Kind.{Kind}
 use Rattle.line_code.specs.declared.Meaning.{Meaning}
 use Rattle.line_code.specs.declared.Meaning.the-variants.{EndOfLine, Line, ReservedEC, ReservedF1}
 use Rattle.line_code.specs.declared.Reading.{Reading}
-use Rattle.line_code.specs.declared.Reading.the-variants.{Clean, Repaired, Damaged}
+use Rattle.line_code.specs.declared.Reading.the-variants.{Says, Damaged}
+use Rattle.line_code.specs.declared.Repair.{Repair}
 use Rattle.line_code.specs.declared.LineKind.{LineKind}
 use Rattle.line_code.specs.declared.LineKind.the-variants.{NotLine, LineOf}
-use Rattle.line_code.specs.LineCode.{readingOf, isEnd, isRepaired}
+use Rattle.line_code.specs.LineCode.{readingOf, isEnd, repairOf}
 use Rattle.line_number.specs.LineNumber.{numberGood, numberFrom}
 use Rattle.profile.specs.declared.Profile.{Profile}
 use Rattle.profile.specs.declared.Profile.the-variants.{VV5404, VV5300}
@@ -21,18 +22,18 @@ use Rattle.profile.specs.Profile.{bodyLength, nullByte}
 use Rattle.profile.specs.Layout.{rules, fits, gapFits}
 use Rattle.stream.specs.declared.Mark.{Mark}
 use Rattle.stream.specs.declared.Mark.the-variants.{NoMark, Open}
-use Rattle.stream.specs.Answers.{Outcome, nothing, line, gap, refused, require}
+use Rattle.stream.specs.Answers.{facts, Outcome, nothing, line, gap, refused, require}
 use Rattle.mark_answer.specs.declared.Kept.{Kept}
 use Rattle.mark_answer.specs.Kept.{bodyPlace}
 
 -- 6, 7 or the line
-abbrev pub judgeBody : Profile → Kind → Bool → ℕ → List ℕ → Reading → Outcome
+abbrev pub judgeBody : Profile → Kind → Repair → ℕ → List ℕ → Reading → Outcome
 judgeBody p k r n body next =
     require (fits (rules p k) (take (bodyLength p) body)) badBody
-    (require (isEnd next) noEndOfLine (line k n (r || isRepaired next) (take (bodyLength p) body)))
+    (require (isEnd next) noEndOfLine (line (facts k n r (repairOf next)) (take (bodyLength p) body)))
 
 -- 4, 5, or by the body
-abbrev pub judgeLine : Profile → Kind → Bool → ℕ → Kept → List ℕ → Reading → Outcome
+abbrev pub judgeLine : Profile → Kind → Repair → ℕ → Kept → List ℕ → Reading → Outcome
 judgeLine p k r len t body next =
     require (eqb len (2 * bodyLength p + bodyPlace)) wrongLength
     (require (numberGood (t .first) && numberGood (t .second)) badNumber (judgeBody p k r (numberFrom (t .first) (t .second)) body next))
@@ -48,7 +49,7 @@ abbrev pub judgeEnd : Profile → LineKind → ℕ → Kept → Outcome
 judgeEnd p NotLine len t = refused endWithoutLine
 judgeEnd p (LineOf k) len t = judgeGap p k len t
 
-abbrev pub judgeMeaning : Profile → LineKind → Meaning → Bool → ℕ → Kept → List ℕ → Option ℕ → Outcome
+abbrev pub judgeMeaning : Profile → LineKind → Meaning → Repair → ℕ → Kept → List ℕ → Option ℕ → Outcome
 judgeMeaning p before EndOfLine r len t body next = judgeEnd p before len t
 judgeMeaning p before (Line k) r len t body none = refused unfinishedLine
 judgeMeaning p before (Line k) r len t body (some next) = judgeLine p k r len t body (readingOf next)
@@ -56,8 +57,7 @@ judgeMeaning p before ReservedEC r len t body next = refused reservedCode
 judgeMeaning p before ReservedF1 r len t body next = refused reservedCode
 
 abbrev pub judgeReading : Profile → LineKind → Reading → ℕ → Kept → List ℕ → Option ℕ → Outcome
-judgeReading p before (Clean m) len t body next = judgeMeaning p before m false len t body next
-judgeReading p before (Repaired m) len t body next = judgeMeaning p before m true len t body next
+judgeReading p before (Says m r) len t body next = judgeMeaning p before m r len t body next
 judgeReading p before Damaged len t body next = refused damagedCode
 
 -- the open mark's answer, if there is one; at finish no body is looked at

@@ -5,9 +5,9 @@
 ghost use mathlib.Core.Path.{_≡_};
 ghost use mathlib.Core.List.{[]};
 ghost use mathlib.Core.Option.{none, some};
-ghost use mathlib.Core.Bool.{Bool, _||_};
 ghost use Prim.Native.Nat.{_+_, _*_, _/_, _<_};
 ghost use Rattle.line_code.specs.LineCode.{readingOf};
+ghost use Rattle.line_code.specs.declared.Repair.{Repair};
 ghost use Rattle.stream.specs.Answers.{answerFor};
 ghost use Rattle.mark_answer.specs.Kept.{nothingKept, topPlace, byteAt, gapStart, strayAt, keptAt, bodyAt};
 ghost use Rattle.mark_answer.specs.Judge.{judgeBody, judgeLine, judgeGap, judgeEnd, judgeMeaning, judge};
@@ -15,6 +15,7 @@ use line_code::Kind;
 use line_code::LineKind;
 use line_code::Meaning;
 use line_code::Reading;
+use line_code::Repair;
 use line_number::Decoded;
 use profile::Profile;
 use stream::Answer;
@@ -109,21 +110,11 @@ pub fn at_mark(
         Mark::Open(before, code) => {
             let reading = line_code::read(code);
             match reading {
-                Reading::Clean(m) => meaning_answer(
+                Reading::Says(m, repair) => meaning_answer(
                     profile,
                     before,
                     m,
-                    false,
-                    length,
-                    kept,
-                    body,
-                    next,
-                ),
-                Reading::Repaired(m) => meaning_answer(
-                    profile,
-                    before,
-                    m,
-                    true,
+                    repair,
                     length,
                     kept,
                     body,
@@ -144,8 +135,7 @@ pub fn at_finish(profile: Profile, mark: Mark, length: u32, kept: Kept) -> Answe
         Mark::Open(before, code) => {
             let reading = line_code::read(code);
             match reading {
-                Reading::Clean(m) => last_answer(profile, before, m, length, kept),
-                Reading::Repaired(m) => last_answer(profile, before, m, length, kept),
+                Reading::Says(m, _) => last_answer(profile, before, m, length, kept),
                 Reading::Damaged => Answer::Refused(refusal::DAMAGED_CODE),
             }
         }
@@ -200,24 +190,24 @@ fn meaning_answer(
     profile: Profile,
     before: LineKind,
     m: Meaning,
-    repaired: bool,
+    start: Repair,
     length: u32,
     kept: Kept,
     body: &[u8],
     next: u8,
 ) -> Answer
-    ensures { λ r. ⌜ r ≡ answerFor (judgeMeaning profile before m repaired length kept (now (body .entry)) (some next)) ⌝ }
+    ensures { λ r. ⌜ r ≡ answerFor (judgeMeaning profile before m start length kept (now (body .entry)) (some next)) ⌝ }
 {
     match m {
         Meaning::EndOfLine => end_answer(profile, before, length, kept),
-        Meaning::Line(kind) => line_answer(profile, kind, repaired, length, kept, body, next),
+        Meaning::Line(kind) => line_answer(profile, kind, start, length, kept, body, next),
         Meaning::ReservedEC => Answer::Refused(refusal::RESERVED_CODE),
         Meaning::ReservedF1 => Answer::Refused(refusal::RESERVED_CODE),
     }
 }
 
 fn last_answer(profile: Profile, before: LineKind, m: Meaning, length: u32, kept: Kept) -> Answer
-    ensures { λ r. ⌜ ((repaired : Bool) → r ≡ answerFor (judgeMeaning profile before m repaired length kept [] none)) ⌝ }
+    ensures { λ r. ⌜ ((start : Repair) → r ≡ answerFor (judgeMeaning profile before m start length kept [] none)) ⌝ }
 {
     match m {
         Meaning::EndOfLine => end_answer(profile, before, length, kept),
@@ -264,19 +254,19 @@ fn gap_answer(profile: Profile, kind: Kind, length: u32, kept: Kept) -> Answer
 fn line_answer(
     profile: Profile,
     kind: Kind,
-    repaired: bool,
+    start: Repair,
     length: u32,
     kept: Kept,
     body: &[u8],
     next: u8,
 ) -> Answer
-    ensures { λ r. ⌜ r ≡ answerFor (judgeLine profile kind repaired length kept (now (body .entry)) (readingOf next)) ⌝ }
+    ensures { λ r. ⌜ r ≡ answerFor (judgeLine profile kind start length kept (now (body .entry)) (readingOf next)) ⌝ }
 {
     let wanted = 2 * profile.body_length() + BODY_PLACE as usize;
     if length as usize == wanted {
         let d = line_number::decode(kept.first, kept.second);
         return match d {
-            Decoded::Number(number) => body_answer(profile, kind, repaired, number, body, next),
+            Decoded::Number(number) => body_answer(profile, kind, start, number, body, next),
             Decoded::Bad => Answer::Refused(refusal::BAD_NUMBER),
         };
     }
@@ -287,12 +277,12 @@ fn line_answer(
 fn body_answer(
     profile: Profile,
     kind: Kind,
-    repaired: bool,
+    start: Repair,
     number: u16,
     body: &[u8],
     next: u8,
 ) -> Answer
-    ensures { λ r. ⌜ r ≡ answerFor (judgeBody profile kind repaired number (now (body .entry)) (readingOf next)) ⌝ }
+    ensures { λ r. ⌜ r ≡ answerFor (judgeBody profile kind start number (now (body .entry)) (readingOf next)) ⌝ }
 {
     let n = profile.body_length();
     if body.len() < n {
@@ -301,23 +291,16 @@ fn body_answer(
     if profile.body_fits(kind, &body[..n]) {
         let reading = line_code::read(next);
         if reading.is_end() {
+            let end = reading.repair();
             let facts = LineFacts {
                 kind,
                 number,
-                repaired: either(repaired, reading.is_repaired()),
+                start,
+                end,
             };
             return Answer::Line(facts);
         }
         return Answer::Refused(refusal::NO_END_OF_LINE);
     }
     Answer::Refused(refusal::BAD_BODY)
-}
-
-fn either(a: bool, b: bool) -> bool
-    ensures { λ r. ⌜ r ≡ (a || b) ⌝ }
-{
-    if a {
-        return true;
-    }
-    b
 }

@@ -21,7 +21,7 @@ use Rattle.reader.specs.Parts.{reader, ranFrom, isTold, Leads}
 
 told-outcome : (o : Outcome) → isTold (answerFor o) ≡ isAnswer o
 told-outcome nothing = refl
-told-outcome (line k n r body) = refl
+told-outcome (line f body) = refl
 told-outcome (gap a b) = refl
 told-outcome (refused n) = refl
 
@@ -30,7 +30,7 @@ answered o e f = e ∙ ap isTold f ∙ told-outcome o
 
 pub nothing-kept : (o : Outcome) (buffer : List ℕ) → isAnswer o ≡ false → bufferAfter o buffer ≡ buffer
 nothing-kept nothing buffer e = refl
-nothing-kept (line k n r body) buffer e = cc
+nothing-kept (line f body) buffer e = cc
 nothing-kept (gap a b) buffer e = refl
 nothing-kept (refused n) buffer e = refl
 

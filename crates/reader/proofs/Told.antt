@@ -1,7 +1,7 @@
 -- An answer and a list tell the outcome: before a line is handed out the reader's body, after it the lent buffer, whose front is then
 -- the line's body. That body fits its rules, so it has the profile's length.
 use mathlib.Core.Path.{_≡_, refl, _∙_, ap, sym, subst}
-use mathlib.Core.Bool.{Bool, true, false, _||_, cond}
+use mathlib.Core.Bool.{Bool, true, false, cond}
 use mathlib.Core.List.{List, [], _∷_}
 use mathlib.Core.Option.{Option, none, some}
 use Prim.Native.Nat.{ℕ, _+_, _-_, _%_}
@@ -13,18 +13,20 @@ use Rattle.line_code.specs.declared.Kind.{Kind}
 use Rattle.line_code.specs.declared.Meaning.{Meaning}
 use Rattle.line_code.specs.declared.Meaning.the-variants.{EndOfLine, Line, ReservedEC, ReservedF1}
 use Rattle.line_code.specs.declared.Reading.{Reading}
-use Rattle.line_code.specs.declared.Reading.the-variants.{Clean, Repaired, Damaged}
+use Rattle.line_code.specs.declared.Reading.the-variants.{Says, Damaged}
+use Rattle.line_code.specs.declared.Repair.{Repair}
 use Rattle.line_code.specs.declared.LineKind.{LineKind}
 use Rattle.line_code.specs.declared.LineKind.the-variants.{NotLine, LineOf}
-use Rattle.line_code.specs.LineCode.{readingOf, isRepaired}
+use Rattle.line_code.specs.LineCode.{readingOf, repairOf}
 use Rattle.profile.specs.declared.Profile.{Profile}
 use Rattle.profile.specs.declared.Profile.the-variants.{VV5404, VV5300}
 use Rattle.profile.specs.Profile.{bodyLength, nullByte}
 use Rattle.profile.specs.Layout.{rules, fits}
 use Rattle.profile.specs.LayoutLaws.{rules-length, fits-length}
+use Rattle.stream.specs.declared.LineFacts.{LineFacts}
 use Rattle.stream.specs.declared.Mark.{Mark}
 use Rattle.stream.specs.declared.Mark.the-variants.{NoMark, Open}
-use Rattle.stream.specs.Answers.{Outcome, nothing, line, gap, refused, outcomeOf, answerFor, bufferAfter, require}
+use Rattle.stream.specs.Answers.{facts, Outcome, nothing, line, gap, refused, outcomeOf, answerFor, bufferAfter, require}
 use Rattle.mark_answer.specs.declared.Kept.{Kept}
 use Rattle.mark_answer.specs.Judge.{judge, judgeReading, judgeMeaning, judgeEnd, judgeGap, judgeLine}
 use Rattle.reader.specs.declared.Head.{Head}
@@ -37,15 +39,15 @@ use Rattle.reader.specs.Parts.{completeOutcome}
 -- what holds of nothing, of refusals, of gaps and of lines whose body fits holds of every answer of a mark
 module _ (P : Outcome → Type 0) (p : Profile) (body : List ℕ) (of-nothing : P nothing) (of-refused : (n : ℕ) → P (refused n))
     (of-gap : (a b : ℕ) → P (gap a b))
-    (of-line : (k : Kind) (n : ℕ) (r : Bool) → fits (rules p k) (take (bodyLength p) body) ≡ true → P (line k n r (take (bodyLength p) body))) where
+    (of-line : (f : LineFacts) → fits (rules p (f .kind)) (take (bodyLength p) body) ≡ true → P (line f (take (bodyLength p) body))) where
   required : (t : Bool) (n : ℕ) (o : Outcome) → (t ≡ true → P o) → P (require t n o)
   unfolding require
   required true n o h = h refl
   required false n o h = of-refused n
 
-  by-line : (k : Kind) (r : Bool) (len : ℕ) (t : Kept) (next : Reading) → P (judgeLine p k r len t body next)
+  by-line : (k : Kind) (r : Repair) (len : ℕ) (t : Kept) (next : Reading) → P (judgeLine p k r len t body next)
   by-line k r len t next =
-      required _ _ _ (λ _. required _ _ _ (λ _. required _ _ _ (λ f. required _ _ _ (λ _. of-line k _ (r || isRepaired next) f))))
+      required _ _ _ (λ _. required _ _ _ (λ _. required _ _ _ (λ f. required _ _ _ (λ _. of-line (facts k _ r (repairOf next)) f))))
 
   by-gap : (q : Profile) (k : Kind) (len : ℕ) (t : Kept) → P (judgeGap q k len t)
   by-gap VV5404 k len t = required _ _ _ (λ _. of-gap nullByte nullByte)
@@ -55,7 +57,7 @@ module _ (P : Outcome → Type 0) (p : Profile) (body : List ℕ) (of-nothing : 
   by-end NotLine len t = of-refused endWithoutLine
   by-end (LineOf k) len t = by-gap p k len t
 
-  by-meaning : (before : LineKind) (m : Meaning) (r : Bool) (len : ℕ) (t : Kept) (next : Option ℕ) → P (judgeMeaning p before m r len t body next)
+  by-meaning : (before : LineKind) (m : Meaning) (r : Repair) (len : ℕ) (t : Kept) (next : Option ℕ) → P (judgeMeaning p before m r len t body next)
   by-meaning before EndOfLine r len t next = by-end before len t
   by-meaning before (Line k) r len t none = of-refused unfinishedLine
   by-meaning before (Line k) r len t (some next) = by-line k r len t (readingOf next)
@@ -63,8 +65,7 @@ module _ (P : Outcome → Type 0) (p : Profile) (body : List ℕ) (of-nothing : 
   by-meaning before ReservedF1 r len t next = of-refused reservedCode
 
   by-reading : (before : LineKind) (c : Reading) (len : ℕ) (t : Kept) (next : Option ℕ) → P (judgeReading p before c len t body next)
-  by-reading before (Clean m) len t next = by-meaning before m false len t next
-  by-reading before (Repaired m) len t next = by-meaning before m true len t next
+  by-reading before (Says m r) len t next = by-meaning before m r len t next
   by-reading before Damaged len t next = of-refused damagedCode
 
   judged : (m : Mark) (len : ℕ) (t : Kept) (next : Option ℕ) → P (judge p m len t body next)
@@ -75,18 +76,18 @@ module _ (P : Outcome → Type 0) (p : Profile) (body : List ℕ) (of-nothing : 
 pub told-by-body : (p : Profile) (m : Mark) (len : ℕ) (t : Kept) (body : List ℕ) (next : Option ℕ)
     → outcomeOf p (answerFor (judge p m len t body next)) body ≡ judge p m len t body next
 told-by-body p m len t body next =
-    judged (λ o. outcomeOf p (answerFor o) body ≡ o) p body refl (λ n. refl) (λ a b. refl) (λ k n r f. refl) m len t next
+    judged (λ o. outcomeOf p (answerFor o) body ≡ o) p body refl (λ n. refl) (λ a b. refl) (λ f h. refl) m len t next
 
 -- an outcome that an answer and the buffer after the call tell
 abbrev Told : Profile → List ℕ → Outcome → Type 0
 Told p buffer o = outcomeOf p (answerFor o) (bufferAfter o buffer) ≡ o
 
-told-line : (p : Profile) (buffer : List ℕ) (k : Kind) (n : ℕ) (r : Bool) (body : List ℕ) → fits (rules p k) body ≡ true → Told p buffer (line k n r body)
-told-line p buffer k n r body f = rw (take-at body (drop (length body) buffer) (bodyLength p) (fits-length (rules p k) body f ∙ rules-length p k))
+told-line : (p : Profile) (buffer : List ℕ) (f : LineFacts) (body : List ℕ) → fits (rules p (f .kind)) body ≡ true → Told p buffer (line f body)
+told-line p buffer f body h = rw (take-at body (drop (length body) buffer) (bodyLength p) (fits-length (rules p (f .kind)) body h ∙ rules-length p (f .kind)))
 
 told-judge : (p : Profile) (buffer : List ℕ) (m : Mark) (len : ℕ) (t : Kept) (body : List ℕ) (next : Option ℕ) → Told p buffer (judge p m len t body next)
 told-judge p buffer m len t body next =
-    judged (Told p buffer) p body refl (λ n. refl) (λ a b. refl) (λ k n r f. told-line p buffer k n r (take (bodyLength p) body) f) m len t next
+    judged (Told p buffer) p body refl (λ n. refl) (λ a b. refl) (λ f h. told-line p buffer f (take (bodyLength p) body) h) m len t next
 
 told-if : (p : Profile) (buffer : List ℕ) (t : Bool) (o : Outcome) → Told p buffer o → Told p buffer (cond t o nothing)
 told-if p buffer true o h = h

@@ -23,7 +23,7 @@ ran r o i = record { reader = r; outcome = o; taken = i }
 -- whether an outcome is an answer
 abbrev pub isAnswer : Outcome → Bool
 isAnswer nothing = false
-isAnswer (line k n r body) = true
+isAnswer (line f body) = true
 isAnswer (gap a b) = true
 isAnswer (refused n) = true
 

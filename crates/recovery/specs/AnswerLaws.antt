@@ -13,13 +13,15 @@ use Rattle.line_code.specs.declared.Kind.{Kind}
 use Rattle.line_code.specs.declared.Meaning.{Meaning}
 use Rattle.line_code.specs.declared.Meaning.the-variants.{EndOfLine, Line, ReservedEC, ReservedF1}
 use Rattle.line_code.specs.declared.Reading.{Reading}
-use Rattle.line_code.specs.declared.Reading.the-variants.{Clean, Repaired, Damaged}
+use Rattle.line_code.specs.declared.Reading.the-variants.{Says, Damaged}
+use Rattle.line_code.specs.declared.Repair.{Repair}
 use Rattle.line_code.specs.declared.LineKind.{LineKind}
 use Rattle.line_code.specs.declared.LineKind.the-variants.{NotLine, LineOf}
 use Rattle.line_code.specs.LineCode.{readingOf, isEnd}
 use Rattle.profile.specs.declared.Profile.{Profile}
 use Rattle.profile.specs.declared.Profile.the-variants.{VV5404, VV5300}
 use Rattle.profile.specs.Profile.{bodyLength}
+use Rattle.stream.specs.declared.LineFacts.{LineFacts}
 use Rattle.stream.specs.declared.Mark.{Mark}
 use Rattle.stream.specs.declared.Mark.the-variants.{NoMark, Open}
 use Rattle.stream.specs.Answers.{Outcome, nothing, line, gap, refused, require, bytesOnto, lineFrom, lineAnswer, turned, afterCode, twoBytesThenF, gapAnswer, byMeaning, byReading, answerOf}
@@ -32,7 +34,7 @@ endsAt (some c) = isEnd (readingOf c)
 
 -- P holds of a line, whose body is as long as the profile says, and whose next code is end of line
 abbrev pub IfLine : (Outcome → Type 0) → Profile → Option ℕ → Type 0
-IfLine P p next = (k : Kind) (n : ℕ) (r : Bool) (body : List ℕ) → length body ≡ bodyLength p → endsAt next ≡ true → P (line k n r body)
+IfLine P p next = (f : LineFacts) (body : List ℕ) → length body ≡ bodyLength p → endsAt next ≡ true → P (line f body)
 
 -- P holds of a gap, and of a refusal, which is below 10
 module _ (P : Outcome → Type 0) (if-gap : (a b : ℕ) → P (gap a b)) (if-refused : (n : ℕ) → n < notANibble → P (refused n)) where
@@ -53,8 +55,8 @@ module _ (P : Outcome → Type 0) (if-gap : (a b : ℕ) → P (gap a b)) (if-ref
   gap-cases VV5404 (LineOf k) t = require-cases _ badGap _ (omega arith) (λ _. if-gap _ _)
   gap-cases VV5300 (LineOf k) t = two-cases k (afterCode (turned t []))
 
-  from-cases : (p : Profile) (k : Kind) (r : Bool) (bytes : Option (List ℕ)) (next : Reading)
-      → ((n : ℕ) (q : Bool) (body : List ℕ) → length body ≡ bodyLength p → isEnd next ≡ true → P (line k n q body)) → P (lineFrom p k r bytes next)
+  from-cases : (p : Profile) (k : Kind) (r : Repair) (bytes : Option (List ℕ)) (next : Reading)
+      → ((g : LineFacts) (body : List ℕ) → length body ≡ bodyLength p → isEnd next ≡ true → P (line g body)) → P (lineFrom p k r bytes next)
   from-cases p k r none next f = if-refused wrongLength (omega arith)
   from-cases p k r (some []) next f = if-refused wrongLength (omega arith)
   from-cases p k r (some (c ∷ [])) next f = if-refused wrongLength (omega arith)
@@ -64,21 +66,20 @@ module _ (P : Outcome → Type 0) (if-gap : (a b : ℕ) → P (gap a b)) (if-ref
       require-cases _ badNumber _ (omega arith) λ _.
       require-cases _ badBody _ (omega arith) λ _.
       require-cases (isEnd next) noEndOfLine _ (omega arith) λ e.
-      f _ _ body (eqb-true (length body) (bodyLength p) h) e
+      f _ body (eqb-true (length body) (bodyLength p) h) e
 
-  line-cases : (p : Profile) (k : Kind) (r : Bool) (t : List ℕ) (next : Option ℕ) → IfLine P p next → P (lineAnswer p k r t next)
+  line-cases : (p : Profile) (k : Kind) (r : Repair) (t : List ℕ) (next : Option ℕ) → IfLine P p next → P (lineAnswer p k r t next)
   line-cases p k r t none f = if-refused unfinishedLine (omega arith)
-  line-cases p k r t (some c) f = from-cases p k r (bytesOnto t []) (readingOf c) (f k)
+  line-cases p k r t (some c) f = from-cases p k r (bytesOnto t []) (readingOf c) f
 
-  meaning-cases : (p : Profile) (before : LineKind) (m : Meaning) (r : Bool) (t : List ℕ) (next : Option ℕ) → IfLine P p next → P (byMeaning p before m r t next)
+  meaning-cases : (p : Profile) (before : LineKind) (m : Meaning) (r : Repair) (t : List ℕ) (next : Option ℕ) → IfLine P p next → P (byMeaning p before m r t next)
   meaning-cases p before EndOfLine r t next f = gap-cases p before t
   meaning-cases p before (Line k) r t next f = line-cases p k r t next f
   meaning-cases p before ReservedEC r t next f = if-refused reservedCode (omega arith)
   meaning-cases p before ReservedF1 r t next f = if-refused reservedCode (omega arith)
 
   reading-cases : (p : Profile) (before : LineKind) (c : Reading) (t : List ℕ) (next : Option ℕ) → IfLine P p next → P (byReading p before c t next)
-  reading-cases p before (Clean m) t next f = meaning-cases p before m false t next f
-  reading-cases p before (Repaired m) t next f = meaning-cases p before m true t next f
+  reading-cases p before (Says m r) t next f = meaning-cases p before m r t next f
   reading-cases p before Damaged t next f = if-refused damagedCode (omega arith)
 
   pub mark-cases : (p : Profile) (before : LineKind) (c : ℕ) (t : List ℕ) (next : Option ℕ) → IfLine P p next → P (answerOf p before c t next)
@@ -91,9 +92,9 @@ module _ (P : Outcome → Type 0) (if-nothing : P nothing) (if-gap : (a b : ℕ)
   answer-cases p NoMark t next f = if-nothing
   answer-cases p (Open before c) t next f = mark-cases P if-gap if-refused p before c t next f
 
-  pub step-cases : (p : Profile) (s : State) (n : ℕ) → ((k : Kind) (m : ℕ) (r : Bool) (body : List ℕ) → length body ≡ bodyLength p → P (line k m r body)) → P (step p s n .outcome)
+  pub step-cases : (p : Profile) (s : State) (n : ℕ) → ((f : LineFacts) (body : List ℕ) → length body ≡ bodyLength p → P (line f body)) → P (step p s n .outcome)
   step-cases p s n f = go (detect (n ∷ s .text))
     where
       go : (d : Completed) → P (advance p (s .at) (n ∷ s .text) d .outcome)
       go not-yet = if-nothing
-      go (mark x y before) = answer-cases p (s .at) before (some (16 * x + y)) (λ k m r body e _. f k m r body e)
+      go (mark x y before) = answer-cases p (s .at) before (some (16 * x + y)) (λ g body e _. f g body e)

@@ -12,7 +12,7 @@ use Rattle.profile.specs.declared.Profile.{Profile}
 use Rattle.profile.specs.Profile.{bodyLength}
 use Rattle.stream.specs.declared.Answer.{Answer}
 use Rattle.stream.specs.declared.Answer.the-variants as answers
-use Rattle.stream.specs.Answers.{Outcome, nothing, line, gap, refused, outcomeOf, answerFor, bufferAfter}
+use Rattle.stream.specs.Answers.{eitherRepaired, Outcome, nothing, line, gap, refused, outcomeOf, answerFor, bufferAfter}
 use Rattle.stream.specs.Stream.{State, step, finish}
 use Rattle.stream.specs.Written.{Sent, AllWritable, startMark, content, endMark, written, stream}
 
@@ -89,7 +89,7 @@ pub record LineOut : Type 0 where
 -- the line of an outcome, if it is one, in front of those that come later
 abbrev pub lineIn : Outcome → List LineOut → List LineOut
 lineIn nothing ls = ls
-lineIn (line k n r body) ls = record { kind = k; number = n; repaired = r; body = body } ∷ ls
+lineIn (line f body) ls = record { kind = f .kind; number = f .number; repaired = eitherRepaired f; body = body } ∷ ls
 lineIn (gap a b) ls = ls
 lineIn (refused n) ls = ls
 

@@ -10,10 +10,11 @@ use lib.ListN.{length, take, drop, length-append, length-drop}
 use lib.Seq.{drop-nil, take-at, length-take-le, drop-append-add, drop-drop, take-nil}
 use borrow.Author.Tests.{leb-true, leb-false}
 use Rattle.line_code.specs.declared.Meaning.the-variants.{EndOfLine, Line}
+use Rattle.line_code.specs.declared.Repair.the-variants.{Clean}
 use Rattle.line_code.specs.LineCode.{cleanByte}
 use Rattle.line_code.specs.LineCodeLaws.{clean-reading}
 use Rattle.profile.specs.declared.Profile.{Profile}
-use Rattle.stream.specs.Answers.{Outcome, nothing, line, gap, refused}
+use Rattle.stream.specs.Answers.{facts, Outcome, nothing, line, gap, refused}
 use Rattle.stream.specs.Stream.{State, step, run, outcomes}
 use Rattle.stream.specs.Written.{Sent, Writable, AllWritable, no-lines, and-line, startMark, content, endMark, tail, written, stream}
 use Rattle.recovery.specs.Calls.{LineOut, lineIn, asSent, changed, upToEnd, endedBy, startFrom, linesFrom, startAfter}
@@ -25,7 +26,7 @@ use Rattle.recovery.specs.ReadBack.{seven, outcomes-append, comes-back}
 
 pub line-in-append : (o : Outcome) (k l : List LineOut) → lineIn o (k ++ l) ≡ lineIn o k ++ l
 line-in-append nothing k l = refl
-line-in-append (line x n r b) k l = refl
+line-in-append (line f b) k l = refl
 line-in-append (gap a b) k l = refl
 line-in-append (refused n) k l = refl
 
@@ -39,7 +40,7 @@ lines-nothings (n ∷ w) = lines-nothings w
 
 no-line-first : (o : Outcome) (ls : List LineOut) → lineIn o ls ≡ [] → (ms : List LineOut) → lineIn o ms ≡ ms
 no-line-first nothing ls h ms = refl
-no-line-first (line k n r b) ls h ms = cc
+no-line-first (line f b) ls h ms = cc
 no-line-first (gap a b) ls h ms = refl
 no-line-first (refused n) ls h ms = refl
 
@@ -92,14 +93,14 @@ nothings-length (n ∷ w) = ap suc (nothings-length w)
 -- from any state, a line as written comes out with the last nibble of its end code, and no other line comes out
 record LineTold (p : Profile) (s : Sent) (x : State) : Type 0 where
   first : List Outcome
-  told : outcomes p x (written s) ≡ first ++ (line (s .kind) (s .number) false (s .body) ∷ nothings (tail s))
+  told : outcomes p x (written s) ≡ first ++ (line (facts (s .kind) (s .number) Clean Clean) (s .body) ∷ nothings (tail s))
   first-lines : linesIn first ≡ []
   first-length : suc (length first) ≡ length (upToEnd s)
 
 line-told : (p : Profile) (s : Sent) → Writable p s → (x : State) → LineTold p s x
 line-told p s g x =
-    let b = comes-back p s g (cleanByte (Line (s .kind))) (cleanByte EndOfLine) false false (clean-reading (Line (s .kind))) (clean-reading EndOfLine) x in
-    let l = line (s .kind) (s .number) false (s .body) in
+    let b = comes-back p s g (cleanByte (Line (s .kind))) (cleanByte EndOfLine) Clean Clean (clean-reading (Line (s .kind))) (clean-reading EndOfLine) x in
+    let l = line (facts (s .kind) (s .number) Clean Clean) (s .body) in
     let S = outcomes p x (startMark s) in
     let N = nothings (content s) in
     record {
@@ -123,7 +124,7 @@ line-told p s g x =
     }
 
 stream-told : (p : Profile) (s : Sent) (ss : List Sent) (x : State) (t : LineTold p s x)
-    → outcomes p x (stream (s ∷ ss)) ≡ t .first ++ (line (s .kind) (s .number) false (s .body) ∷ (nothings (tail s) ++ outcomes p (run p x (written s)) (stream ss)))
+    → outcomes p x (stream (s ∷ ss)) ≡ t .first ++ (line (facts (s .kind) (s .number) Clean Clean) (s .body) ∷ (nothings (tail s) ++ outcomes p (run p x (written s)) (stream ss)))
 stream-told p s ss x t =
     outcomes-append p x (written s) (stream ss)
     ∙ ap (λ (k : List Outcome). k ++ outcomes p (run p x (written s)) (stream ss)) (t .told)
@@ -150,7 +151,7 @@ pub lines-up-to : (p : Profile) {ss : List Sent} → AllWritable p ss → (x : S
 lines-up-to p no-lines x i o = ap (lines p x) (take-nil (i - o))
 lines-up-to p (and-line {s = s} {ss = ss} g h) x i o =
     let t = line-told p s g x in
-    let l = line (s .kind) (s .number) false (s .body) in
+    let l = line (facts (s .kind) (s .number) Clean Clean) (s .body) in
     let y = run p x (written s) in
     let C = outcomes p y (stream ss) in
     let rest = map asSent (endedBy i (o + length (written s)) ss) in

@@ -30,18 +30,18 @@ use Rattle.recovery.specs.Damage.{by-test, places-within, recovers}
 said : (p : Profile) (s : State) (n : ℕ) (buffer : List ℕ) → outcomeOf p (answerFor (step p s n .outcome)) (bufferAfter (step p s n .outcome) buffer) ≡ step p s n .outcome
 said p s n buffer =
     step-cases (λ (o : Outcome). outcomeOf p (answerFor o) (bufferAfter o buffer) ≡ o) refl (λ a b. refl) (λ m l. refl) p s n
-    (λ k m r body e. ap (line k m r) (take-at body (drop (length body) buffer) (bodyLength p) e))
+    (λ f body e. ap (line f) (take-at body (drop (length body) buffer) (bodyLength p) e))
 
 -- a step takes its nibble, whatever it answers
 pub step-taken : (p : Profile) (s : State) (n : ℕ) (w : List ℕ) → takes (answerFor (step p s n .outcome)) n w ≡ n ∷ w
 step-taken p s n w =
     step-cases (λ (o : Outcome). takes (answerFor o) n w ≡ n ∷ w) refl (λ a b. refl)
     (λ m l. ap₂ (λ (x y : Bool). cond (x || y) w (n ∷ w)) (ne-eqb m notANibble (λ q. omega arith)) (ne-eqb m noRoom (λ q. omega arith))) p s n
-    (λ k m r body e. refl)
+    (λ f body e. refl)
 
 no-line-said : (p : Profile) (o : Outcome) (buffer : List ℕ) → NoLine o → NoLine (outcomeOf p (answerFor o) buffer)
 no-line-said p nothing buffer h = h
-no-line-said p (line k n r body) buffer h = λ ls. let e = h [] in cc
+no-line-said p (line f body) buffer h = λ ls. let e = h [] in cc
 no-line-said p (gap a b) buffer h = h
 no-line-said p (refused n) buffer h = h
 

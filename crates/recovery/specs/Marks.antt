@@ -152,7 +152,7 @@ marks-are-places p w n = kept-completes (run p fresh w .text) (onto [] w) (kept 
 -- an outcome counts as an answer, but not nothing
 abbrev answerIn : Outcome → ℕ
 answerIn nothing = 0
-answerIn (line k n r body) = 1
+answerIn (line f body) = 1
 answerIn (gap a b) = 1
 answerIn (refused n) = 1
 
@@ -175,7 +175,7 @@ waiting (Open before code) = 1
 
 answered : (p : Profile) (m : Mark) (t : List ℕ) (next : Option ℕ) → answerIn (answerAt p m t next) ≡ waiting m
 answered p NoMark t next = refl
-answered p (Open before c) t next = mark-cases (λ (o : Outcome). answerIn o ≡ 1) (λ a b. refl) (λ n l. refl) p before c t next (λ k n r body l e. refl)
+answered p (Open before c) t next = mark-cases (λ (o : Outcome). answerIn o ≡ 1) (λ a b. refl) (λ n l. refl) p before c t next (λ f body l e. refl)
 
 -- a nibble that completes a mark answers the one that waits, and the new one waits; any other answers nothing
 answered-step : (p : Profile) (m : Mark) (t : List ℕ) (d : Completed)

@@ -1,14 +1,14 @@
 -- Demand 2, read-back: a line as written comes out once, as it was given to the writer, when its end code is complete; then its gap.
 -- The same line with one of the low seven bits of a code flipped comes out the same, marked repaired.
 use mathlib.Core.Path.{_≡_, refl, _∙_, ap, ap₂, sym}
-use mathlib.Core.Bool.{Bool, true, false, _&&_, _||_, true≢false}
+use mathlib.Core.Bool.{Bool, true, false, _&&_, true≢false}
 use mathlib.Core.List.{List, [], _∷_, _++_, append-nil}
 use mathlib.Core.Option.{Option, none, some}
 use Prim.Native.Nat.{ℕ, zero, suc, _+_, _/_, _%_, _≤_, _<_}
 use native.Mathlib.Omega.{arith}
 use lib.Dec.{eqb, leb}
 use lib.ListN.{length, replicate}
-use borrow.Author.Tests.{leb-true, leb-false, eqb-true, eqb-false, eq-eqb, ne-eqb}
+use borrow.Author.Tests.{leb-true, leb-false, eqb-true, eqb-false, eq-eqb}
 use Rattle.bits.specs.Bits.{flipped}
 use Rattle.bits.specs.Every.{and-left, and-right, and-both}
 use Rattle.refusal.specs.Refusal.{wrongLength, badNumber, badBody, noEndOfLine, badGap}
@@ -16,12 +16,13 @@ use Rattle.line_code.specs.declared.Kind.{Kind}
 use Rattle.line_code.specs.declared.Kind.the-variants.{BL, BK, VL, SOF, EOF}
 use Rattle.line_code.specs.declared.Meaning.{Meaning}
 use Rattle.line_code.specs.declared.Meaning.the-variants.{EndOfLine, Line}
-use Rattle.line_code.specs.declared.Reading.{Reading}
-use Rattle.line_code.specs.declared.Reading.the-variants.{Clean, Repaired}
+use Rattle.line_code.specs.declared.Reading.the-variants.{Says}
+use Rattle.line_code.specs.declared.Repair.{Repair}
+use Rattle.line_code.specs.declared.Repair.the-variants.{Clean, OneBit}
 use Rattle.line_code.specs.declared.LineKind.{LineKind}
 use Rattle.line_code.specs.declared.LineKind.the-variants.{LineOf}
-use Rattle.line_code.specs.LineCode.{cleanByte, readingOf, kindOf, isEnd, isRepaired, isDamaged}
-use Rattle.line_code.specs.LineCodeLaws.{clean-reading, one-flip}
+use Rattle.line_code.specs.LineCode.{cleanByte, readingOf, kindOf, isEnd, isDamaged}
+use Rattle.line_code.specs.LineCodeLaws.{clean-reading, one-flip, damaged-far}
 use Rattle.line_number.specs.LineNumber.{numberByte, numberGood, numberFrom}
 use Rattle.profile.specs.declared.Profile.{Profile}
 use Rattle.profile.specs.declared.Profile.the-variants.{VV5404, VV5300}
@@ -29,7 +30,7 @@ use Rattle.profile.specs.Profile.{bodyLength, fillerByte, nullByte}
 use Rattle.profile.specs.Layout.{isPixel, fits, rules, gapFits, bothAre}
 use Rattle.stream.specs.declared.Mark.{Mark}
 use Rattle.stream.specs.declared.Mark.the-variants.{Open}
-use Rattle.stream.specs.Answers.{Outcome, nothing, line, gap, require, bytesOnto, lineFrom, turned, allF, afterCode, gapFrom, byMeaning, byReading, answerOf}
+use Rattle.stream.specs.Answers.{facts, Outcome, nothing, line, gap, require, bytesOnto, lineFrom, turned, allF, afterCode, gapFrom, byReading, answerOf}
 use Rattle.stream.specs.Stream.{State, group, fresh, kindAt, answerAt, step, finish, run, outcomes}
 use Rattle.stream.specs.Written.{Sent, Writable, nibbles, markOf, startMark, content, tail, written}
 use Rattle.line_number.specs.LineNumberLaws.{byte-good, byte-value}
@@ -75,36 +76,6 @@ marked p m t c h =
 
 -- Code bytes.
 
--- a meaning read clean, or repaired
-abbrev pub readAs : Bool → Meaning → Reading
-readAs false m = Clean m
-readAs true m = Repaired m
-
-read-no-end : (r : Bool) (k : Kind) → isEnd (readAs r (Line k)) ≡ false
-read-no-end true k = refl
-read-no-end false k = refl
-
-read-kind : (r : Bool) (k : Kind) → kindOf (readAs r (Line k)) ≡ LineOf k
-read-kind true k = refl
-read-kind false k = refl
-
-read-end : (r : Bool) → isEnd (readAs r EndOfLine) ≡ true
-read-end true = refl
-read-end false = refl
-
-read-repaired : (r : Bool) (m : Meaning) → isRepaired (readAs r m) ≡ r
-read-repaired true m = refl
-read-repaired false m = refl
-
-read-not-damaged : (r : Bool) (m : Meaning) → isDamaged (readAs r m) ≡ false
-read-not-damaged true m = refl
-read-not-damaged false m = refl
-
-by-read : (p : Profile) (before : LineKind) (r : Bool) (m : Meaning) (t : List ℕ) (next : Option ℕ)
-    → byReading p before (readAs r m) t next ≡ byMeaning p before m r t next
-by-read p before true m t next = refl
-by-read p before false m t next = refl
-
 -- FF, and every number that is no byte
 damaged-above : (c : ℕ) → 254 < c → isDamaged (readingOf c) ≡ true
 unfolding readingOf
@@ -112,15 +83,15 @@ damaged-above c h = go (eqb c 255) refl
   where
     go : (b : Bool) → eqb c 255 ≡ b → isDamaged (readingOf c) ≡ true
     go true e = ap (λ (x : ℕ). isDamaged (readingOf x)) (eqb-true c 255 e)
-    go false e = let n = eqb-false c 255 e in simp (ne-eqb (c / 128) 1 (λ e. omega arith))
+    go false e = let n = eqb-false c 255 e in ap isDamaged (damaged-far c (omega arith))
 
 -- so a code byte that is read is neither
-pub read-small : (c : ℕ) (r : Bool) (m : Meaning) → readingOf c ≡ readAs r m → c ≤ 254
+pub read-small : (c : ℕ) (r : Repair) (m : Meaning) → readingOf c ≡ Says m r → c ≤ 254
 read-small c r m h = go (leb c 254) refl
   where
     go : (b : Bool) → leb c 254 ≡ b → c ≤ 254
     go true e = leb-true c 254 e
-    go false e = absurd (true≢false (sym (damaged-above c (leb-false c 254 e)) ∙ ap isDamaged h ∙ read-not-damaged r m))
+    go false e = absurd (true≢false (sym (damaged-above c (leb-false c 254 e)) ∙ ap isDamaged h))
 
 -- The line.
 
@@ -149,9 +120,9 @@ gapText c s = onto (c % 16 ∷ c / 16 ∷ []) (tail s)
 body-long : (p : Profile) (s : Sent) → Writable p s → eqb (length (s .body)) (bodyLength p) ≡ true
 body-long p s g = eq-eqb (length (s .body)) (bodyLength p) (fits-length (rules p (s .kind)) (s .body) (g .body-fits) ∙ rules-length p (s .kind))
 
-line-answer : (p : Profile) (s : Sent) → Writable p s → (before : LineKind) (start end : ℕ) (r q : Bool)
-    → readingOf start ≡ readAs r (Line (s .kind)) → readingOf end ≡ readAs q EndOfLine
-    → answerAt p (Open before start) (lineText start s) (some end) ≡ line (s .kind) (s .number) (r || q) (s .body)
+line-answer : (p : Profile) (s : Sent) → Writable p s → (before : LineKind) (start end : ℕ) (r q : Repair)
+    → readingOf start ≡ Says (Line (s .kind)) r → readingOf end ≡ Says EndOfLine q
+    → answerAt p (Open before start) (lineText start s) (some end) ≡ line (facts (s .kind) (s .number) r q) (s .body)
 unfolding answerOf
 line-answer p s g before start end r q hs he =
     let high : s .number / 64 < 64 = omega (arith, g .number-small) in
@@ -159,14 +130,13 @@ line-answer p s g before start end r q hs he =
     let number : numberFrom (numberByte (s .number / 64)) (numberByte (s .number % 64)) ≡ s .number
     = omega (arith, byte-value (s .number / 64) high, byte-value (s .number % 64) low) in
     ap (λ x. byReading p before x (lineText start s) (some end)) hs
-    ∙ by-read p before r (Line (s .kind)) (lineText start s) (some end)
     ∙ ap₂ (λ bs x. lineFrom p (s .kind) r bs x) (line-bytes start s) he
     ∙ passes (eqb (length (s .body)) (bodyLength p)) wrongLength _ (body-long p s g)
     ∙ passes (numberGood (numberByte (s .number / 64)) && numberGood (numberByte (s .number % 64))) badNumber _
     (and-both (numberGood (numberByte (s .number / 64))) _ (byte-good (s .number / 64) high) (byte-good (s .number % 64) low))
     ∙ passes (fits (rules p (s .kind)) (s .body)) badBody _ (g .body-fits)
-    ∙ passes (isEnd (readAs q EndOfLine)) noEndOfLine _ (read-end q)
-    ∙ ap₂ (λ n x. line (s .kind) n (r || x) (s .body)) number (read-repaired q EndOfLine)
+    ∙ passes true noEndOfLine _ refl
+    ∙ ap (λ n. line (facts (s .kind) n r q) (s .body)) number
 
 -- The gap.
 
@@ -229,12 +199,11 @@ gap-from VV5300 k a b n h =
     ap₂ (λ (x y : ℕ). require (gapFits VV5300 k x y && allF (nibbles (replicate n nullByte))) badGap (gap x y)) (byte-joined a) (byte-joined b)
     ∙ passes (gapFits VV5300 k a b && allF (nibbles (replicate n nullByte))) badGap _ (and-both (gapFits VV5300 k a b) _ h (nulls-F n))
 
-gap-answer : (p : Profile) (s : Sent) → Writable p s → (end : ℕ) (q : Bool) → readingOf end ≡ readAs q EndOfLine → (next : Option ℕ)
+gap-answer : (p : Profile) (s : Sent) → Writable p s → (end : ℕ) (q : Repair) → readingOf end ≡ Says EndOfLine q → (next : Option ℕ)
     → answerAt p (Open (LineOf (s .kind)) end) (gapText end s) next ≡ gap (s .gap-one) (s .gap-two)
 unfolding answerOf
 gap-answer p s g end q he next =
     ap (λ x. byReading p (LineOf (s .kind)) x (gapText end s) next) he
-    ∙ by-read p (LineOf (s .kind)) q EndOfLine (gapText end s) next
     ∙ ap (λ w. gapFrom p (s .kind) (afterCode w)) (turned-onto (end % 16 ∷ end / 16 ∷ []) (tail s) [])
     ∙ ap (λ w. gapFrom p (s .kind) w) (append-nil (tail s))
     ∙ gap-from p (s .kind) (s .gap-one) (s .gap-two) (s .nulls) (g .gap-fits)
@@ -242,19 +211,19 @@ gap-answer p s g end q he next =
 -- Both, from any state.
 
 -- what comes out of a line as written after its start mark: the line, with the end code's second nibble, and nothing else
-abbrev pub restTold : Sent → Bool → List Outcome
-restTold s repaired = nothings (content s) ++ (sevenThen (line (s .kind) (s .number) repaired (s .body)) ++ nothings (tail s))
+abbrev pub restTold : Sent → Repair → Repair → List Outcome
+restTold s r q = nothings (content s) ++ (sevenThen (line (facts (s .kind) (s .number) r q) (s .body)) ++ nothings (tail s))
 
-pub record ComesBack (p : Profile) (s : Sent) (start end : ℕ) (repaired : Bool) (x : State) : Type 0 where
+pub record ComesBack (p : Profile) (s : Sent) (start end : ℕ) (r q : Repair) (x : State) : Type 0 where
   -- no line comes out of the start mark
   pub opens : Opens p x (markOf start) start
-  pub told : outcomes p x (writtenWith start end s) ≡ outcomes p x (markOf start) ++ restTold s repaired
+  pub told : outcomes p x (writtenWith start end s) ≡ outcomes p x (markOf start) ++ restTold s r q
   pub state : run p x (writtenWith start end s) ≡ stateWith (Open (LineOf (s .kind)) end) (gapText end s)
 
-pub comes-back : (p : Profile) (s : Sent) → Writable p s → (start end : ℕ) (r q : Bool)
-    → readingOf start ≡ readAs r (Line (s .kind)) → readingOf end ≡ readAs q EndOfLine → (x : State) → ComesBack p s start end (r || q) x
+pub comes-back : (p : Profile) (s : Sent) → Writable p s → (start end : ℕ) (r q : Repair)
+    → readingOf start ≡ Says (Line (s .kind)) r → readingOf end ≡ Says EndOfLine q → (x : State) → ComesBack p s start end r q x
 comes-back p s g start end r q hs he x =
-    let open₁ : Opens p x (markOf start) start = resync p x start (ap isEnd hs ∙ read-no-end r (s .kind)) in
+    let open₁ : Opens p x (markOf start) start = resync p x start (ap isEnd hs) in
     let m = Open (open₁ .before) start in
     let e = Open (LineOf (s .kind)) end in
     let start-small = read-small start r (Line (s .kind)) hs in
@@ -263,7 +232,7 @@ comes-back p s g start end r q hs he x =
     let two : MarkTold p m (lineText start s) end = marked p m (lineText start s) end (few-no-group (lineText start s) (few-line p s g start start-small)) in
     let three : Lengthens p e (end % 16 ∷ end / 16 ∷ []) (tail s) = no-mark p e (end % 16 ∷ end / 16 ∷ []) (tail s) (no-group-gap p s g end end-small) in
     let open₂ : run p (stateWith m (lineText start s)) (markOf end) ≡ opened (LineOf (s .kind)) end
-    = two .state ∙ ap (λ (b : LineKind). opened b end) (ap kindOf hs ∙ read-kind r (s .kind)) in
+    = two .state ∙ ap (λ (b : LineKind). opened b end) (ap kindOf hs) in
     record {
       opens = open₁;
       told =
@@ -287,17 +256,17 @@ comes-back p s g start end r q hs he x =
 
 -- From a fresh reader.
 
--- the nibbles w, fed to a fresh reader, are read as the line s
-pub record ReadsBack (p : Profile) (s : Sent) (w : List ℕ) (repaired : Bool) : Type 0 where
+-- the nibbles w, fed to a fresh reader, are read as the line s, with these repairs of the code that starts it and of the one that ends it
+pub record ReadsBack (p : Profile) (s : Sent) (w : List ℕ) (r q : Repair) : Type 0 where
   -- only the second nibble of the end code brings an answer: the line
-  pub line-told : outcomes p fresh w ≡ nothings (startMark s) ++ restTold s repaired
+  pub line-told : outcomes p fresh w ≡ nothings (startMark s) ++ restTold s r q
   -- the gap is told when the next mark's code is complete, whatever that is, or at finish
   pub gap-at-mark : (code : ℕ) → outcomes p (run p fresh w) (markOf code) ≡ sevenThen (gap (s .gap-one) (s .gap-two))
   pub gap-at-finish : finish p (run p fresh w) .outcome ≡ gap (s .gap-one) (s .gap-two)
 
 -- with any code bytes that are read as the line's kind and as end of line
-pub read-back-with : (p : Profile) (s : Sent) → Writable p s → (start end : ℕ) (r q : Bool)
-    → readingOf start ≡ readAs r (Line (s .kind)) → readingOf end ≡ readAs q EndOfLine → ReadsBack p s (writtenWith start end s) (r || q)
+pub read-back-with : (p : Profile) (s : Sent) → Writable p s → (start end : ℕ) (r q : Repair)
+    → readingOf start ≡ Says (Line (s .kind)) r → readingOf end ≡ Says EndOfLine q → ReadsBack p s (writtenWith start end s) r q
 read-back-with p s g start end r q hs he =
     let b = comes-back p s g start end r q hs he fresh in
     let e = Open (LineOf (s .kind)) end in
@@ -313,14 +282,14 @@ read-back-with p s g start end r q hs he =
 
 -- one of the low seven bits of the start code flipped: the same line, marked repaired
 pub start-flipped : (p : Profile) (s : Sent) → Writable p s → (i : ℕ) → i < 7
-    → ReadsBack p s (writtenWith (flipped (cleanByte (Line (s .kind))) i) (cleanByte EndOfLine) s) true
-start-flipped p s g i h = read-back-with p s g _ _ true false (one-flip (Line (s .kind)) i h) (clean-reading EndOfLine)
+    → ReadsBack p s (writtenWith (flipped (cleanByte (Line (s .kind))) i) (cleanByte EndOfLine) s) OneBit Clean
+start-flipped p s g i h = read-back-with p s g _ _ OneBit Clean (one-flip (Line (s .kind)) i h) (clean-reading EndOfLine)
 
 -- one of the low seven bits of the end code flipped: the same
 pub end-flipped : (p : Profile) (s : Sent) → Writable p s → (i : ℕ) → i < 7
-    → ReadsBack p s (writtenWith (cleanByte (Line (s .kind))) (flipped (cleanByte EndOfLine) i) s) true
-end-flipped p s g i h = read-back-with p s g _ _ false true (clean-reading (Line (s .kind))) (one-flip EndOfLine i h)
+    → ReadsBack p s (writtenWith (cleanByte (Line (s .kind))) (flipped (cleanByte EndOfLine) i) s) Clean OneBit
+end-flipped p s g i h = read-back-with p s g _ _ Clean OneBit (clean-reading (Line (s .kind))) (one-flip EndOfLine i h)
 
--- whatever is written is read back: the same kind, number and body, not repaired; then the gap's two bytes
-pub read-back : (p : Profile) (s : Sent) → Writable p s → ReadsBack p s (written s) false
-read-back p s g = read-back-with p s g _ _ false false (clean-reading (Line (s .kind))) (clean-reading EndOfLine)
+-- whatever is written is read back: the same kind, number and body, neither code repaired; then the gap's two bytes
+pub read-back : (p : Profile) (s : Sent) → Writable p s → ReadsBack p s (written s) Clean Clean
+read-back p s g = read-back-with p s g _ _ Clean Clean (clean-reading (Line (s .kind))) (clean-reading EndOfLine)

@@ -46,7 +46,7 @@ NoLine o = (ls : List LineOut) → lineIn o ls ≡ ls
 
 pub no-line : (p : Profile) (m : Mark) (t : List ℕ) (next : Option ℕ) → endsAt next ≡ false → NoLine (answerAt p m t next)
 no-line p m t next h =
-    answer-cases NoLine (λ ls. refl) (λ a b ls. refl) (λ n l ls. refl) p m t next (λ k n r body l e. absurd (true≢false (sym e ∙ h)))
+    answer-cases NoLine (λ ls. refl) (λ a b ls. refl) (λ n l ls. refl) p m t next (λ f body l e. absurd (true≢false (sym e ∙ h)))
 
 -- The start mark.
 

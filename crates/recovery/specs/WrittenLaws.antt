@@ -12,6 +12,7 @@ use Rattle.line_code.specs.declared.Kind.{Kind}
 use Rattle.line_code.specs.declared.Kind.the-variants.{BL, BK, VL, SOF, EOF}
 use Rattle.line_code.specs.declared.Meaning.{Meaning}
 use Rattle.line_code.specs.declared.Meaning.the-variants.{EndOfLine, Line}
+use Rattle.line_code.specs.declared.Repair.the-variants.{Clean}
 use Rattle.line_code.specs.LineCode.{cleanByte}
 use Rattle.line_code.specs.LineCodeLaws.{clean-reading}
 use Rattle.line_number.specs.LineNumber.{numberByte}
@@ -78,7 +79,7 @@ gap-bytes VV5300 EOF a b h = gap-fillers a b h
 
 all-mark : (m : Meaning) → AllNibbles (markOf (cleanByte m))
 all-mark m =
-    let c = read-small (cleanByte m) false m (clean-reading m) in
+    let c = read-small (cleanByte m) Clean m (clean-reading m) in
     all-byte 255 (omega arith) (all-byte 255 (omega arith) (all-byte 0 (omega arith) (all-byte (cleanByte m) (omega arith) no-nibble)))
 
 all-written : (p : Profile) (s : Sent) → Writable p s → AllNibbles (written s)

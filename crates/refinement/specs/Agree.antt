@@ -1,7 +1,7 @@
 -- Texts that differ only where four F stand before are answered alike: a body that its rules allow has no such place, and elsewhere
 -- the answer does not depend on what stands there.
 use mathlib.Core.Path.{_≡_, refl, _∙_, ap, ap₂, sym, subst}
-use mathlib.Core.Bool.{Bool, true, false, _&&_, _||_, true≢false}
+use mathlib.Core.Bool.{Bool, true, false, _&&_, true≢false}
 use mathlib.Core.List.{List, [], _∷_}
 use mathlib.Core.Option.{none, some}
 use Prim.Native.Nat.{ℕ, suc, _+_, _*_, _/_, _%_, _≤_, _<_}
@@ -13,7 +13,8 @@ use Rattle.bits.specs.Every.{and-left, and-right}
 use Rattle.refusal.specs.Refusal.{wrongLength, badNumber, badBody, noEndOfLine, badGap}
 use Rattle.line_code.specs.declared.Kind.{Kind}
 use Rattle.line_code.specs.declared.Reading.{Reading}
-use Rattle.line_code.specs.LineCode.{isEnd, isRepaired}
+use Rattle.line_code.specs.declared.Repair.{Repair}
+use Rattle.line_code.specs.LineCode.{isEnd, repairOf}
 use Rattle.line_number.specs.LineNumber.{numberGood, numberFrom}
 use Rattle.profile.specs.declared.Profile.{Profile}
 use Rattle.profile.specs.declared.Profile.the-variants.{VV5404, VV5300}
@@ -21,7 +22,7 @@ use Rattle.profile.specs.declared.Rule.{Rule}
 use Rattle.profile.specs.declared.Rule.the-variants.{Filler, Pixel, Any}
 use Rattle.profile.specs.Profile.{bodyLength, fillerByte, nullByte}
 use Rattle.profile.specs.Layout.{isPixel, allows, fits, rules, gapFits}
-use Rattle.stream.specs.Answers.{Outcome, line, gap, require, bytesOnto, lineFrom, turned, allF, twoBytesThenF, gapFrom}
+use Rattle.stream.specs.Answers.{facts, Outcome, line, gap, require, bytesOnto, lineFrom, turned, allF, twoBytesThenF, gapFrom}
 use Rattle.stream.specs.Written.{nibbles}
 use Rattle.recovery.specs.MarkFree.{spacedOut, rules-spaced}
 use Rattle.refinement.specs.Window.{Small, small-more}
@@ -141,10 +142,10 @@ body-same (Any ∷ Filler ∷ rs) a (b ∷ d ∷ bs) (c ∷ d₂ ∷ cs) l h g m
     (ap₂ {C = List ℕ} (λ x y. x ∷ y) d-same
     (body-same rs a bs cs (omega arith) (and-right (eqb d fillerByte) (fits rs bs) k) {f = v .next} (omega arith) (v .rest)))
 
-module _ (p : Profile) (k : Kind) (r : Bool) (next : Reading) where
+module _ (p : Profile) (k : Kind) (r : Repair) (next : Reading) where
   abbrev byBody : ℕ → List ℕ → Outcome
   byBody n body =
-      require (fits (rules p k) body) badBody (require (isEnd next) noEndOfLine (line k n (r || isRepaired next) body))
+      require (fits (rules p k) body) badBody (require (isEnd next) noEndOfLine (line (facts k n r (repairOf next)) body))
 
   abbrev byNumber : ℕ → ℕ → List ℕ → Outcome
   byNumber a b body = require (numberGood a && numberGood b) badNumber (byBody (numberFrom a b) body)
@@ -323,7 +324,7 @@ as-bytes (a ∷ c ∷ t) (b ∷ d ∷ t₂) (small-more ha (small-more hc s)) (s
 tail-of : (c x y : ℕ) (cs w : List ℕ) → x ∷ y ∷ w ≡ nibbles (c ∷ cs) → w ≡ nibbles cs
 tail-of c x y cs w e = cc
 
-pub line-from-same : (p : Profile) (k : Kind) (r : Bool) (next : Reading) {z x y : ℕ} (t t₂ : List ℕ) → z ≤ 1
+pub line-from-same : (p : Profile) (k : Kind) (r : Repair) (next : Reading) {z x y : ℕ} (t t₂ : List ℕ) → z ≤ 1
     → Tails z x y (turned t []) (turned t₂ []) → Bytes t t₂ [] []
     → lineFrom p k r (bytesOnto t []) next ≡ lineFrom p k r (bytesOnto t₂ []) next
 line-from-same p k r next t t₂ h m (odd u v) = ap (λ o. lineFrom p k r o next) (u ∙ sym v)

@@ -14,7 +14,8 @@ use Rattle.line_code.specs.declared.Kind.{Kind}
 use Rattle.line_code.specs.declared.Meaning.{Meaning}
 use Rattle.line_code.specs.declared.Meaning.the-variants.{EndOfLine, Line, ReservedEC, ReservedF1}
 use Rattle.line_code.specs.declared.Reading.{Reading}
-use Rattle.line_code.specs.declared.Reading.the-variants.{Clean, Repaired, Damaged}
+use Rattle.line_code.specs.declared.Reading.the-variants.{Says, Damaged}
+use Rattle.line_code.specs.declared.Repair.{Repair}
 use Rattle.line_code.specs.declared.LineKind.{LineKind}
 use Rattle.line_code.specs.declared.LineKind.the-variants.{NotLine, LineOf}
 use Rattle.line_code.specs.LineCode.{readingOf, isEnd, isDamaged}
@@ -86,7 +87,7 @@ gap-agrees p (LineOf k) c {f} {t} {t₂} h m =
     ∙ gap-same p k (subst (λ (n : ℕ). Agree n (q .one) (q .two)) h (q .tails))
     ∙ ap (λ (w : List ℕ). gapFrom p k (afterCode w)) (sym (q .is-two))
 
-line-agrees : (p : Profile) (k : Kind) (r : Bool) (c : ℕ) {f : ℕ} {t t₂ : List ℕ} (next : Option ℕ) → c < 256 → trailingF c ≤ 1
+line-agrees : (p : Profile) (k : Kind) (r : Repair) (c : ℕ) {f : ℕ} {t t₂ : List ℕ} (next : Option ℕ) → c < 256 → trailingF c ≤ 1
     → AgreeOnto (trailingF c) (c % 16 ∷ c / 16 ∷ []) f t t₂ → lineAnswer p k r t next ≡ lineAnswer p k r t₂ next
 line-agrees p k r c none g h m = refl
 line-agrees p k r c {f} {t} {t₂} (some n) g h m =
@@ -95,7 +96,7 @@ line-agrees p k r c {f} {t} {t₂} (some n) g h m =
 
 module _ (p : Profile) (before : LineKind) (c : ℕ) {f : ℕ} {t t₂ : List ℕ} (next : Option ℕ) (g : c < 256)
     (m : AgreeOnto (trailingF c) (c % 16 ∷ c / 16 ∷ []) f t t₂) where
-  meaning-agrees : (d : Meaning) (r : Bool) → isDamaged (readingOf c) ≡ false → (d ≡ EndOfLine → isEnd (readingOf c) ≡ true)
+  meaning-agrees : (d : Meaning) (r : Repair) → isDamaged (readingOf c) ≡ false → (d ≡ EndOfLine → isEnd (readingOf c) ≡ true)
       → byMeaning p before d r t next ≡ byMeaning p before d r t₂ next
   meaning-agrees EndOfLine r h k = gap-agrees p before c (no-F c (k refl)) m
   meaning-agrees (Line j) r h k = line-agrees p j r c next g (one-F c h) m
@@ -103,8 +104,7 @@ module _ (p : Profile) (before : LineKind) (c : ℕ) {f : ℕ} {t t₂ : List �
   meaning-agrees ReservedF1 r h k = refl
 
   reading-agrees : (d : Reading) → readingOf c ≡ d → byReading p before d t next ≡ byReading p before d t₂ next
-  reading-agrees (Clean d) e = meaning-agrees d false (ap isDamaged e) (λ k. ap isEnd (e ∙ ap Clean k))
-  reading-agrees (Repaired d) e = meaning-agrees d true (ap isDamaged e) (λ k. ap isEnd (e ∙ ap Repaired k))
+  reading-agrees (Says d r) e = meaning-agrees d r (ap isDamaged e) (λ k. ap isEnd (e ∙ ap (λ x. Says x r) k))
   reading-agrees Damaged e = refl
 
 answer-agrees : (p : Profile) (m : Mark) {f : ℕ} {t t₂ : List ℕ} (next : Option ℕ) → Byte m → AgreeOnto (trailingFAt m) (baseOf m) f t t₂

@@ -14,7 +14,8 @@ use Rattle.line_code.specs.declared.Kind.{Kind}
 use Rattle.line_code.specs.declared.Meaning.{Meaning}
 use Rattle.line_code.specs.declared.Meaning.the-variants.{EndOfLine, Line, ReservedEC, ReservedF1}
 use Rattle.line_code.specs.declared.Reading.{Reading}
-use Rattle.line_code.specs.declared.Reading.the-variants.{Clean, Repaired, Damaged}
+use Rattle.line_code.specs.declared.Reading.the-variants.{Says, Damaged}
+use Rattle.line_code.specs.declared.Repair.{Repair}
 use Rattle.line_code.specs.declared.LineKind.{LineKind}
 use Rattle.line_code.specs.declared.LineKind.the-variants.{NotLine, LineOf}
 use Rattle.line_code.specs.LineCode.{readingOf}
@@ -79,11 +80,11 @@ body-about v b (equal e) = ap (λ (n : ℕ). bodyAt n v b) e
 body-about v b {x} {y} (past g h) = body-out x v b (omega arith) ∙ sym (body-out y v b (omega arith))
 
 module _ (p : Profile) (t : Kept) (body : List ℕ) {x y : ℕ} (hx : pastBody ≤ x) (hy : pastBody ≤ y) where
-  line-far : (k : Kind) (r : Bool) (next : Reading) → judgeLine p k r x t body next ≡ judgeLine p k r y t body next
+  line-far : (k : Kind) (r : Repair) (next : Reading) → judgeLine p k r x t body next ≡ judgeLine p k r y t body next
   line-far k r next =
       wrong-length p k r x t body next (λ e. omega (arith, body-small p)) ∙ sym (wrong-length p k r y t body next (λ e. omega (arith, body-small p)))
 
-  meaning-far : (before : LineKind) (m : Meaning) (r : Bool) (next : Option ℕ)
+  meaning-far : (before : LineKind) (m : Meaning) (r : Repair) (next : Option ℕ)
       → judgeMeaning p before m r x t body next ≡ judgeMeaning p before m r y t body next
   meaning-far NotLine EndOfLine r next = refl
   meaning-far (LineOf k) EndOfLine r next = go p
@@ -104,8 +105,7 @@ module _ (p : Profile) (t : Kept) (body : List ℕ) {x y : ℕ} (hx : pastBody �
   judge-far (Open before code) next = go (readingOf code)
     where
       go : (d : Reading) → judgeReading p before d x t body next ≡ judgeReading p before d y t body next
-      go (Clean m) = meaning-far before m false next
-      go (Repaired m) = meaning-far before m true next
+      go (Says m r) = meaning-far before m r next
       go Damaged = refl
 
 judge-about : (p : Profile) (m : Mark) (t : Kept) (body : List ℕ) (next : Option ℕ) {x y : ℕ} → About x y
@@ -310,15 +310,14 @@ unfolding judge
 no-body p NoMark n t b c = refl
 no-body p (Open before code) n t b c = by-reading (readingOf code)
   where
-    by-meaning : (m : Meaning) (r : Bool) → judgeMeaning p before m r n t b none ≡ judgeMeaning p before m r n t c none
+    by-meaning : (m : Meaning) (r : Repair) → judgeMeaning p before m r n t b none ≡ judgeMeaning p before m r n t c none
     by-meaning EndOfLine r = refl
     by-meaning (Line k) r = refl
     by-meaning ReservedEC r = refl
     by-meaning ReservedF1 r = refl
 
     by-reading : (d : Reading) → judgeReading p before d n t b none ≡ judgeReading p before d n t c none
-    by-reading (Clean m) = by-meaning m false
-    by-reading (Repaired m) = by-meaning m true
+    by-reading (Says m r) = by-meaning m r
     by-reading Damaged = refl
 
 finish-outcome : {p : Profile} {r : Reader} {s : State} → Same p r s

@@ -43,14 +43,14 @@ module _ (r : Reader) (n room : ℕ) (ok : Ok (r .head)) (enough : leb (bodyLeng
 -- a nibble that is taken is taken by its call, whatever the call answers
 takes-it : (o : Outcome) → refusalOf o ≤ 9 → (n : ℕ) (w : List ℕ) → takes (answerFor o) n w ≡ n ∷ w
 takes-it nothing l n w = refl
-takes-it (line k m r body) l n w = refl
+takes-it (line f body) l n w = refl
 takes-it (gap a b) l n w = refl
 takes-it (refused k) l n w =
     ap₂ (λ (x y : Bool). cond (x || y) w (n ∷ w)) (ne-eqb k notANibble (λ q. omega arith)) (ne-eqb k noRoom (λ q. omega arith))
 
 pub no-answer : (o : Outcome) → isAnswer o ≡ false → o ≡ nothing
 no-answer nothing e = refl
-no-answer (line k n r body) e = absurd (true≢false e)
+no-answer (line f body) e = absurd (true≢false e)
 no-answer (gap a b) e = absurd (true≢false e)
 no-answer (refused n) e = absurd (true≢false e)
 

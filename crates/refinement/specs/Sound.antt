@@ -13,17 +13,19 @@ use Rattle.line_code.specs.declared.Kind.{Kind}
 use Rattle.line_code.specs.declared.Meaning.{Meaning}
 use Rattle.line_code.specs.declared.Meaning.the-variants.{EndOfLine, Line, ReservedEC, ReservedF1}
 use Rattle.line_code.specs.declared.Reading.{Reading}
-use Rattle.line_code.specs.declared.Reading.the-variants.{Clean, Repaired, Damaged}
+use Rattle.line_code.specs.declared.Reading.the-variants.{Says, Damaged}
+use Rattle.line_code.specs.declared.Repair.{Repair}
 use Rattle.line_code.specs.declared.LineKind.{LineKind}
 use Rattle.line_code.specs.declared.LineKind.the-variants.{NotLine, LineOf}
-use Rattle.line_code.specs.LineCode.{readingOf}
+use Rattle.line_code.specs.LineCode.{readingOf, repairOf}
 use Rattle.profile.specs.declared.Profile.{Profile}
 use Rattle.profile.specs.declared.Profile.the-variants.{VV5404, VV5300}
 use Rattle.profile.specs.Profile.{bodyLength}
 use Rattle.profile.specs.Layout.{rules, fits}
+use Rattle.stream.specs.declared.LineFacts.{LineFacts}
 use Rattle.stream.specs.declared.Mark.{Mark}
 use Rattle.stream.specs.declared.Mark.the-variants.{NoMark, Open}
-use Rattle.stream.specs.Answers.{Outcome, nothing, line, gap, refused, require, outcomeOf, answerFor, bufferAfter}
+use Rattle.stream.specs.Answers.{facts, Outcome, nothing, line, gap, refused, require, outcomeOf, answerFor, bufferAfter}
 use Rattle.mark_answer.specs.declared.Kept.{Kept}
 use Rattle.mark_answer.specs.Judge.{judgeLine, judgeGap, judgeEnd, judgeMeaning, judgeReading, judge}
 use Rattle.reader.specs.declared.Head.{Head}
@@ -32,7 +34,7 @@ use Rattle.profile.specs.LayoutLaws.{rules-length, fits-length}
 
 pub data Sound (p : Profile) : Outcome → Type 0 where
   sound-nothing : Sound p nothing
-  sound-line : {k : Kind} {n : ℕ} {r : Bool} {body : List ℕ} → fits (rules p k) body ≡ true → Sound p (line k n r body)
+  sound-line : {f : LineFacts} {body : List ℕ} → fits (rules p (f .kind)) body ≡ true → Sound p (line f body)
   sound-gap : {a b : ℕ} → Sound p (gap a b)
   sound-refused : (n : ℕ) → 1 ≤ n → n ≤ 9 → Sound p (refused n)
 
@@ -41,13 +43,13 @@ unfolding require
 require-sound true n o g h f = f refl
 require-sound false n o g h f = sound-refused n g h
 
-line-sound : (p : Profile) (k : Kind) (r : Bool) (len : ℕ) (t : Kept) (body : List ℕ) (next : Reading) → Sound p (judgeLine p k r len t body next)
+line-sound : (p : Profile) (k : Kind) (r : Repair) (len : ℕ) (t : Kept) (body : List ℕ) (next : Reading) → Sound p (judgeLine p k r len t body next)
 line-sound p k r len t body next =
     require-sound _ wrongLength _ (omega arith) (omega arith) λ _.
     require-sound _ badNumber _ (omega arith) (omega arith) λ _.
     require-sound (fits (rules p k) (take (bodyLength p) body)) badBody _ (omega arith) (omega arith) λ h.
     require-sound _ noEndOfLine _ (omega arith) (omega arith) λ _.
-    sound-line h
+    sound-line {f = facts k _ r (repairOf next)} h
 
 gap-sound : (p q : Profile) (k : Kind) (len : ℕ) (t : Kept) → Sound p (judgeGap q k len t)
 gap-sound p VV5404 k len t = require-sound _ badGap _ (omega arith) (omega arith) (λ _. sound-gap)
@@ -57,7 +59,7 @@ end-sound : (p : Profile) (before : LineKind) (len : ℕ) (t : Kept) → Sound p
 end-sound p NotLine len t = sound-refused endWithoutLine (omega arith) (omega arith)
 end-sound p (LineOf k) len t = gap-sound p p k len t
 
-meaning-sound : (p : Profile) (before : LineKind) (m : Meaning) (r : Bool) (len : ℕ) (t : Kept) (body : List ℕ) (next : Option ℕ)
+meaning-sound : (p : Profile) (before : LineKind) (m : Meaning) (r : Repair) (len : ℕ) (t : Kept) (body : List ℕ) (next : Option ℕ)
     → Sound p (judgeMeaning p before m r len t body next)
 meaning-sound p before EndOfLine r len t body next = end-sound p before len t
 meaning-sound p before (Line k) r len t body none = sound-refused unfinishedLine (omega arith) (omega arith)
@@ -67,8 +69,7 @@ meaning-sound p before ReservedF1 r len t body next = sound-refused reservedCode
 
 reading-sound : (p : Profile) (before : LineKind) (d : Reading) (len : ℕ) (t : Kept) (body : List ℕ) (next : Option ℕ)
     → Sound p (judgeReading p before d len t body next)
-reading-sound p before (Clean m) len t body next = meaning-sound p before m false len t body next
-reading-sound p before (Repaired m) len t body next = meaning-sound p before m true len t body next
+reading-sound p before (Says m r) len t body next = meaning-sound p before m r len t body next
 reading-sound p before Damaged len t body next = sound-refused damagedCode (omega arith) (omega arith)
 
 -- whatever is kept
@@ -92,7 +93,7 @@ take-sound h body n = go (isMark w)
 -- the number of a refusal
 abbrev pub refusalOf : Outcome → ℕ
 refusalOf nothing = 0
-refusalOf (line k n r body) = 0
+refusalOf (line f body) = 0
 refusalOf (gap a b) = 0
 refusalOf (refused n) = n
 
@@ -105,7 +106,7 @@ at-most-nine (sound-refused n g h) = h
 -- an outcome is read back from the program's answer and the lent buffer
 pub told : {p : Profile} {o : Outcome} → Sound p o → (buffer : List ℕ) → outcomeOf p (answerFor o) (bufferAfter o buffer) ≡ o
 told sound-nothing buffer = refl
-told {p} (sound-line {k} {n} {r} {body} h) buffer =
-    ap {B = Outcome} (λ (w : List ℕ). line k n r w) (take-at body (drop (length body) buffer) (bodyLength p) (fits-length (rules p k) body h ∙ rules-length p k))
+told {p} (sound-line {f} {body} h) buffer =
+    ap (line f) (take-at body (drop (length body) buffer) (bodyLength p) (fits-length (rules p (f .kind)) body h ∙ rules-length p (f .kind)))
 told sound-gap buffer = refl
 told (sound-refused n g h) buffer = refl

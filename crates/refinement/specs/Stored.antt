@@ -15,10 +15,11 @@ use Rattle.line_code.specs.declared.Kind.{Kind}
 use Rattle.line_code.specs.declared.Meaning.{Meaning}
 use Rattle.line_code.specs.declared.Meaning.the-variants.{EndOfLine, Line, ReservedEC, ReservedF1}
 use Rattle.line_code.specs.declared.Reading.{Reading}
-use Rattle.line_code.specs.declared.Reading.the-variants.{Clean, Repaired, Damaged}
+use Rattle.line_code.specs.declared.Reading.the-variants.{Says, Damaged}
+use Rattle.line_code.specs.declared.Repair.{Repair}
 use Rattle.line_code.specs.declared.LineKind.{LineKind}
 use Rattle.line_code.specs.declared.LineKind.the-variants.{NotLine, LineOf}
-use Rattle.line_code.specs.LineCode.{readingOf, isEnd, isRepaired}
+use Rattle.line_code.specs.LineCode.{readingOf, isEnd, repairOf}
 use Rattle.line_number.specs.LineNumber.{numberGood, numberFrom}
 use Rattle.profile.specs.declared.Profile.{Profile}
 use Rattle.profile.specs.declared.Profile.the-variants.{VV5404, VV5300}
@@ -26,7 +27,7 @@ use Rattle.profile.specs.Profile.{bodyLength, longest, nullByte}
 use Rattle.profile.specs.Layout.{rules, fits, gapFits}
 use Rattle.stream.specs.declared.Mark.{Mark}
 use Rattle.stream.specs.declared.Mark.the-variants.{NoMark, Open}
-use Rattle.stream.specs.Answers.{Outcome, line, gap, refused, require, bytesOnto, lineFrom, turned, allF, afterCode, twoBytesThenF, gapFrom, byMeaning, byReading, answerOf}
+use Rattle.stream.specs.Answers.{facts, Outcome, line, gap, refused, require, bytesOnto, lineFrom, turned, allF, afterCode, twoBytesThenF, gapFrom, byMeaning, byReading, answerOf}
 use Rattle.stream.specs.Stream.{answerAt}
 use Rattle.mark_answer.specs.declared.Kept.{Kept}
 use Rattle.mark_answer.specs.Kept.{bodyPlace, gapStart, nothingKept, byteAt, strayAt, keptAt, bodyAt}
@@ -408,16 +409,16 @@ unfolding require
 refuses true n o h = absurd (true≢false h)
 refuses false n o h = refl
 
-pub wrong-length : (p : Profile) (k : Kind) (r : Bool) (n : ℕ) (t : Kept) (body : List ℕ) (next : Reading) → (n ≡ 2 * bodyLength p + bodyPlace → ⊥)
+pub wrong-length : (p : Profile) (k : Kind) (r : Repair) (n : ℕ) (t : Kept) (body : List ℕ) (next : Reading) → (n ≡ 2 * bodyLength p + bodyPlace → ⊥)
     → judgeLine p k r n t body next ≡ refused wrongLength
 wrong-length p k r n t body next h = refuses (eqb n (2 * bodyLength p + bodyPlace)) wrongLength _ (ne-eqb n (2 * bodyLength p + bodyPlace) h)
 
-module _ (p : Profile) (k : Kind) (r : Bool) (b : List ℕ) (size : length b ≡ longest) (next : Reading) where
+module _ (p : Profile) (k : Kind) (r : Repair) (b : List ℕ) (size : length b ≡ longest) (next : Reading) where
   -- the answer from number bytes and body, once the length is right
   abbrev lineShape : ℕ → ℕ → List ℕ → Outcome
   lineShape x y w =
       require (numberGood x && numberGood y) badNumber
-      (require (fits (rules p k) w) badBody (require (isEnd next) noEndOfLine (line k (numberFrom x y) (r || isRepaired next) w)))
+      (require (fits (rules p k) w) badBody (require (isEnd next) noEndOfLine (line (facts k (numberFrom x y) r (repairOf next)) w)))
 
   whole-judged : {c : List ℕ} (m : ℕ) → Pairs c (suc (suc (suc m))) → WholeBytes p b c m
       → lineFrom p k r (bytesOnto c []) next ≡ judgeLine p k r (length c) (storedKept p c) (storedBody b c) next
@@ -469,7 +470,7 @@ module _ (p : Profile) (k : Kind) (r : Bool) (b : List ℕ) (size : length b ≡
 -- Any mark's answer.
 
 module _ (p : Profile) (b : List ℕ) (size : length b ≡ longest) (c : List ℕ) where
-  meaning-judged : (before : LineKind) (m : Meaning) (r : Bool) (next : Option ℕ)
+  meaning-judged : (before : LineKind) (m : Meaning) (r : Repair) (next : Option ℕ)
       → judgeMeaning p before m r (length c) (storedKept p c) (storedBody b c) next ≡ byMeaning p before m r c next
   meaning-judged NotLine EndOfLine r next = refl
   meaning-judged (LineOf k) EndOfLine r next = sym (gap-judged p k c)
@@ -480,8 +481,7 @@ module _ (p : Profile) (b : List ℕ) (size : length b ≡ longest) (c : List �
 
   reading-judged : (before : LineKind) (d : Reading) (next : Option ℕ)
       → judgeReading p before d (length c) (storedKept p c) (storedBody b c) next ≡ byReading p before d c next
-  reading-judged before (Clean m) next = meaning-judged before m false next
-  reading-judged before (Repaired m) next = meaning-judged before m true next
+  reading-judged before (Says m r) next = meaning-judged before m r next
   reading-judged before Damaged next = refl
 
   -- what is kept of a text is enough: the answer of the open mark, whatever body stood there at the mark

@@ -1,6 +1,6 @@
 -- What answers look at, of what is kept of a text: two readers that keep the same there answer alike, whatever else they keep.
 use mathlib.Core.Path.{_≡_, refl, _∙_, ap, ap₂, sym}
-use mathlib.Core.Bool.{Bool, true, false, _&&_, _||_, not, cond, true≢false}
+use mathlib.Core.Bool.{Bool, true, false, _&&_, not, cond, true≢false}
 use mathlib.Core.List.{List}
 use mathlib.Core.Option.{Option, none, some}
 use Prim.Native.Nat.{ℕ, zero, suc, _+_, _*_, _-_, _/_, _%_, _≤_, _<_, min}
@@ -15,10 +15,11 @@ use Rattle.line_code.specs.declared.Kind.{Kind}
 use Rattle.line_code.specs.declared.Meaning.{Meaning}
 use Rattle.line_code.specs.declared.Meaning.the-variants.{EndOfLine, Line, ReservedEC, ReservedF1}
 use Rattle.line_code.specs.declared.Reading.{Reading}
-use Rattle.line_code.specs.declared.Reading.the-variants.{Clean, Repaired, Damaged}
+use Rattle.line_code.specs.declared.Reading.the-variants.{Says, Damaged}
+use Rattle.line_code.specs.declared.Repair.{Repair}
 use Rattle.line_code.specs.declared.LineKind.{LineKind}
 use Rattle.line_code.specs.declared.LineKind.the-variants.{NotLine, LineOf}
-use Rattle.line_code.specs.LineCode.{readingOf, endMeant, isEnd, isRepaired}
+use Rattle.line_code.specs.LineCode.{readingOf, endMeant, isEnd, repairOf}
 use Rattle.line_number.specs.LineNumber.{numberGood, numberFrom}
 use Rattle.profile.specs.declared.Profile.{Profile}
 use Rattle.profile.specs.declared.Profile.the-variants.{VV5404, VV5300}
@@ -26,7 +27,7 @@ use Rattle.profile.specs.Profile.{bodyLength, longest, nullByte}
 use Rattle.profile.specs.Layout.{rules, fits, gapFits}
 use Rattle.stream.specs.declared.Mark.{Mark}
 use Rattle.stream.specs.declared.Mark.the-variants.{NoMark, Open}
-use Rattle.stream.specs.Answers.{Outcome, line, gap, require}
+use Rattle.stream.specs.Answers.{facts, Outcome, line, gap, require}
 use Rattle.mark_answer.specs.declared.Kept.{Kept}
 use Rattle.mark_answer.specs.Kept.{bodyPlace, gapStart, strayAt, keptAt, bodyAt}
 use Rattle.mark_answer.specs.Judge.{judgeLine, judgeGap, judgeMeaning, judgeReading, judge}
@@ -245,7 +246,7 @@ same-body p {n} {s} {s₂} f e =
     ∙ whole-byte f (suc (suc (suc i))) (omega arith) (omega arith) (omega arith) (λ q. absurd (true≢false (sym q)))
     ∙ sym (getD-take (bodyLength p) (s₂ .body) i 0 (omega arith))
 
-line-same : (p : Profile) (k : Kind) (r : Bool) (len n : ℕ) {s s₂ : Store} (next : Reading) → min len lineEnd ≤ n → SameUsed p false n s s₂
+line-same : (p : Profile) (k : Kind) (r : Repair) (len n : ℕ) {s s₂ : Store} (next : Reading) → min len lineEnd ≤ n → SameUsed p false n s s₂
     → judgeLine p k r len (s .kept) (s .body) next ≡ judgeLine p k r len (s₂ .kept) (s₂ .body) next
 line-same p k r len n {s} {s₂} next h f = go (eqb len (2 * bodyLength p + bodyPlace)) refl
   where
@@ -256,7 +257,7 @@ line-same p k r len n {s} {s₂} next h f = go (eqb len (2 * bodyLength p + body
     shape x y w =
         require (eqb len (2 * bodyLength p + bodyPlace)) wrongLength
         (require (numberGood x && numberGood y) badNumber
-        (require (fits (rules p k) w) badBody (require (isEnd next) noEndOfLine (line k (numberFrom x y) (r || isRepaired next) w))))
+        (require (fits (rules p k) w) badBody (require (isEnd next) noEndOfLine (line (facts k (numberFrom x y) r (repairOf next)) w))))
 
     go : (b : Bool) → eqb len (2 * bodyLength p + bodyPlace) ≡ b
         → judgeLine p k r len (s .kept) (s .body) next ≡ judgeLine p k r len (s₂ .kept) (s₂ .body) next
@@ -296,7 +297,7 @@ gap-same VV5300 k len n {s} {s₂} h f = go (leb bodyPlace len) refl
         ∙ ap (λ x. shape x (leb bodyPlace len) (s₂ .kept .first) (s₂ .kept .second)) (f .stray-same refl)
 
 module _ (p : Profile) (before : LineKind) (len n : ℕ) {s s₂ : Store} (next : Option ℕ) (h : min len lineEnd ≤ n) where
-  meaning-same : (d : Meaning) (r : Bool) → SameUsed p (endMeant d) n s s₂
+  meaning-same : (d : Meaning) (r : Repair) → SameUsed p (endMeant d) n s s₂
       → judgeMeaning p before d r len (s .kept) (s .body) next ≡ judgeMeaning p before d r len (s₂ .kept) (s₂ .body) next
   meaning-same d r f = go before d next f
     where
@@ -311,8 +312,7 @@ module _ (p : Profile) (before : LineKind) (len n : ℕ) {s s₂ : Store} (next 
 
   reading-same : (d : Reading) → SameUsed p (isEnd d) n s s₂
       → judgeReading p before d len (s .kept) (s .body) next ≡ judgeReading p before d len (s₂ .kept) (s₂ .body) next
-  reading-same (Clean d) f = meaning-same d false f
-  reading-same (Repaired d) f = meaning-same d true f
+  reading-same (Says d r) f = meaning-same d r f
   reading-same Damaged f = refl
 
 pub judge-same : (p : Profile) (m : Mark) (len n : ℕ) {s s₂ : Store} (next : Option ℕ) → min len lineEnd ≤ n

@@ -10,44 +10,54 @@ use Rattle.line_code.specs.declared.Kind.{Kind}
 use Rattle.line_code.specs.declared.Meaning.{Meaning}
 use Rattle.line_code.specs.declared.Meaning.the-variants.{EndOfLine, Line, ReservedEC, ReservedF1}
 use Rattle.line_code.specs.declared.Reading.{Reading}
-use Rattle.line_code.specs.declared.Reading.the-variants.{Clean, Repaired, Damaged}
+use Rattle.line_code.specs.declared.Reading.the-variants.{Says, Damaged}
+use Rattle.line_code.specs.declared.Repair.{Repair}
 use Rattle.line_code.specs.declared.LineKind.{LineKind}
 use Rattle.line_code.specs.declared.LineKind.the-variants.{NotLine, LineOf}
-use Rattle.line_code.specs.LineCode.{readingOf, isEnd, isRepaired}
+use Rattle.line_code.specs.LineCode.{readingOf, isEnd, repairOf, isBit}
 use Rattle.line_number.specs.LineNumber.{numberGood, numberFrom}
 use Rattle.profile.specs.declared.Profile.{Profile}
 use Rattle.profile.specs.declared.Profile.the-variants.{VV5404, VV5300}
 use Rattle.profile.specs.Profile.{bodyLength, nullByte}
 use Rattle.profile.specs.Layout.{rules, fits, gapFits}
+use Rattle.stream.specs.declared.LineFacts.{LineFacts}
 use Rattle.stream.specs.declared.Answer.{Answer}
 use Rattle.stream.specs.declared.Answer.the-variants as answer
 
--- what an answer says: nothing yet; a line with its kind, its number, whether either code was repaired, and its body; a good gap with
--- its two bytes; or a refusal with its number
+-- what is said of a line: its kind, its number, and what was repaired of the code that starts it and of the code that ends it
+abbrev pub facts : Kind → ℕ → Repair → Repair → LineFacts
+facts k n start end = record { kind = k; number = n; start = start; end = end }
+
+-- either code was repaired
+abbrev pub eitherRepaired : LineFacts → Bool
+eitherRepaired f = isBit (f .start) || isBit (f .end)
+
+-- what an answer says: nothing yet; a line with what is said of it, and its body; a good gap with its two bytes; or a refusal with its
+-- number
 pub data Outcome : Type 0 where
   nothing : Outcome
-  line : Kind → ℕ → Bool → List ℕ → Outcome
+  line : LineFacts → List ℕ → Outcome
   gap : ℕ → ℕ → Outcome
   refused : ℕ → Outcome
 
 -- the paper's number and values of each case of the program's answer: a line's body is the front of the lent buffer
 abbrev pub outcomeOf : Profile → Answer → List ℕ → Outcome
 outcomeOf p answer.Nothing buffer = nothing
-outcomeOf p (answer.Line f) buffer = line (f .kind) (f .number) (f .repaired) (take (bodyLength p) buffer)
+outcomeOf p (answer.Line f) buffer = line f (take (bodyLength p) buffer)
 outcomeOf p (answer.Gap a b) buffer = gap a b
 outcomeOf p (answer.Refused n) buffer = refused n
 
 -- the program's answer that says this
 abbrev pub answerFor : Outcome → Answer
 answerFor nothing = answer.Nothing
-answerFor (line k n r body) = answer.Line (record { kind = k; number = n; repaired = r })
+answerFor (line f body) = answer.Line f
 answerFor (gap a b) = answer.Gap a b
 answerFor (refused n) = answer.Refused n
 
 -- the lent buffer afterwards: a line's body at its front, and the rest as it was
 abbrev pub bufferAfter : Outcome → List ℕ → List ℕ
 bufferAfter nothing buffer = buffer
-bufferAfter (line k n r body) buffer = body ++ drop (length body) buffer
+bufferAfter (line f body) buffer = body ++ drop (length body) buffer
 bufferAfter (gap a b) buffer = buffer
 bufferAfter (refused n) buffer = buffer
 
@@ -65,7 +75,7 @@ bytesOnto (low ∷ []) bs = none
 bytesOnto (low ∷ high ∷ t) bs = bytesOnto t ((16 * high + low) ∷ bs)
 
 -- 4 to 7, or the line: of the bytes of a text, and the reading of the next mark's code
-abbrev pub lineFrom : Profile → Kind → Bool → Option (List ℕ) → Reading → Outcome
+abbrev pub lineFrom : Profile → Kind → Repair → Option (List ℕ) → Reading → Outcome
 lineFrom p k r none next = refused wrongLength
 lineFrom p k r (some []) next = refused wrongLength
 lineFrom p k r (some (c ∷ [])) next = refused wrongLength
@@ -74,10 +84,10 @@ lineFrom p k r (some (c ∷ a ∷ b ∷ body)) next =
     require (eqb (length body) (bodyLength p)) wrongLength
     (require (numberGood a && numberGood b) badNumber
     (require (fits (rules p k) body) badBody
-    (require (isEnd next) noEndOfLine (line k (numberFrom a b) (r || isRepaired next) body))))
+    (require (isEnd next) noEndOfLine (line (facts k (numberFrom a b) r (repairOf next)) body))))
 
 -- 3 at finish, or by the next mark's code
-abbrev pub lineAnswer : Profile → Kind → Bool → List ℕ → Option ℕ → Outcome
+abbrev pub lineAnswer : Profile → Kind → Repair → List ℕ → Option ℕ → Outcome
 lineAnswer p k r t none = refused unfinishedLine
 lineAnswer p k r t (some next) = lineFrom p k r (bytesOnto t []) (readingOf next)
 
@@ -119,15 +129,14 @@ gapAnswer p (LineOf k) t = gapFrom p k (afterCode (turned t []))
 
 -- Any mark.
 
-abbrev pub byMeaning : Profile → LineKind → Meaning → Bool → List ℕ → Option ℕ → Outcome
+abbrev pub byMeaning : Profile → LineKind → Meaning → Repair → List ℕ → Option ℕ → Outcome
 byMeaning p before EndOfLine r t next = gapAnswer p before t
 byMeaning p before (Line k) r t next = lineAnswer p k r t next
 byMeaning p before ReservedEC r t next = refused reservedCode
 byMeaning p before ReservedF1 r t next = refused reservedCode
 
 abbrev pub byReading : Profile → LineKind → Reading → List ℕ → Option ℕ → Outcome
-byReading p before (Clean m) t next = byMeaning p before m false t next
-byReading p before (Repaired m) t next = byMeaning p before m true t next
+byReading p before (Says m r) t next = byMeaning p before m r t next
 byReading p before Damaged t next = refused damagedCode
 
 -- the one answer of a mark: the line kind of the mark before it, its code byte, its text from the code on (newest first), and the next

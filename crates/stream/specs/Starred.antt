@@ -8,7 +8,8 @@ use Rattle.refusal.specs.Refusal.{reservedCode}
 use Rattle.line_code.specs.declared.Kind.the-variants.{BL}
 use Rattle.line_code.specs.declared.Meaning.the-variants.{EndOfLine, Line, ReservedEC}
 use Rattle.line_code.specs.declared.Reading.{Reading}
-use Rattle.line_code.specs.declared.Reading.the-variants.{Clean, Repaired, Damaged}
+use Rattle.line_code.specs.declared.Reading.the-variants.{Says, Damaged}
+use Rattle.line_code.specs.declared.Repair.the-variants.{Clean, OneBit}
 use Rattle.line_code.specs.declared.LineKind.{LineKind}
 use Rattle.line_code.specs.LineCode.{kindNumbered, reservedOf, meaningOf, readingOf}
 use Rattle.line_number.specs.declared.Encoded.the-variants.{Bytes}
@@ -40,14 +41,14 @@ starred =
     ∷ number 302 0x08 0x5D
     ∷ number 303 0x08 0x5E
     ∷ number 4095 0x7F 0x7F
-    ∷ code 0x9D (Clean (Line BL))
-    ∷ code 0x9C (Repaired (Line BL))
-    ∷ code 0xBD (Repaired (Line BL))
+    ∷ code 0x9D (Says (Line BL) Clean)
+    ∷ code 0x9C (Says (Line BL) OneBit)
+    ∷ code 0xBD (Says (Line BL) OneBit)
     ∷ code 0x9E Damaged
     ∷ code 0x1D Damaged
     ∷ code 0xFF Damaged
-    ∷ code 0x81 (Repaired EndOfLine)
-    ∷ code 0xED (Repaired ReservedEC)
+    ∷ code 0x81 (Says EndOfLine OneBit)
+    ∷ code 0xED (Says ReservedEC OneBit)
     ∷ answer 0xED reservedCode
     ∷ []
 

@@ -1,9 +1,11 @@
 // The meaning of a stream (paper 01, 'Marks and line codes' and 'One answer for each mark'): the types that reader and callers share.
 // The meaning itself is in specs/: Answers.antt, what a mark is answered; Stream.antt, where marks are and what each nibble brings.
 ghost use mathlib.Core.Path.{_≡_};
+ghost use Rattle.stream.specs.Answers.{eitherRepaired};
 ghost use Rattle.stream.specs.Stream.{kindAt};
 use line_code::Kind;
 use line_code::LineKind;
+use line_code::Repair;
 
 // The open mark, which waits for its answer: the line kind of the mark before it, and its own code byte.
 pub enum Mark {
@@ -15,8 +17,9 @@ pub enum Mark {
 pub struct LineFacts {
     pub kind: Kind,
     pub number: u16,
-    // Whether either code was repaired.
-    pub repaired: bool,
+    // What was repaired of the code that starts it, and of the code that ends it.
+    pub start: Repair,
+    pub end: Repair,
 }
 
 // The answer of a call: no mark's answer is due yet; a line; a good gap with its two bytes (profile 0: FF FF); a refusal number.
@@ -25,6 +28,20 @@ pub enum Answer {
     Line(LineFacts),
     Gap(u8, u8),
     Refused(u8),
+}
+
+impl LineFacts {
+    // Whether either code was repaired.
+    pub fn is_repaired(self) -> bool
+        ensures { λ r. ⌜ r ≡ eitherRepaired self ⌝ }
+    {
+        let start = self.start;
+        if start.is_bit() {
+            return true;
+        }
+        let end = self.end;
+        end.is_bit()
+    }
 }
 
 impl Mark {

@@ -8,6 +8,9 @@ enum-told c = search needs
 enum-known-answer : tie.Need-enum-known-answer
 enum-known-answer c = search needs
 
+is-repaired-requires : tie.Need-is-repaired-requires
+is-repaired-requires c κs = search needs
+
 bit-requires : tie.Need-bit-requires
 bit-requires c κs = search needs
 
@@ -66,7 +69,7 @@ returns : tie.Need-returns
 returns c = search needs
 
 returns-2 : tie.Need-returns-2
-returns-2 c = simp (c .before .before .before .before .answer .given .1, c .before .before .bit .ensures, c .before .number .ensures)
+returns-2 c = simp (c .before .before .before .before .before .answer .given .1, c .before .before .bit .ensures, c .before .before .before .is-repaired .ensures, c .before .number .ensures)
 
 returns-3 : tie.Need-returns-3
 returns-3 c = simp (c .before .answer2 .given .1)
@@ -80,6 +83,7 @@ answer-number-spec =
     (tie.spec
     enum-told
     enum-known-answer
+    is-repaired-requires
     bit-requires
     cast-result
     mul-result

@@ -27,8 +27,11 @@ slice-aggregate-put-2 c = search needs
 put-requires-2 : tie.Need-put-requires-2
 put-requires-2 c κs = omega (arith, kind-short (c .before .before .before .before .before .before .before .before .before .before .before .before .before .before .before .before .before .args .facts .kind), decimal-short (c .before .before .before .before .before .before .before .before .before .before .before .before .before .before .before .before .before .args .facts .number))
 
+is-repaired-requires : tie.Need-is-repaired-requires
+is-repaired-requires c κs = search needs
+
 put-note-requires : tie.Need-put-note-requires
-put-note-requires c κs = omega (arith, kind-short (c .before .before .before .before .before .before .before .before .before .before .before .before .before .before .before .before .before .before .before .before .before .args .facts .kind), decimal-short (c .before .before .before .before .before .before .before .before .before .before .before .before .before .before .before .before .before .before .before .before .before .args .facts .number))
+put-note-requires c κs = omega (arith, kind-short (c .before .before .before .before .before .before .before .before .before .before .before .before .before .before .before .before .before .before .before .before .before .before .args .facts .kind), decimal-short (c .before .before .before .before .before .before .before .before .before .before .before .before .before .before .before .before .before .before .before .before .before .before .args .facts .number))
 
 same-length : tie.Need-same-length
 same-length c = search needs
@@ -36,7 +39,8 @@ same-length c = search needs
 returns : tie.Need-returns
 unfolding lineWords
 returns c =
-    joined (c .before .before .before .before .before .before .before .before .before .before .before .before .before .before .before .before .before .before .before .before .before .put-kind .ensures) (joined (c .before .before .before .before .before .before .before .before .before .before .before .before .before .before .before .before .put .ensures) (joined (c .before .before .before .before .before .before .before .before .before .before .before .put-decimal .ensures) (joined (c .before .before .before .before .before .before .put2 .ensures) (c .before .before .put-note .ensures))))
+    simp (← c .before .before .before .before .is-repaired .ensures)
+    (joined (c .before .before .before .before .before .before .before .before .before .before .before .before .before .before .before .before .before .before .before .before .before .before .put-kind .ensures) (joined (c .before .before .before .before .before .before .before .before .before .before .before .before .before .before .before .before .before .put .ensures) (joined (c .before .before .before .before .before .before .before .before .before .before .before .before .put-decimal .ensures) (joined (c .before .before .before .before .before .before .before .put2 .ensures) (c .before .before .put-note .ensures)))))
 
 pub put-line-spec : {M : Type 1} → statement M
 put-line-spec =
@@ -49,6 +53,7 @@ put-line-spec =
     put-decimal-requires
     slice-aggregate-put-2
     put-requires-2
+    is-repaired-requires
     put-note-requires
     same-length
     returns)

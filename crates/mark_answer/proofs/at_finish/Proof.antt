@@ -1,7 +1,6 @@
 use mathlib.Core.List.{[]}
 use mathlib.Core.Option.{none}
 use Rattle.mark_answer.proofs.ByReading.{by-reading}
-use mathlib.Core.Bool.{true, false}
 use Rattle.mark_answer.specs.Judge.{judge}
 use borrow.Author.Needs.{needs}
 use Rattle.mark_answer.proofs.at_finish.Statement.{statement}
@@ -22,12 +21,6 @@ enum-known-reading c = search needs
 last-answer-requires : tie.Need-last-answer-requires
 last-answer-requires c κs = search needs
 
-enum-known-reading-2 : tie.Need-enum-known-reading-2
-enum-known-reading-2 c = search needs
-
-last-answer-requires-2 : tie.Need-last-answer-requires-2
-last-answer-requires-2 c κs = search needs
-
 enum-told-2 : tie.Need-enum-told-2
 enum-told-2 c = search needs
 
@@ -38,15 +31,10 @@ returns c = simp (c .enum-told .given .1)
 returns-2 : tie.Need-returns-2
 returns-2 c =
     let a = c .before .before .before .before .before .before .before .before .args in
-    simp (by-reading (a .profile) (a .length) (a .kept) [] none (c .before .before .before .before .before .before .mark .given .1) (c .before .before .before .before .read .ensures), c .before .before .reading .given .1, c .last-answer .ensures false)
+    simp (by-reading (a .profile) (a .length) (a .kept) [] none (c .before .before .before .before .before .before .mark .given .1) (c .before .before .before .before .read .ensures), c .before .before .reading .given .1, c .last-answer .ensures (c .before .before .reading .given .0 .1 .0))
 
 returns-3 : tie.Need-returns-3
 returns-3 c =
-    let a = c .before .before .before .before .before .before .before .before .args in
-    simp (by-reading (a .profile) (a .length) (a .kept) [] none (c .before .before .before .before .before .before .mark .given .1) (c .before .before .before .before .read .ensures), c .before .before .reading2 .given .1, c .last-answer2 .ensures true)
-
-returns-4 : tie.Need-returns-4
-returns-4 c =
     let a = c .before .before .before .before .before .before .args in
     simp (by-reading (a .profile) (a .length) (a .kept) [] none (c .before .before .before .before .mark .given .1) (c .before .before .read .ensures), c .enum-told2 .given .1)
 
@@ -59,10 +47,7 @@ at-finish-spec =
     read-requires
     enum-known-reading
     last-answer-requires
-    enum-known-reading-2
-    last-answer-requires-2
     enum-told-2
     returns
     returns-2
-    returns-3
-    returns-4)
+    returns-3)

@@ -21,12 +21,6 @@ enum-known-reading c = search needs
 meaning-answer-requires : tie.Need-meaning-answer-requires
 meaning-answer-requires c κs = search needs
 
-enum-known-reading-2 : tie.Need-enum-known-reading-2
-enum-known-reading-2 c = search needs
-
-meaning-answer-requires-2 : tie.Need-meaning-answer-requires-2
-meaning-answer-requires-2 c κs = search needs
-
 enum-told-2 : tie.Need-enum-told-2
 enum-told-2 c = search needs
 
@@ -41,11 +35,6 @@ returns-2 c =
 
 returns-3 : tie.Need-returns-3
 returns-3 c =
-    let a = c .before .before .before .before .before .before .before .before .before .args in
-    simp (by-reading (a .profile) (a .length) (a .kept) (now (a .body)) (some (a .next)) (c .before .before .before .before .before .before .mark .given .1) (c .before .before .before .before .read .ensures), c .before .before .reading2 .given .1, c .meaning-answer2 .ensures)
-
-returns-4 : tie.Need-returns-4
-returns-4 c =
     let a = c .before .before .before .before .before .before .before .args in
     simp (by-reading (a .profile) (a .length) (a .kept) (now (a .body)) (some (a .next)) (c .before .before .before .before .mark .given .1) (c .before .before .read .ensures), c .enum-told2 .given .1)
 
@@ -58,10 +47,7 @@ at-mark-spec =
     read-requires
     enum-known-reading
     meaning-answer-requires
-    enum-known-reading-2
-    meaning-answer-requires-2
     enum-told-2
     returns
     returns-2
-    returns-3
-    returns-4)
+    returns-3)

@@ -45,15 +45,12 @@ read-requires c κs = search needs
 is-end-requires : tie.Need-is-end-requires
 is-end-requires c κs = search needs
 
-is-repaired-requires : tie.Need-is-repaired-requires
-is-repaired-requires c κs = search needs
-
-either-requires : tie.Need-either-requires
-either-requires c κs = search needs
+repair-requires : tie.Need-repair-requires
+repair-requires c κs = search needs
 
 returns-2 : tie.Need-returns-2
 unfolding require
-returns-2 c = simp (← c .before .before .before .before .before .before .before .before .before .body-length .ensures, ← c .before .before .before .before .before .before .body-fits .ensures, c .before .before .before .before .before .if2 .taken, ← c .before .before .before .before .read .ensures, ← c .before .before .before .is-end .ensures, c .before .before .if3 .taken, c .either .ensures, c .before .is-repaired .ensures)
+returns-2 c = simp (← c .before .before .before .before .before .before .before .before .body-length .ensures, ← c .before .before .before .before .before .body-fits .ensures, c .before .before .before .before .if2 .taken, ← c .before .before .before .read .ensures, ← c .before .before .is-end .ensures, c .before .if3 .taken, ← c .repair .ensures)
 
 returns-3 : tie.Need-returns-3
 unfolding require
@@ -73,8 +70,7 @@ body-answer-spec =
     body-fits-requires
     read-requires
     is-end-requires
-    is-repaired-requires
-    either-requires
+    repair-requires
     returns-2
     returns-3
     returns-4)
