@@ -5,7 +5,7 @@
 #include <stdio.h>
 #include <stdlib.h>
 
-static void show(unsigned long mark, uint32_t answer)
+static void show(unsigned long mark, uint64_t answer)
 {
     static const char *const kinds[] = {"", "BL", "BK", "VL", "SOF", "EOF"};
 
@@ -23,7 +23,7 @@ int main(void)
     size_t length = fluturenc_state_length(), got, at, taken;
     uint8_t *state = malloc(length);
     unsigned long marks = 0;
-    uint32_t answer;
+    uint64_t answer;
 
     if (state == NULL || fluturenc_open(FLUTURENC_VV5404, state, length) != 0)
         return EXIT_FAILURE;

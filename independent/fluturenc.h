@@ -42,11 +42,11 @@ uint8_t fluturenc_open(uint8_t profile, uint8_t *state, size_t state_length);
  * tells of the mark before; 0 where there is none yet. Where it is a line, the line buffer begins with the body; else that is as it was.
  * Refused, with nothing taken, also for no nibbles: 11 the state holds no reader that passes its own test, 12 the line buffer is shorter
  * than the profile's body. Stopped before an input above 15: 10. A call that takes nothing leaves the state as it was. */
-uint32_t fluturenc_feed(uint8_t *state, size_t state_length, const uint8_t *nibbles, size_t nibbles_length, uint8_t *line,
+uint64_t fluturenc_feed(uint8_t *state, size_t state_length, const uint8_t *nibbles, size_t nibbles_length, uint8_t *line,
                         size_t line_length, size_t *taken);
 
 /* The last mark's answer, 0 where there was no mark; the reader is fresh again. Refused: 11. */
-uint32_t fluturenc_finish(uint8_t *state, size_t state_length);
+uint64_t fluturenc_finish(uint8_t *state, size_t state_length);
 
 /* An answer of feed and finish is one number:
  *   0                                              nothing
@@ -56,27 +56,36 @@ uint32_t fluturenc_finish(uint8_t *state, size_t state_length);
  *                                                  9 a gap not as laid out
  *   10 to 12                                       the call is refused, as said above
  *   2^24 + 2^19 (repaired) + 2^16 * kind + number  a line
- *   2^25 + 2^8 * first + second                    a good gap, with its two bytes */
+ *     + 2^32 * start + 2^48 * end                  and above these, what was repaired of the code that starts it, and of the one that
+ *                                                  ends it: 0 nothing, else one more than the number of the bit, 0 to 7
+ *   2^25 + 2^8 * first + second                    a good gap, with its two bytes
+ * The low 32 bits alone are the answer without its repairs' bits. */
 
-static inline int fluturenc_is_refusal(uint32_t answer) { return 1 <= answer && answer <= 12; }
+static inline int fluturenc_is_refusal(uint64_t answer) { return 1 <= answer && answer <= 12; }
 
-static inline int fluturenc_is_line(uint32_t answer) { return answer >> 24 == 1; }
+static inline int fluturenc_is_line(uint64_t answer) { return (answer >> 24 & 0xFF) == 1; }
 
-static inline int fluturenc_is_gap(uint32_t answer) { return answer >> 24 == 2; }
+static inline int fluturenc_is_gap(uint64_t answer) { return (answer >> 24 & 0xFF) == 2; }
 
 /* Of a line: its kind, its number, and whether its own code or that of its end was repaired. */
 
-static inline uint8_t fluturenc_line_kind(uint32_t answer) { return (uint8_t)(answer >> 16 & 7); }
+static inline uint8_t fluturenc_line_kind(uint64_t answer) { return (uint8_t)(answer >> 16 & 7); }
 
-static inline uint16_t fluturenc_line_number(uint32_t answer) { return (uint16_t)(answer & 0xFFFF); }
+static inline uint16_t fluturenc_line_number(uint64_t answer) { return (uint16_t)(answer & 0xFFFF); }
 
-static inline int fluturenc_line_repaired(uint32_t answer) { return (int)(answer >> 19 & 1); }
+static inline int fluturenc_line_repaired(uint64_t answer) { return (int)(answer >> 19 & 1); }
+
+/* The bit that was repaired in the code that starts the line, and in the code that ends it, 0 to 7; -1 for none. */
+
+static inline int fluturenc_start_bit(uint64_t answer) { return (int)(answer >> 32 & 0xFFFF) - 1; }
+
+static inline int fluturenc_end_bit(uint64_t answer) { return (int)(answer >> 48) - 1; }
 
 /* Of a gap. */
 
-static inline uint8_t fluturenc_gap_first(uint32_t answer) { return (uint8_t)(answer >> 8 & 0xFF); }
+static inline uint8_t fluturenc_gap_first(uint64_t answer) { return (uint8_t)(answer >> 8 & 0xFF); }
 
-static inline uint8_t fluturenc_gap_second(uint32_t answer) { return (uint8_t)(answer & 0xFF); }
+static inline uint8_t fluturenc_gap_second(uint64_t answer) { return (uint8_t)(answer & 0xFF); }
 
 /* The writer: one line's nibbles, its end, its two gap bytes and so many null bytes, and how many nibbles that is: 0; or the refusal, in
  * this order, and then none is written: 11 no such profile, 13 no such kind, 14 a number above 4095, 15 a body of the wrong length, 16 a

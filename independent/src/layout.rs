@@ -34,7 +34,8 @@ pub enum Code {
 #[derive(Clone, Copy, PartialEq, Eq, Debug)]
 pub enum Reading {
     Clean(Code),
-    Repaired(Code),
+    /// With the number of the bit, 0 to 7.
+    Repaired(Code, u8),
     Damaged,
 }
 
@@ -49,15 +50,15 @@ pub const CLEAN: [(u8, Code); 8] = [
     (0xF1, Code::Reserved),
 ];
 
-/// The clean byte that a byte is, or differs from in one of its low seven bits.
+/// The clean byte that a byte is, or differs from in one of its eight bits.
 pub fn read_code(byte: u8) -> Reading {
     for (clean, code) in CLEAN {
         let flips = byte ^ clean;
         if flips == 0 {
             return Reading::Clean(code);
         }
-        if flips & 0x80 == 0 && flips.count_ones() == 1 {
-            return Reading::Repaired(code);
+        if flips.is_power_of_two() {
+            return Reading::Repaired(code, flips.trailing_zeros() as u8);
         }
     }
     Reading::Damaged

@@ -15,8 +15,8 @@ extern "C" {
         line: *mut u8,
         line_length: usize,
         taken: *mut usize,
-    ) -> u32;
-    fn fluturenc_finish(state: *mut u8, state_length: usize) -> u32;
+    ) -> u64;
+    fn fluturenc_finish(state: *mut u8, state_length: usize) -> u64;
     fn fluturenc_write(
         profile: u8,
         kind: u8,
@@ -45,7 +45,7 @@ pub fn open(profile: u8, state: &mut [u8]) -> u8 {
 }
 
 /// The answer as a number, and how many nibbles were taken.
-pub fn feed(state: &mut [u8], nibbles: &[u8], line: &mut [u8]) -> (u32, usize) {
+pub fn feed(state: &mut [u8], nibbles: &[u8], line: &mut [u8]) -> (u64, usize) {
     let mut taken = usize::MAX;
     let answer = unsafe {
         fluturenc_feed(state.as_mut_ptr(), state.len(), nibbles.as_ptr(), nibbles.len(), line.as_mut_ptr(), line.len(), &mut taken)
@@ -54,7 +54,7 @@ pub fn feed(state: &mut [u8], nibbles: &[u8], line: &mut [u8]) -> (u32, usize) {
 }
 
 /// The answer as a number.
-pub fn finish(state: &mut [u8]) -> u32 {
+pub fn finish(state: &mut [u8]) -> u64 {
     unsafe { fluturenc_finish(state.as_mut_ptr(), state.len()) }
 }
 
@@ -88,14 +88,26 @@ pub fn judge(judge: &mut u32, kind: u8, number: u16) -> u8 {
 }
 
 /// What an answer's number says; none is 0.
-pub fn answer(number: u32) -> Option<Answer> {
-    match number >> 24 {
+pub fn answer(number: u64) -> Option<Answer> {
+    match number >> 24 & 0xFF {
         0 if number == 0 => None,
         0 => Some(Answer::Refused(u8::try_from(number).expect("a refusal is a byte"))),
-        1 => Some(Answer::Line { kind: (number >> 16 & 7) as u8, number: number as u16, repaired: number >> 19 & 1 == 1 }),
-        2 => Some(Answer::Gap((number >> 8) as u8, number as u8)),
+        1 => {
+            let (start, end) = (repair(number >> 32 & 0xFFFF), repair(number >> 48));
+            assert_eq!(number >> 19 & 1 == 1, start.is_some() || end.is_some(), "{number:#x} is repaired, or is not");
+            Some(Answer::Line { kind: (number >> 16 & 7) as u8, number: number as u16, start, end })
+        }
+        2 => {
+            assert_eq!(number >> 26, 0, "{number:#x} is no gap");
+            Some(Answer::Gap((number >> 8) as u8, number as u8))
+        }
         _ => panic!("{number:#x} is no answer"),
     }
+}
+
+/// The bit of a repair's number; none is 0.
+fn repair(number: u64) -> Option<u8> {
+    number.checked_sub(1).map(|bit| u8::try_from(bit).expect("a bit is a byte"))
 }
 
 pub fn verdict(number: u8) -> Verdict {

@@ -4,7 +4,13 @@ use crate::layout::*;
 
 #[derive(Clone, PartialEq, Eq, Debug)]
 pub enum Answer {
-    Line { kind: u8, number: u16, repaired: bool },
+    /// With the bit that was repaired in the code that starts it, and in the code that ends it.
+    Line {
+        kind: u8,
+        number: u16,
+        start: Option<u8>,
+        end: Option<u8>,
+    },
     Gap(u8, u8),
     Refused(u8),
 }
@@ -21,7 +27,7 @@ pub struct Reader {
 
 fn kind_of(code: u8) -> Option<u8> {
     match read_code(code) {
-        Reading::Clean(Code::Line(k)) | Reading::Repaired(Code::Line(k)) => Some(k),
+        Reading::Clean(Code::Line(k)) | Reading::Repaired(Code::Line(k), _) => Some(k),
         _ => None,
     }
 }
@@ -78,22 +84,22 @@ impl Reader {
 
     fn answer(&self, text: &[u8], next: Option<u8>, buffer: &mut [u8]) -> Option<Answer> {
         let (before, code) = self.open?;
-        let (code, repaired) = match read_code(code) {
+        let (code, start) = match read_code(code) {
             Reading::Damaged => return Some(Answer::Refused(1)),
-            Reading::Clean(c) => (c, false),
-            Reading::Repaired(c) => (c, true),
+            Reading::Clean(c) => (c, None),
+            Reading::Repaired(c, bit) => (c, Some(bit)),
         };
         Some(match code {
             Code::Reserved => Answer::Refused(2),
             Code::End => self.gap(before, text),
             Code::Line(kind) => match next {
                 None => Answer::Refused(3),
-                Some(next) => self.line(kind, repaired, text, next, buffer),
+                Some(next) => self.line(kind, start, text, next, buffer),
             },
         })
     }
 
-    fn line(&self, kind: u8, repaired: bool, text: &[u8], next: u8, buffer: &mut [u8]) -> Answer {
+    fn line(&self, kind: u8, start: Option<u8>, text: &[u8], next: u8, buffer: &mut [u8]) -> Answer {
         let n = self.profile.body_length();
         if text.len() != 6 + 2 * n {
             return Answer::Refused(4);
@@ -110,14 +116,14 @@ impl Reader {
         if !body_allowed(self.profile, kind, &body[..n]) {
             return Answer::Refused(6);
         }
-        let end_repaired = match read_code(next) {
-            Reading::Clean(Code::End) => false,
-            Reading::Repaired(Code::End) => true,
+        let end = match read_code(next) {
+            Reading::Clean(Code::End) => None,
+            Reading::Repaired(Code::End, bit) => Some(bit),
             _ => return Answer::Refused(7),
         };
         buffer[..n].copy_from_slice(&body[..n]);
         let number = (a as u16 >> 1) << 6 | b as u16 >> 1;
-        Answer::Line { kind, number, repaired: repaired || end_repaired }
+        Answer::Line { kind, number, start, end }
     }
 
     fn gap(&self, before: Option<u8>, text: &[u8]) -> Answer {

@@ -1,5 +1,5 @@
 -- Bits of a byte, as numbers.
-use Prim.Native.Nat.{ℕ, zero, suc, _+_, _-_, _*_, _/_, _%_, _^_}
+use Prim.Native.Nat.{ℕ, _+_, _-_, _*_, _/_, _%_, _^_}
 
 -- the bit of weight 2 ^ i
 abbrev pub bit : ℕ → ℕ → ℕ
@@ -8,8 +8,3 @@ bit b i = b / (2 ^ i) % 2
 -- b with the bit of weight 2 ^ i flipped
 abbrev pub flipped : ℕ → ℕ → ℕ
 flipped b i = b + 2 ^ i - bit b i * 2 ^ (i + 1)
-
--- in how many of their n lowest bits two bytes differ
-abbrev pub differ : ℕ → ℕ → ℕ → ℕ
-differ zero a b = 0
-differ (suc n) a b = (a + b) % 2 + differ n (a / 2) (b / 2)

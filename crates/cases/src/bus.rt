@@ -7,6 +7,7 @@ use crate::text::say;
 use crate::text::say_front;
 use crate::text::say_hex;
 use crate::text::until;
+use line_code::Repair;
 use mark_answer::Kept;
 use profile::Profile;
 use reader::Fed;
@@ -161,7 +162,14 @@ fn answered(fed: Fed, answers: u64) -> Bus {
     let answer = fed.answer;
     match answer {
         Answer::Nothing => Bus { reader, answers },
-        Answer::Line(_) => shown(reader, answer, answers),
+        Answer::Line(facts) => {
+            let bus = shown(reader, answer, answers);
+            let start = facts.start;
+            let end = facts.end;
+            show_repair(b"  start bit ", start);
+            show_repair(b"  end bit ", end);
+            bus
+        }
         Answer::Gap(first, second) => {
             let bus = shown(reader, answer, answers);
             let head = reader.head;
@@ -179,6 +187,18 @@ fn shown(reader: Reader, answer: Answer, answers: u64) -> Bus {
     let used = listing::row(answers, answer, &mut row);
     say_front(&row, used);
     Bus { reader, answers }
+}
+
+// The bit of a code that was repaired.
+fn show_repair(of: &[u8], repair: Repair) {
+    match repair {
+        Repair::Clean => {}
+        Repair::Bit(bit) => {
+            say(of);
+            say_hex(bit);
+            say(b"\n");
+        }
+    }
 }
 
 // Profile 1 hands out the bytes of a gap.

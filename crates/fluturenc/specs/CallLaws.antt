@@ -12,7 +12,7 @@ use Rattle.bits.specs.Every.{and-left, and-right}
 use Rattle.refusal.specs.Refusal.{notANibble, badState, noRoom}
 use Rattle.line_code.specs.declared.Kind.{Kind}
 use Rattle.line_code.specs.declared.Kind.the-variants.{BL, BK, VL, SOF, EOF}
-use Rattle.line_code.specs.LineCode.{kindNumber}
+use Rattle.line_code.specs.LineCode.{kindNumber, repairNumber}
 use Rattle.profile.specs.declared.Profile.{Profile}
 use Rattle.profile.specs.declared.Profile.the-variants.{VV5404, VV5300}
 use Rattle.profile.specs.Profile.{profileNumber, profileNumbered, bodyLength, longest}
@@ -213,13 +213,14 @@ bit-small : (b : Bool) → bitOf b ≤ 1
 bit-small true = omega arith
 bit-small false = omega arith
 
-pub line-told : (f : LineFacts) → f .number < 0x10000
-    → (answerNumber (answers.Line f) / 0x1000000 ≡ 1) × (answerNumber (answers.Line f) / 0x80000 % 2 ≡ bitOf (eitherRepaired f))
+pub line-told : (f : LineFacts) → f .number < 0x10000 → repairNumber (f .start) < 0x10000
+    → (answerNumber (answers.Line f) / 0x1000000 % 0x100 ≡ 1) × (answerNumber (answers.Line f) / 0x80000 % 2 ≡ bitOf (eitherRepaired f))
     × (answerNumber (answers.Line f) / 0x10000 % 8 ≡ kindNumber (f .kind)) × (answerNumber (answers.Line f) % 0x10000 ≡ f .number)
-line-told f h =
+    × (answerNumber (answers.Line f) / 0x100000000 % 0x10000 ≡ repairNumber (f .start)) × (answerNumber (answers.Line f) / 0x1000000000000 ≡ repairNumber (f .end))
+line-told f h s =
     let k = kind-small (f .kind) in
     let b = bit-small (eitherRepaired f) in
-    (omega arith, omega arith, omega arith, omega arith)
+    (omega arith, omega arith, omega arith, omega arith, omega arith, omega arith)
 
 pub gap-told : (a b : ℕ) → a < 0x100 → b < 0x100
     → (answerNumber (answers.Gap a b) / 0x1000000 ≡ 2) × (answerNumber (answers.Gap a b) / 0x100 % 0x100 ≡ a) × (answerNumber (answers.Gap a b) % 0x100 ≡ b)

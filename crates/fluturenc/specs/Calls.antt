@@ -5,7 +5,7 @@ use Prim.Native.Nat.{ℕ, _+_, _*_, _%_}
 use lib.Dec.{eqb, leb, ltb}
 use lib.ListN.{length}
 use Rattle.refusal.specs.Refusal.{badState, noRoom}
-use Rattle.line_code.specs.LineCode.{kindNumber}
+use Rattle.line_code.specs.LineCode.{kindNumber, repairNumber}
 use Rattle.profile.specs.declared.Numbered.{Numbered}
 use Rattle.profile.specs.declared.Numbered.the-variants as numbered
 use Rattle.profile.specs.Profile.{profileNumbered}
@@ -29,7 +29,9 @@ use Rattle.fluturenc.specs.State.{stateLength, bitOf, stored, holdsReade
 
 abbrev pub answerNumber : Answer → ℕ
 answerNumber answers.Nothing = 0
-answerNumber (answers.Line f) = 0x1000000 + 0x80000 * bitOf (eitherRepaired f) + 0x10000 * kindNumber (f .kind) + f .number
+answerNumber (answers.Line f) =
+    0x1000000000000 * repairNumber (f .end) + 0x100000000 * repairNumber (f .start) + 0x1000000 + 0x80000 * bitOf (eitherRepaired f) + 0x10000 * kindNumber (f .kind)
+    + f .number
 answerNumber (answers.Gap a b) = 0x2000000 + 0x100 * a + b
 answerNumber (answers.Refused n) = n
 

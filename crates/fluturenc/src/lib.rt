@@ -12,7 +12,8 @@
 //   fluturenc_judge(judge, kind, number)               one line, or kind 0 for a broken one: 0 waiting, 1 going, 2 complete, or the refusal
 //
 // An answer of feed and finish is one number: 0 nothing yet; 1 to 12 the refusal; 2^24 + 2^19 (repaired) + 2^16 * kind + number a line,
-// whose body is then the front of the line buffer; 2^25 + 2^8 * first + second a good gap. Feeding is refused 11 if the state holds no
+// whose body is then the front of the line buffer, and above these 32 bits + 2^32 * start + 2^48 * end, what was repaired of the code that
+// starts it and of the one that ends it: 0 nothing, else one more than the bit's number; 2^25 + 2^8 * first + second a good gap. Feeding is refused 11 if the state holds no
 // reader that passes its own test, then 12 if the line buffer is shorter than the body, also for no nibbles, and takes nothing; an input
 // above 15 stops it before that place with 10. Finish is refused 11. Refused calls change nothing, but that what stood before a 10 is taken.
 //
@@ -77,12 +78,12 @@ pub extern "C" fn fluturenc_feed(
     nibbles: &[u8],
     line: &mut [u8],
     taken: &mut usize,
-) -> u32
+) -> u64
     ensures { λ r. ⌜ (r ≡ feedCall (now (state .entry)) (now (nibbles .entry)) (now (line .entry)) .answer) × (now (taken .exit) ≡ feedCall (now (state .entry)) (now (nibbles .entry)) (now (line .entry)) .taken) × (now (state .exit) ≡ feedCall (now (state .entry)) (now (nibbles .entry)) (now (line .entry)) .state) × (now (line .exit) ≡ feedCall (now (state .entry)) (now (nibbles .entry)) (now (line .entry)) .line) ⌝ }
 {
     *taken = 0;
     if state.len() < STATE {
-        return refusal::BAD_STATE as u32;
+        return refusal::BAD_STATE as u64;
     }
     if is_tagged(state[0], state[1], state[13]) {
         let h = head_in(state);
@@ -95,12 +96,12 @@ pub extern "C" fn fluturenc_feed(
         let answer = t.answer;
         return answer_number(answer);
     }
-    refusal::BAD_STATE as u32
+    refusal::BAD_STATE as u64
 }
 
 // Answers the last mark, if there is one, and leaves a fresh reader. Refused: 11.
 #[no_mangle]
-pub extern "C" fn fluturenc_finish(state: &mut [u8]) -> u32
+pub extern "C" fn fluturenc_finish(state: &mut [u8]) -> u64
     ensures { λ r. ⌜ (r ≡ finishCall (now (state .entry)) .answer) × (now (state .exit) ≡ finishCall (now (state .entry)) .state) ⌝ }
 {
     if holds_reader(state) {
@@ -111,7 +112,7 @@ pub extern "C" fn fluturenc_finish(state: &mut [u8]) -> u32
         let answer = f.answer;
         return answer_number(answer);
     }
-    refusal::BAD_STATE as u32
+    refusal::BAD_STATE as u64
 }
 
 // Writes one line's nibbles. Refused: 11, 13, 14, 15, 16, 17, 12, in this order.
@@ -160,30 +161,38 @@ pub extern "C" fn fluturenc_judge(judge: &mut u32, kind: u8, number: u16) -> u8
 }
 
 // An answer as a number.
-fn answer_number(answer: Answer) -> u32
+fn answer_number(answer: Answer) -> u64
     ensures { λ r. ⌜ r ≡ answerNumber answer ⌝ }
 {
     match answer {
         Answer::Nothing => 0,
         Answer::Line(f) => {
             let kind = f.kind;
-            LINE
-                + REPAIRED * bit(f.is_repaired()) as u32
-                + KIND * kind.number() as u32
-                + f.number as u32
+            let start = f.start;
+            let end = f.end;
+            END * end.number() as u64
+                + START * start.number() as u64
+                + LINE
+                + REPAIRED * bit(f.is_repaired()) as u64
+                + KIND * kind.number() as u64
+                + f.number as u64
         }
-        Answer::Gap(first, second) => GAP + 256 * first as u32 + second as u32,
-        Answer::Refused(n) => n as u32,
+        Answer::Gap(first, second) => GAP + 256 * first as u64 + second as u64,
+        Answer::Refused(n) => n as u64,
     }
 }
 
-const LINE: u32 = 0x100_0000;
+const LINE: u64 = 0x100_0000;
 
-const GAP: u32 = 0x200_0000;
+const GAP: u64 = 0x200_0000;
 
-const KIND: u32 = 0x1_0000;
+const KIND: u64 = 0x1_0000;
 
-const REPAIRED: u32 = 0x8_0000;
+const REPAIRED: u64 = 0x8_0000;
+
+const START: u64 = 0x1_0000_0000;
+
+const END: u64 = 0x1_0000_0000_0000;
 
 // A reader's state as bytes.
 

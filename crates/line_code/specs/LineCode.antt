@@ -9,7 +9,7 @@ use Rattle.line_code.specs.declared.Kind.the-variants.{BL, BK, VL, SOF, 
 use Rattle.line_code.specs.declared.Meaning.{Meaning}
 use Rattle.line_code.specs.declared.Meaning.the-variants.{EndOfLine, Line, ReservedEC, ReservedF1}
 use Rattle.line_code.specs.declared.Repair.{Repair}
-use Rattle.line_code.specs.declared.Repair.the-variants.{Clean, OneBit}
+use Rattle.line_code.specs.declared.Repair.the-variants.{Clean, Bit}
 use Rattle.line_code.specs.declared.Reading.{Reading}
 use Rattle.line_code.specs.declared.Reading.the-variants.{Says, Damaged}
 use Rattle.line_code.specs.declared.LineKind.{LineKind}
@@ -83,14 +83,14 @@ cleanByte m =
     let c0 : ℕ = bit c 0 in
     128 + 16 * c + 8 * ((c1 + c0) % 2) + 4 * ((c2 + c0) % 2) + 2 * ((c2 + c1) % 2) + (c2 + c1 + c0) % 2
 
--- repaired to a clean byte that differs in one of the n lowest bits, or damaged
+-- repaired to a clean byte that differs in one of the n lowest bits, which the reading names, or damaged
 abbrev pub repairedIn : ℕ → ℕ → Reading
 repairedIn zero b = Damaged
-repairedIn (suc n) b = cond (clean (flipped b n)) (Says (meaningOf (codeBits (flipped b n))) OneBit) (repairedIn n b)
+repairedIn (suc n) b = cond (clean (flipped b n)) (Says (meaningOf (codeBits (flipped b n))) (Bit n)) (repairedIn n b)
 
--- the reading of a byte: clean, or repaired in one of its low seven bits, or damaged
+-- the reading of a byte: clean, or repaired in one of its eight bits, or damaged
 unfoldable pub readingOf : ℕ → Reading
-readingOf b = cond (clean b) (Says (meaningOf (codeBits b)) Clean) (cond (topBit b) (repairedIn 7 b) Damaged)
+readingOf b = cond (clean b) (Says (meaningOf (codeBits b)) Clean) (repairedIn 8 b)
 
 -- the line kind that a meaning names
 abbrev pub kindMeant : Meaning → LineKind
@@ -123,11 +123,11 @@ repairOf Damaged = Clean
 -- a bit was repaired
 abbrev pub isBit : Repair → Bool
 isBit Clean = false
-isBit OneBit = true
+isBit (Bit i) = true
 
 abbrev pub isClean : Reading → Bool
 isClean (Says m Clean) = true
-isClean (Says m OneBit) = false
+isClean (Says m (Bit i)) = false
 isClean Damaged = false
 
 abbrev pub isRepaired : Reading → Bool
@@ -139,11 +139,18 @@ isDamaged Damaged = true
 
 -- A reading as a number, and back: what the program's table holds.
 
--- 0 to 7 a clean code, 8 to 15 a repaired one, 16 damaged
+-- 0 for no repair, else one more than the bit
+abbrev pub repairNumber : Repair → ℕ
+repairNumber Clean = 0
+repairNumber (Bit i) = i + 1
+
+unfoldable pub repairNumbered : ℕ → Repair
+repairNumbered n = cond (eqb n 0) Clean (Bit (n - 1))
+
+-- in hexadecimal, the low digit is the code, 0 to 7, and the high one the repair; 8 is damaged
 abbrev pub readingNumber : Reading → ℕ
-readingNumber (Says m Clean) = codeOf m
-readingNumber (Says m OneBit) = 8 + codeOf m
-readingNumber Damaged = 16
+readingNumber (Says m r) = 16 * repairNumber r + codeOf m
+readingNumber Damaged = 8
 
 unfoldable pub readingNumbered : ℕ → Reading
-readingNumbered n = cond (ltb n 8) (Says (meaningOf n) Clean) (cond (ltb n 16) (Says (meaningOf (n - 8)) OneBit) Damaged)
+readingNumbered n = cond (ltb (n % 16) 8) (Says (meaningOf (n % 16)) (repairNumbered (n / 16))) Damaged

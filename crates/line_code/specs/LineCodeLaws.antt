@@ -1,24 +1,23 @@
 -- Laws of line codes: which bytes are clean, which are repaired to which, how many of each; and demand 2's flipped bits.
 -- Each is one test, computed at all 256 bytes or at all flips of the eight clean ones, and a law that gives the rule at each.
 use mathlib.Core.Path.{_≡_, refl, sym, ap, subst, _∙_}
-use mathlib.Core.Bool.{Bool, true, false, _&&_, _||_, not, Bool·beq, true≢false}
-use Prim.Native.Nat.{ℕ, _+_, _-_, _/_, _%_, _<_, _≤_}
+use mathlib.Core.Bool.{Bool, true, false, _||_, not, Bool·beq, true≢false}
+use Prim.Native.Nat.{ℕ, _+_, _*_, _/_, _%_, _<_, _≤_}
 use lib.Dec.{eqb, ltb}
 use native.Mathlib.Omega.{arith}
-use borrow.Author.Tests.{eqb-true, eq-eqb, ne-eqb, lt-ltb, le-ltb, ltb-true, ltb-false, not-true}
-use Rattle.bits.specs.Bits.{flipped, differ}
-use Rattle.bits.specs.Every.{and-left, and-right, and-both, every, each, count}
+use borrow.Author.Tests.{eqb-true, eq-eqb, ne-eqb, lt-ltb, ltb-true, ltb-false, not-true}
+use Rattle.bits.specs.Bits.{flipped}
+use Rattle.bits.specs.Every.{every, each, count}
 use Rattle.line_code.specs.declared.Kind.{Kind}
 use Rattle.line_code.specs.declared.Kind.the-variants.{BL, BK, VL, SOF, EOF}
 use Rattle.line_code.specs.declared.Meaning.{Meaning}
 use Rattle.line_code.specs.declared.Meaning.the-variants.{EndOfLine, Line, ReservedEC, ReservedF1}
 use Rattle.line_code.specs.declared.Repair.{Repair}
-use Rattle.line_code.specs.declared.Repair.the-variants.{Clean, OneBit}
+use Rattle.line_code.specs.declared.Repair.the-variants.{Clean, Bit}
 use Rattle.line_code.specs.declared.Reading.{Reading}
 use Rattle.line_code.specs.declared.Reading.the-variants.{Says, Damaged}
-use Rattle.line_code.specs.declared.LineKind.{LineKind}
-use Rattle.line_code.specs.declared.LineKind.the-variants.{NotLine, LineOf}
-use Rattle.line_code.specs.LineCode.{kindNumber, kindNumbered, codeOf, reservedOf, meaningOf, meanings, topBit, cleanByte, readingOf, readingNumber, readingNumbered, kindOf, isEnd, isClean, isRepaired, isDamaged}
+use Rattle.line_code.specs.declared.LineKind.the-variants.{NotLine}
+use Rattle.line_code.specs.LineCode.{kindNumber, kindNumbered, codeOf, reservedOf, meaningOf, meanings, cleanByte, readingOf, repairNumber, repairNumbered, readingNumber, readingNumbered, kindOf, isEnd, isClean, isRepaired, isDamaged}
 
 -- The code of a meaning.
 
@@ -55,13 +54,18 @@ at-each f h m = subst (λ (x : Meaning). f x ≡ true) (meaning-code m) (each (�
 
 -- Two readings are compared by their numbers.
 
+repair-back : (r : Repair) → repairNumbered (repairNumber r) ≡ r
+unfolding repairNumbered
+repair-back Clean = refl
+repair-back (Bit i) = simp (ne-eqb (i + 1) 0 (λ e. omega arith)) (ap Bit (omega arith))
+
 pub number-back : (r : Reading) → readingNumbered (readingNumber r) ≡ r
 unfolding readingNumbered
-number-back (Says m Clean) = simp (lt-ltb (codeOf m) 8 (code-small m), meaning-code m)
-number-back (Says m OneBit) =
+number-back (Says m r) =
     let s = code-small m in
-    let e : 8 + codeOf m - 8 ≡ codeOf m = omega arith in
-    simp (le-ltb (8 + codeOf m) 8 (omega arith), lt-ltb (8 + codeOf m) 16 (omega arith), e, meaning-code m)
+    let q : (16 * repairNumber r + codeOf m) / 16 ≡ repairNumber r = omega arith in
+    let c : (16 * repairNumber r + codeOf m) % 16 ≡ codeOf m = omega arith in
+    simp (c, q, lt-ltb (codeOf m) 8 s, meaning-code m, repair-back r)
 number-back Damaged = refl
 
 abbrev pub same : Reading → Reading → Bool
@@ -115,73 +119,93 @@ clean-reading m =
     same-eq (readingOf (cleanByte m)) (Says m Clean)
     (clean-test (cleanByte m) m (ltb-true (cleanByte m) 256 (clean-small m)) ∙ eq-eqb (cleanByte m) (cleanByte m) refl)
 
-abbrev repairedTest : ℕ → Meaning → Bool
-repairedTest b m = Bool·beq (same (readingOf b) (Says m OneBit)) (topBit b && eqb (differ 7 b (cleanByte m)) 1)
+abbrev repairedTest : ℕ → Meaning → ℕ → Bool
+repairedTest b m i = Bool·beq (same (readingOf b) (Says m (Bit i))) (eqb b (flipped (cleanByte m) i))
 
-repaired-test : (b : ℕ) (m : Meaning) → b < 256 → same (readingOf b) (Says m OneBit) ≡ (topBit b && eqb (differ 7 b (cleanByte m)) 1)
+repaired-test : (b : ℕ) (m : Meaning) (i : ℕ) → b < 256 → i < 8 → same (readingOf b) (Says m (Bit i)) ≡ eqb b (flipped (cleanByte m) i)
 unfolding cleanByte readingOf meaningOf kindNumbered reservedOf
-repaired-test b m h =
-    agree (same (readingOf b) (Says m OneBit)) (topBit b && eqb (differ 7 b (cleanByte m)) 1)
-    (at-each (repairedTest b) (each (λ (n : ℕ). atAll (repairedTest n)) 256 refl b h) m)
+repaired-test b m i h g =
+    agree (same (readingOf b) (Says m (Bit i))) (eqb b (flipped (cleanByte m) i))
+    (each (repairedTest b m) 8 (at-each (λ (x : Meaning). every (repairedTest b x) 8) (each (λ (n : ℕ). atAll (λ (x : Meaning). every (repairedTest n x) 8)) 256 refl b h) m) i g)
 
--- a byte is repaired to a clean byte exactly if its top bit is 1 and it differs from it in one of its low seven bits
-pub repaired-is : (b : ℕ) (m : Meaning) → b < 256 → readingOf b ≡ Says m OneBit → (topBit b ≡ true) × (differ 7 b (cleanByte m) ≡ 1)
-repaired-is b m h e =
-    let t : (topBit b && eqb (differ 7 b (cleanByte m)) 1) ≡ true = sym (repaired-test b m h) ∙ eq-same (readingOf b) (Says m OneBit) e in
-    (and-left (topBit b) _ t, eqb-true (differ 7 b (cleanByte m)) 1 (and-right (topBit b) _ t))
+-- a bit that is named is one of the eight
+abbrev bitNamed : Reading → Bool
+bitNamed (Says m Clean) = true
+bitNamed (Says m (Bit i)) = ltb i 8
+bitNamed Damaged = true
 
-pub repaired-reading : (b : ℕ) (m : Meaning) → b < 256 → topBit b ≡ true → differ 7 b (cleanByte m) ≡ 1 → readingOf b ≡ Says m OneBit
-repaired-reading b m h t d =
-    same-eq (readingOf b) (Says m OneBit)
-    (repaired-test b m h ∙ and-both (topBit b) _ t (eq-eqb (differ 7 b (cleanByte m)) 1 d))
+bit-named : (b : ℕ) (m : Meaning) (i : ℕ) → b < 256 → readingOf b ≡ Says m (Bit i) → i < 8
+unfolding readingOf meaningOf kindNumbered reservedOf
+bit-named b m i h e = ltb-true i 8 (sym (ap bitNamed e) ∙ each (λ (n : ℕ). bitNamed (readingOf n)) 256 refl b h)
 
--- of 256 there are 8 clean, 56 repaired, 192 damaged
-pub counts : (count (λ b. isClean (readingOf b)) 256 ≡ 8) × (count (λ b. isRepaired (readingOf b)) 256 ≡ 56) × (count (λ b. isDamaged (readingOf b)) 256 ≡ 192)
+-- a byte is repaired to a clean byte exactly if it differs from it in one of its eight bits, and that is the bit named
+pub repaired-is : (b : ℕ) (m : Meaning) (i : ℕ) → b < 256 → readingOf b ≡ Says m (Bit i) → (i < 8) × (b ≡ flipped (cleanByte m) i)
+repaired-is b m i h e =
+    let g = bit-named b m i h e in
+    (g, eqb-true b (flipped (cleanByte m) i) (sym (repaired-test b m i h g) ∙ eq-same (readingOf b) (Says m (Bit i)) e))
+
+pub repaired-reading : (b : ℕ) (m : Meaning) (i : ℕ) → b < 256 → i < 8 → b ≡ flipped (cleanByte m) i → readingOf b ≡ Says m (Bit i)
+repaired-reading b m i h g e = same-eq (readingOf b) (Says m (Bit i)) (repaired-test b m i h g ∙ eq-eqb b (flipped (cleanByte m) i) e)
+
+-- of 256 there are 8 clean, 64 repaired, 184 damaged
+pub counts : (count (λ b. isClean (readingOf b)) 256 ≡ 8) × (count (λ b. isRepaired (readingOf b)) 256 ≡ 64) × (count (λ b. isDamaged (readingOf b)) 256 ≡ 184)
 unfolding readingOf meaningOf kindNumbered reservedOf
 counts = (refl, refl, refl)
 
 -- Demand 2: flipped bits.
 
 abbrev mended : Meaning → ℕ → Bool
-mended m i = same (readingOf (flipped (cleanByte m) i)) (Says m OneBit)
+mended m i = same (readingOf (flipped (cleanByte m) i)) (Says m (Bit i))
 
--- any one of the low seven bits of a clean byte flipped is read as the same meaning, repaired
-pub one-flip : (m : Meaning) (i : ℕ) → i < 7 → readingOf (flipped (cleanByte m) i) ≡ Says m OneBit
+-- any one of the eight bits of a clean byte flipped is read as the same meaning, that bit repaired
+pub one-flip : (m : Meaning) (i : ℕ) → i < 8 → readingOf (flipped (cleanByte m) i) ≡ Says m (Bit i)
 unfolding cleanByte readingOf meaningOf kindNumbered reservedOf
 one-flip m i h =
-    same-eq (readingOf (flipped (cleanByte m) i)) (Says m OneBit)
-    (each (mended m) 7 (at-each (λ (x : Meaning). every (mended x) 7) refl m) i h)
+    same-eq (readingOf (flipped (cleanByte m) i)) (Says m (Bit i))
+    (each (mended m) 8 (at-each (λ (x : Meaning). every (mended x) 8) refl m) i h)
 
-abbrev noLine : LineKind → Bool
-noLine NotLine = true
-noLine (LineOf k) = false
+damaged-is : (r : Reading) → isDamaged r ≡ true → r ≡ Damaged
+damaged-is (Says m r) h = absurd (true≢false (sym h))
+damaged-is Damaged h = refl
 
-no-line : (k : LineKind) → noLine k ≡ true → k ≡ NotLine
-no-line NotLine h = refl
-no-line (LineOf k) h = absurd (true≢false (sym h))
-
--- the byte with two of its bits flipped names no line kind
+-- the byte with two of its bits flipped is damaged
 abbrev apart : Meaning → ℕ → ℕ → Bool
-apart m i j = eqb i j || noLine (kindOf (readingOf (flipped (flipped (cleanByte m) i) j)))
+apart m i j = eqb i j || isDamaged (readingOf (flipped (flipped (cleanByte m) i) j))
 
 or-right : (a b : Bool) → (a || b) ≡ true → a ≡ false → b ≡ true
 or-right true b h e = absurd (true≢false e)
 or-right false b h e = h
 
--- any two different bits among the eight of a clean byte flipped are never read as a line kind
-pub two-flips : (m : Meaning) (i j : ℕ) → i < 8 → j < 8 → (i ≡ j → ⊥) → kindOf (readingOf (flipped (flipped (cleanByte m) i) j)) ≡ NotLine
+-- any two different bits among the eight of a clean byte flipped are damage
+pub two-damaged : (m : Meaning) (i j : ℕ) → i < 8 → j < 8 → (i ≡ j → ⊥) → readingOf (flipped (flipped (cleanByte m) i) j) ≡ Damaged
 unfolding cleanByte readingOf meaningOf kindNumbered reservedOf
-two-flips m i j h g d =
-    no-line (kindOf (readingOf (flipped (flipped (cleanByte m) i) j)))
+two-damaged m i j h g d =
+    damaged-is (readingOf (flipped (flipped (cleanByte m) i) j))
     (or-right (eqb i j) _
     (each (apart m i) 8 (each (λ (n : ℕ). every (apart m n) 8) 8 (at-each (λ (x : Meaning). every (λ (n : ℕ). every (apart x n) 8) 8) refl m) i h) j g)
     (ne-eqb i j d))
 
+-- so they are never read as a line kind
+pub two-flips : (m : Meaning) (i j : ℕ) → i < 8 → j < 8 → (i ≡ j → ⊥) → kindOf (readingOf (flipped (flipped (cleanByte m) i) j)) ≡ NotLine
+two-flips m i j h g d = ap kindOf (two-damaged m i j h g d)
+
 -- Codes that end in F.
 
+-- a number that is no byte is damaged: a flipped bit leaves it none
 pub damaged-far : (b : ℕ) → 256 ≤ b → readingOf b ≡ Damaged
 unfolding readingOf
-damaged-far b h = simp (ne-eqb (b / 128) 1 (λ e. omega arith))
+damaged-far b h =
+    simp (
+      ne-eqb (b / 128) 1 (λ e. omega arith),
+      ne-eqb (flipped b 0 / 128) 1 (λ e. omega arith),
+      ne-eqb (flipped b 1 / 128) 1 (λ e. omega arith),
+      ne-eqb (flipped b 2 / 128) 1 (λ e. omega arith),
+      ne-eqb (flipped b 3 / 128) 1 (λ e. omega arith),
+      ne-eqb (flipped b 4 / 128) 1 (λ e. omega arith),
+      ne-eqb (flipped b 5 / 128) 1 (λ e. omega arith),
+      ne-eqb (flipped b 6 / 128) 1 (λ e. omega arith),
+      ne-eqb (flipped b 7 / 128) 1 (λ e. omega arith),
+    )
 
 -- a byte that ends in F is no end of line: so a code that lies on the next mark's F never is
 pub no-end-F : (b : ℕ) → b % 16 ≡ 15 → isEnd (readingOf b) ≡ false

@@ -1,9 +1,9 @@
 // Line codes (paper 01, 'Marks and line codes').
 //
-// In: the byte after a mark's F F F F 0 0. Out: how it reads: one of eight meanings, clean or with one of its low seven bits
-// repaired, or damaged. Every byte has a reading, so nothing is refused here. Cost: a few operations, no loop.
+// In: the byte after a mark's F F F F 0 0. Out: how it reads: one of eight meanings, clean or with one of its eight bits repaired (and
+// which), or damaged. Every byte has a reading, so nothing is refused here. Cost: a few operations, no loop.
 ghost use mathlib.Core.Path.{_≡_};
-ghost use Rattle.line_code.specs.LineCode.{meaningOf, reservedOf, kindMeant, endMeant, cleanByte, readingOf, readingNumbered, kindOf, isEnd, repairOf, isBit, kindNumber, kindNumbered};
+ghost use Rattle.line_code.specs.LineCode.{meaningOf, reservedOf, kindMeant, endMeant, cleanByte, readingOf, readingNumbered, repairNumber, repairNumbered, kindOf, isEnd, repairOf, isBit, kindNumber, kindNumbered};
 ghost use Rattle.line_code.specs.declared.Meaning.the-variants.{Line};
 
 // The line kinds, numbered 1 to 5.
@@ -23,10 +23,10 @@ pub enum Meaning {
     ReservedF1,
 }
 
-// What was repaired of a code: nothing, or one of its bits.
+// What was repaired of a code: nothing, or the bit of this number, 0 to 7.
 pub enum Repair {
     Clean,
-    OneBit,
+    Bit(u8),
 }
 
 // How a code byte reads.
@@ -112,7 +112,17 @@ impl Repair {
     {
         match self {
             Repair::Clean => false,
-            Repair::OneBit => true,
+            Repair::Bit(_) => true,
+        }
+    }
+
+    // The repair as a number: 0 for none, else one more than the bit's.
+    pub fn number(self) -> u16
+        ensures { λ r. ⌜ r ≡ repairNumber self ⌝ }
+    {
+        match self {
+            Repair::Clean => 0,
+            Repair::Bit(i) => i as u16 + 1,
         }
     }
 }
@@ -157,280 +167,288 @@ pub fn read(byte: u8) -> Reading
     reading_numbered(n)
 }
 
-// The readings of all 256 code bytes, by number: 0 to 7 a clean code, 8 to 15 a repaired one (8 and the code), 16 damaged. Beside each
-// entry stands its byte.
+// The readings of all 256 code bytes, by number: the low digit is the code, 0 to 7, and the high digit the repair's number, 0 for a clean
+// code; 8 is damaged. Beside each entry stands its byte.
 const READINGS: [u8; 256] = [
-    16, // 00
-    16, // 01
-    16, // 02
-    16, // 03
-    16, // 04
-    16, // 05
-    16, // 06
-    16, // 07
-    16, // 08
-    16, // 09
-    16, // 0A
-    16, // 0B
-    16, // 0C
-    16, // 0D
-    16, // 0E
-    16, // 0F
-    16, // 10
-    16, // 11
-    16, // 12
-    16, // 13
-    16, // 14
-    16, // 15
-    16, // 16
-    16, // 17
-    16, // 18
-    16, // 19
-    16, // 1A
-    16, // 1B
-    16, // 1C
-    16, // 1D
-    16, // 1E
-    16, // 1F
-    16, // 20
-    16, // 21
-    16, // 22
-    16, // 23
-    16, // 24
-    16, // 25
-    16, // 26
-    16, // 27
-    16, // 28
-    16, // 29
-    16, // 2A
-    16, // 2B
-    16, // 2C
-    16, // 2D
-    16, // 2E
-    16, // 2F
-    16, // 30
-    16, // 31
-    16, // 32
-    16, // 33
-    16, // 34
-    16, // 35
-    16, // 36
-    16, // 37
-    16, // 38
-    16, // 39
-    16, // 3A
-    16, // 3B
-    16, // 3C
-    16, // 3D
-    16, // 3E
-    16, // 3F
-    16, // 40
-    16, // 41
-    16, // 42
-    16, // 43
-    16, // 44
-    16, // 45
-    16, // 46
-    16, // 47
-    16, // 48
-    16, // 49
-    16, // 4A
-    16, // 4B
-    16, // 4C
-    16, // 4D
-    16, // 4E
-    16, // 4F
-    16, // 50
-    16, // 51
-    16, // 52
-    16, // 53
-    16, // 54
-    16, // 55
-    16, // 56
-    16, // 57
-    16, // 58
-    16, // 59
-    16, // 5A
-    16, // 5B
-    16, // 5C
-    16, // 5D
-    16, // 5E
-    16, // 5F
-    16, // 60
-    16, // 61
-    16, // 62
-    16, // 63
-    16, // 64
-    16, // 65
-    16, // 66
-    16, // 67
-    16, // 68
-    16, // 69
-    16, // 6A
-    16, // 6B
-    16, // 6C
-    16, // 6D
-    16, // 6E
-    16, // 6F
-    16, // 70
-    16, // 71
-    16, // 72
-    16, // 73
-    16, // 74
-    16, // 75
-    16, // 76
-    16, // 77
-    16, // 78
-    16, // 79
-    16, // 7A
-    16, // 7B
-    16, // 7C
-    16, // 7D
-    16, // 7E
-    16, // 7F
-    0, // 80
-    8, // 81
-    8, // 82
-    16, // 83
-    8, // 84
-    16, // 85
-    16, // 86
-    12, // 87
-    8, // 88
-    16, // 89
-    16, // 8A
-    10, // 8B
-    16, // 8C
-    9, // 8D
-    16, // 8E
-    16, // 8F
-    8, // 90
-    16, // 91
-    16, // 92
-    16, // 93
-    16, // 94
-    9, // 95
-    11, // 96
-    16, // 97
-    16, // 98
-    9, // 99
-    13, // 9A
-    16, // 9B
-    9, // 9C
-    1, // 9D
-    16, // 9E
-    9, // 9F
-    8, // A0
-    16, // A1
-    16, // A2
-    10, // A3
-    16, // A4
-    16, // A5
-    11, // A6
-    16, // A7
-    16, // A8
-    10, // A9
-    10, // AA
-    2, // AB
-    14, // AC
-    16, // AD
-    16, // AE
-    10, // AF
-    16, // B0
-    15, // B1
-    11, // B2
-    16, // B3
-    11, // B4
-    16, // B5
-    3, // B6
-    11, // B7
-    16, // B8
-    16, // B9
-    16, // BA
-    10, // BB
-    16, // BC
-    9, // BD
-    11, // BE
-    16, // BF
-    8, // C0
-    16, // C1
-    16, // C2
-    12, // C3
-    16, // C4
-    12, // C5
-    12, // C6
-    4, // C7
-    16, // C8
-    16, // C9
-    13, // CA
-    16, // CB
-    14, // CC
-    16, // CD
-    16, // CE
-    12, // CF
-    16, // D0
-    15, // D1
-    13, // D2
-    16, // D3
-    16, // D4
-    16, // D5
-    16, // D6
-    12, // D7
-    13, // D8
-    16, // D9
-    5, // DA
-    13, // DB
-    16, // DC
-    9, // DD
-    13, // DE
-    16, // DF
-    16, // E0
-    15, // E1
-    16, // E2
-    16, // E3
-    14, // E4
-    16, // E5
-    16, // E6
-    12, // E7
-    14, // E8
-    16, // E9
-    16, // EA
-    10, // EB
-    6, // EC
-    14, // ED
-    14, // EE
-    16, // EF
-    15, // F0
-    7, // F1
-    16, // F2
-    15, // F3
-    16, // F4
-    15, // F5
-    11, // F6
-    16, // F7
-    16, // F8
-    15, // F9
-    13, // FA
-    16, // FB
-    14, // FC
-    16, // FD
-    16, // FE
-    16, // FF
+    0x80, // 00
+    0x08, // 01
+    0x08, // 02
+    0x08, // 03
+    0x08, // 04
+    0x08, // 05
+    0x08, // 06
+    0x08, // 07
+    0x08, // 08
+    0x08, // 09
+    0x08, // 0A
+    0x08, // 0B
+    0x08, // 0C
+    0x08, // 0D
+    0x08, // 0E
+    0x08, // 0F
+    0x08, // 10
+    0x08, // 11
+    0x08, // 12
+    0x08, // 13
+    0x08, // 14
+    0x08, // 15
+    0x08, // 16
+    0x08, // 17
+    0x08, // 18
+    0x08, // 19
+    0x08, // 1A
+    0x08, // 1B
+    0x08, // 1C
+    0x81, // 1D
+    0x08, // 1E
+    0x08, // 1F
+    0x08, // 20
+    0x08, // 21
+    0x08, // 22
+    0x08, // 23
+    0x08, // 24
+    0x08, // 25
+    0x08, // 26
+    0x08, // 27
+    0x08, // 28
+    0x08, // 29
+    0x08, // 2A
+    0x82, // 2B
+    0x08, // 2C
+    0x08, // 2D
+    0x08, // 2E
+    0x08, // 2F
+    0x08, // 30
+    0x08, // 31
+    0x08, // 32
+    0x08, // 33
+    0x08, // 34
+    0x08, // 35
+    0x83, // 36
+    0x08, // 37
+    0x08, // 38
+    0x08, // 39
+    0x08, // 3A
+    0x08, // 3B
+    0x08, // 3C
+    0x08, // 3D
+    0x08, // 3E
+    0x08, // 3F
+    0x08, // 40
+    0x08, // 41
+    0x08, // 42
+    0x08, // 43
+    0x08, // 44
+    0x08, // 45
+    0x08, // 46
+    0x84, // 47
+    0x08, // 48
+    0x08, // 49
+    0x08, // 4A
+    0x08, // 4B
+    0x08, // 4C
+    0x08, // 4D
+    0x08, // 4E
+    0x08, // 4F
+    0x08, // 50
+    0x08, // 51
+    0x08, // 52
+    0x08, // 53
+    0x08, // 54
+    0x08, // 55
+    0x08, // 56
+    0x08, // 57
+    0x08, // 58
+    0x08, // 59
+    0x85, // 5A
+    0x08, // 5B
+    0x08, // 5C
+    0x08, // 5D
+    0x08, // 5E
+    0x08, // 5F
+    0x08, // 60
+    0x08, // 61
+    0x08, // 62
+    0x08, // 63
+    0x08, // 64
+    0x08, // 65
+    0x08, // 66
+    0x08, // 67
+    0x08, // 68
+    0x08, // 69
+    0x08, // 6A
+    0x08, // 6B
+    0x86, // 6C
+    0x08, // 6D
+    0x08, // 6E
+    0x08, // 6F
+    0x08, // 70
+    0x87, // 71
+    0x08, // 72
+    0x08, // 73
+    0x08, // 74
+    0x08, // 75
+    0x08, // 76
+    0x08, // 77
+    0x08, // 78
+    0x08, // 79
+    0x08, // 7A
+    0x08, // 7B
+    0x08, // 7C
+    0x08, // 7D
+    0x08, // 7E
+    0x08, // 7F
+    0x00, // 80
+    0x10, // 81
+    0x20, // 82
+    0x08, // 83
+    0x30, // 84
+    0x08, // 85
+    0x08, // 86
+    0x74, // 87
+    0x40, // 88
+    0x08, // 89
+    0x08, // 8A
+    0x62, // 8B
+    0x08, // 8C
+    0x51, // 8D
+    0x08, // 8E
+    0x08, // 8F
+    0x50, // 90
+    0x08, // 91
+    0x08, // 92
+    0x08, // 93
+    0x08, // 94
+    0x41, // 95
+    0x63, // 96
+    0x08, // 97
+    0x08, // 98
+    0x31, // 99
+    0x75, // 9A
+    0x08, // 9B
+    0x11, // 9C
+    0x01, // 9D
+    0x08, // 9E
+    0x21, // 9F
+    0x60, // A0
+    0x08, // A1
+    0x08, // A2
+    0x42, // A3
+    0x08, // A4
+    0x08, // A5
+    0x53, // A6
+    0x08, // A7
+    0x08, // A8
+    0x22, // A9
+    0x12, // AA
+    0x02, // AB
+    0x76, // AC
+    0x08, // AD
+    0x08, // AE
+    0x32, // AF
+    0x08, // B0
+    0x77, // B1
+    0x33, // B2
+    0x08, // B3
+    0x23, // B4
+    0x08, // B5
+    0x03, // B6
+    0x13, // B7
+    0x08, // B8
+    0x08, // B9
+    0x08, // BA
+    0x52, // BB
+    0x08, // BC
+    0x61, // BD
+    0x43, // BE
+    0x08, // BF
+    0x70, // C0
+    0x08, // C1
+    0x08, // C2
+    0x34, // C3
+    0x08, // C4
+    0x24, // C5
+    0x14, // C6
+    0x04, // C7
+    0x08, // C8
+    0x08, // C9
+    0x55, // CA
+    0x08, // CB
+    0x66, // CC
+    0x08, // CD
+    0x08, // CE
+    0x44, // CF
+    0x08, // D0
+    0x67, // D1
+    0x45, // D2
+    0x08, // D3
+    0x08, // D4
+    0x08, // D5
+    0x08, // D6
+    0x54, // D7
+    0x25, // D8
+    0x08, // D9
+    0x05, // DA
+    0x15, // DB
+    0x08, // DC
+    0x71, // DD
+    0x35, // DE
+    0x08, // DF
+    0x08, // E0
+    0x57, // E1
+    0x08, // E2
+    0x08, // E3
+    0x46, // E4
+    0x08, // E5
+    0x08, // E6
+    0x64, // E7
+    0x36, // E8
+    0x08, // E9
+    0x08, // EA
+    0x72, // EB
+    0x06, // EC
+    0x16, // ED
+    0x26, // EE
+    0x08, // EF
+    0x17, // F0
+    0x07, // F1
+    0x08, // F2
+    0x27, // F3
+    0x08, // F4
+    0x37, // F5
+    0x73, // F6
+    0x08, // F7
+    0x08, // F8
+    0x47, // F9
+    0x65, // FA
+    0x08, // FB
+    0x56, // FC
+    0x08, // FD
+    0x08, // FE
+    0x08, // FF
 ];
 
 // The reading with a number.
 fn reading_numbered(n: u8) -> Reading
     ensures { λ r. ⌜ r ≡ readingNumbered n ⌝ }
 {
-    if n < 8 {
-        let m = meaning_of(n);
-        return Reading::Says(m, Repair::Clean);
-    }
-    if n < 16 {
-        let m = meaning_of(n - 8);
-        return Reading::Says(m, Repair::OneBit);
+    let code = n % 16;
+    if code < 8 {
+        let m = meaning_of(code);
+        let r = repair_numbered(n / 16);
+        return Reading::Says(m, r);
     }
     Reading::Damaged
+}
+
+// The repair with a number.
+fn repair_numbered(n: u8) -> Repair
+    ensures { λ r. ⌜ r ≡ repairNumbered n ⌝ }
+{
+    if n == 0 {
+        return Repair::Clean;
+    }
+    Repair::Bit(n - 1)
 }
 
 // The meaning with a code number.

@@ -1,5 +1,5 @@
 -- Demand 2, read-back: a line as written comes out once, as it was given to the writer, when its end code is complete; then its gap.
--- The same line with one of the low seven bits of a code flipped comes out the same, marked repaired.
+-- The same line with one of the eight bits of a code flipped comes out the same, and that bit is named.
 use mathlib.Core.Path.{_≡_, refl, _∙_, ap, ap₂, sym}
 use mathlib.Core.Bool.{Bool, true, false, _&&_, true≢false}
 use mathlib.Core.List.{List, [], _∷_, _++_, append-nil}
@@ -18,7 +18,7 @@ use Rattle.line_code.specs.declared.Meaning.{Meaning}
 use Rattle.line_code.specs.declared.Meaning.the-variants.{EndOfLine, Line}
 use Rattle.line_code.specs.declared.Reading.the-variants.{Says}
 use Rattle.line_code.specs.declared.Repair.{Repair}
-use Rattle.line_code.specs.declared.Repair.the-variants.{Clean, OneBit}
+use Rattle.line_code.specs.declared.Repair.the-variants.{Clean, Bit}
 use Rattle.line_code.specs.declared.LineKind.{LineKind}
 use Rattle.line_code.specs.declared.LineKind.the-variants.{LineOf}
 use Rattle.line_code.specs.LineCode.{cleanByte, readingOf, kindOf, isEnd, isDamaged}
@@ -280,15 +280,15 @@ read-back-with p s g start end r q hs he =
       gap-at-finish = ap (λ (y : State). finish p y .outcome) (b .state) ∙ answered none;
     }
 
--- one of the low seven bits of the start code flipped: the same line, marked repaired
-pub start-flipped : (p : Profile) (s : Sent) → Writable p s → (i : ℕ) → i < 7
-    → ReadsBack p s (writtenWith (flipped (cleanByte (Line (s .kind))) i) (cleanByte EndOfLine) s) OneBit Clean
-start-flipped p s g i h = read-back-with p s g _ _ OneBit Clean (one-flip (Line (s .kind)) i h) (clean-reading EndOfLine)
+-- one of the eight bits of the start code flipped: the same line, that bit named
+pub start-flipped : (p : Profile) (s : Sent) → Writable p s → (i : ℕ) → i < 8
+    → ReadsBack p s (writtenWith (flipped (cleanByte (Line (s .kind))) i) (cleanByte EndOfLine) s) (Bit i) Clean
+start-flipped p s g i h = read-back-with p s g _ _ (Bit i) Clean (one-flip (Line (s .kind)) i h) (clean-reading EndOfLine)
 
--- one of the low seven bits of the end code flipped: the same
-pub end-flipped : (p : Profile) (s : Sent) → Writable p s → (i : ℕ) → i < 7
-    → ReadsBack p s (writtenWith (cleanByte (Line (s .kind))) (flipped (cleanByte EndOfLine) i) s) Clean OneBit
-end-flipped p s g i h = read-back-with p s g _ _ Clean OneBit (clean-reading (Line (s .kind))) (one-flip EndOfLine i h)
+-- one of the eight bits of the end code flipped: the same
+pub end-flipped : (p : Profile) (s : Sent) → Writable p s → (i : ℕ) → i < 8
+    → ReadsBack p s (writtenWith (cleanByte (Line (s .kind))) (flipped (cleanByte EndOfLine) i) s) Clean (Bit i)
+end-flipped p s g i h = read-back-with p s g _ _ Clean (Bit i) (clean-reading (Line (s .kind))) (one-flip EndOfLine i h)
 
 -- whatever is written is read back: the same kind, number and body, neither code repaired; then the gap's two bytes
 pub read-back : (p : Profile) (s : Sent) → Writable p s → ReadsBack p s (written s) Clean Clean

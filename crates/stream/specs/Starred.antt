@@ -9,7 +9,7 @@ use Rattle.line_code.specs.declared.Kind.the-variants.{BL}
 use Rattle.line_code.specs.declared.Meaning.the-variants.{EndOfLine, Line, ReservedEC}
 use Rattle.line_code.specs.declared.Reading.{Reading}
 use Rattle.line_code.specs.declared.Reading.the-variants.{Says, Damaged}
-use Rattle.line_code.specs.declared.Repair.the-variants.{Clean, OneBit}
+use Rattle.line_code.specs.declared.Repair.the-variants.{Clean, Bit}
 use Rattle.line_code.specs.declared.LineKind.{LineKind}
 use Rattle.line_code.specs.LineCode.{kindNumbered, reservedOf, meaningOf, readingOf}
 use Rattle.line_number.specs.declared.Encoded.the-variants.{Bytes}
@@ -42,13 +42,13 @@ starred =
     ∷ number 303 0x08 0x5E
     ∷ number 4095 0x7F 0x7F
     ∷ code 0x9D (Says (Line BL) Clean)
-    ∷ code 0x9C (Says (Line BL) OneBit)
-    ∷ code 0xBD (Says (Line BL) OneBit)
+    ∷ code 0x9C (Says (Line BL) (Bit 0))
+    ∷ code 0xBD (Says (Line BL) (Bit 5))
     ∷ code 0x9E Damaged
-    ∷ code 0x1D Damaged
+    ∷ code 0x1D (Says (Line BL) (Bit 7))
     ∷ code 0xFF Damaged
-    ∷ code 0x81 (Says EndOfLine OneBit)
-    ∷ code 0xED (Says ReservedEC OneBit)
+    ∷ code 0x81 (Says EndOfLine (Bit 0))
+    ∷ code 0xED (Says ReservedEC (Bit 0))
     ∷ answer 0xED reservedCode
     ∷ []
 

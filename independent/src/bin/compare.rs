@@ -175,18 +175,19 @@ fn compare_edges(count: &mut Count) {
     let long = [7u8; LONGEST + 1];
     let mut pixels = [0x33u8; LONGEST];
     pixels[LONGEST - 1] = 0x1F;
-    let line = |kind, number, repaired| Answer::Line { kind, number, repaired };
+    let line = |kind, number, start, end| Answer::Line { kind, number, start, end };
     let gap = Answer::Gap(255, 255);
     let cases: Vec<(&str, Vec<u8>, Vec<Answer>)> = vec![
         ("no input", vec![], vec![]),
         ("no mark", hex("FFFF0 FFF00 12345", &[]), vec![]),
         ("a body of 355", hex("FFFF009D 085E * FFFF0080 FFFF", &blank[1..]), vec![Answer::Refused(4), gap.clone()]),
-        ("a body of 356", hex("FFFF009D 085E * FFFF0080 FFFF", &blank), vec![line(1, 303, false), gap.clone()]),
+        ("a body of 356", hex("FFFF009D 085E * FFFF0080 FFFF", &blank), vec![line(1, 303, None, None), gap.clone()]),
         ("a body of 357", hex("FFFF009D 085E * FFFF0080 FFFF", &long), vec![Answer::Refused(4), gap.clone()]),
         ("a code on the next mark", hex("FFFF00FFFF00C7", &[]), vec![Answer::Refused(1), Answer::Refused(3)]),
-        ("a last pixel 1F", hex("FFFF00B6 011A * FFFF0080 FFFF", &pixels), vec![line(3, 13, false), gap.clone()]),
-        ("a repaired start", hex("FFFF009C 0101 * FFFF0080", &blank), vec![line(1, 0, true), gap.clone()]),
-        ("a repaired end", hex("FFFF009D 0101 * FFFF0081", &blank), vec![line(1, 0, true), gap.clone()]),
+        ("a last pixel 1F", hex("FFFF00B6 011A * FFFF0080 FFFF", &pixels), vec![line(3, 13, None, None), gap.clone()]),
+        ("a repaired start", hex("FFFF009C 0101 * FFFF0080", &blank), vec![line(1, 0, Some(0), None), gap.clone()]),
+        ("a repaired end", hex("FFFF009D 0101 * FFFF0081", &blank), vec![line(1, 0, None, Some(0)), gap.clone()]),
+        ("both top bits repaired", hex("FFFF001D 0101 * FFFF0000", &blank), vec![line(1, 0, Some(7), Some(7)), gap.clone()]),
         ("a reserved code", hex("FFFF00ED", &[]), vec![Answer::Refused(2)]),
         ("a damaged code", hex("FFFF009E", &[]), vec![Answer::Refused(1)]),
     ];
