@@ -59,7 +59,10 @@ uint64_t fluturenc_finish(uint8_t *state, size_t state_length);
  *     + 2^32 * start + 2^48 * end                  and above these, what was repaired of the code that starts it, and of the one that
  *                                                  ends it: 0 nothing, else one more than the number of the bit, 0 to 7
  *   2^25 + 2^8 * first + second                    a good gap, with its two bytes
- * The low 32 bits alone are the answer without its repairs' bits. */
+ *     + 2^32 * period                              and above these, its line's period in nibbles: from the line's first mark nibble to the
+ *                                                  first nibble of the mark after the gap, held at 65535; 0 where the line was not handed
+ *                                                  out, and where the end of the capture closed the gap
+ * The low 32 bits alone are the answer without the bits of its repairs and without its period. */
 
 static inline int fluturenc_is_refusal(uint64_t answer) { return 1 <= answer && answer <= 12; }
 
@@ -86,6 +89,8 @@ static inline int fluturenc_end_bit(uint64_t answer) { return (int)(answer >> 48
 static inline uint8_t fluturenc_gap_first(uint64_t answer) { return (uint8_t)(answer >> 8 & 0xFF); }
 
 static inline uint8_t fluturenc_gap_second(uint64_t answer) { return (uint8_t)(answer & 0xFF); }
+
+static inline uint16_t fluturenc_gap_period(uint64_t answer) { return (uint16_t)(answer >> 32); }
 
 /* The writer: one line's nibbles, its end, its two gap bytes and so many null bytes, and how many nibbles that is: 0; or the refusal, in
  * this order, and then none is written: 11 no such profile, 13 no such kind, 14 a number above 4095, 15 a body of the wrong length, 16 a

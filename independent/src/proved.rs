@@ -98,8 +98,8 @@ pub fn answer(number: u64) -> Option<Answer> {
             Some(Answer::Line { kind: (number >> 16 & 7) as u8, number: number as u16, start, end })
         }
         2 => {
-            assert_eq!(number >> 26, 0, "{number:#x} is no gap");
-            Some(Answer::Gap((number >> 8) as u8, number as u8))
+            let period = u16::try_from(number >> 32).expect("a period is held at 65,535");
+            Some(Answer::Gap((number >> 8) as u8, number as u8, period))
         }
         _ => panic!("{number:#x} is no answer"),
     }

@@ -11,7 +11,8 @@ pub enum Answer {
         start: Option<u8>,
         end: Option<u8>,
     },
-    Gap(u8, u8),
+    /// Two bytes, and the line's period in nibbles.
+    Gap(u8, u8, u16),
     Refused(u8),
 }
 
@@ -23,6 +24,11 @@ pub struct Reader {
     open: Option<(Option<u8>, u8)>,
     /// All nibbles since the open mark's 0 0; all nibbles so far while no mark is open.
     text: Vec<u8>,
+    /// All nibbles taken, and the place of the open mark's first F.
+    taken: usize,
+    start: usize,
+    /// The place of the first F of the mark before it, where that was handed out as a line.
+    line: Option<usize>,
 }
 
 fn kind_of(code: u8) -> Option<u8> {
@@ -34,7 +40,7 @@ fn kind_of(code: u8) -> Option<u8> {
 
 impl Reader {
     pub fn new(profile: Profile) -> Reader {
-        Reader { profile, open: None, text: Vec::new() }
+        Reader { profile, open: None, text: Vec::new(), taken: 0, start: 0, line: None }
     }
 
     /// Takes a nibble, with a line buffer: an answer if one is due. 10 and 12 change nothing.
@@ -46,6 +52,7 @@ impl Reader {
             return Some(Answer::Refused(12));
         }
         self.text.push(nibble);
+        self.taken += 1;
         let n = self.text.len();
         if n < 8 || self.text[n - 8..n - 2] != GROUP {
             return None;
@@ -54,6 +61,8 @@ impl Reader {
         let answer = self.answer(&self.text[..n - 8], Some(code), buffer);
         let before = self.open.and_then(|(_, own)| kind_of(own));
         self.open = Some((before, code));
+        self.line = matches!(answer, Some(Answer::Line { .. })).then_some(self.start);
+        self.start = self.taken - 8;
         self.text.clear();
         self.text.push(code >> 4);
         self.text.push(code & 15);
@@ -91,7 +100,7 @@ impl Reader {
         };
         Some(match code {
             Code::Reserved => Answer::Refused(2),
-            Code::End => self.gap(before, text),
+            Code::End => self.gap(before, text, next.map_or(0, |_| self.period())),
             Code::Line(kind) => match next {
                 None => Answer::Refused(3),
                 Some(next) => self.line(kind, start, text, next, buffer),
@@ -126,7 +135,12 @@ impl Reader {
         Answer::Line { kind, number, start, end }
     }
 
-    fn gap(&self, before: Option<u8>, text: &[u8]) -> Answer {
+    /// From the first F of a line handed out to that of the mark just complete, held at 65,535.
+    fn period(&self) -> u16 {
+        self.line.map_or(0, |line| u16::try_from(self.taken - 8 - line).unwrap_or(u16::MAX))
+    }
+
+    fn gap(&self, before: Option<u8>, text: &[u8], period: u16) -> Answer {
         let Some(kind) = before else {
             return Answer::Refused(8);
         };
@@ -134,7 +148,7 @@ impl Reader {
         // An end code never lies on the next mark's F, so the text holds the whole code.
         let gap = &text[2..];
         match self.profile {
-            Profile::P0 if all_f(gap) => Answer::Gap(255, 255),
+            Profile::P0 if all_f(gap) => Answer::Gap(255, 255, period),
             Profile::P0 => Answer::Refused(9),
             Profile::P1 => {
                 if gap.len() < 4 {
@@ -142,7 +156,7 @@ impl Reader {
                 }
                 let (a, b) = (gap[0] << 4 | gap[1], gap[2] << 4 | gap[3]);
                 if gap_allowed(self.profile, kind, a, b) && all_f(&gap[4..]) {
-                    Answer::Gap(a, b)
+                    Answer::Gap(a, b, period)
                 } else {
                     Answer::Refused(9)
                 }

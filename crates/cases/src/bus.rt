@@ -6,9 +6,13 @@ use crate::text::number;
 use crate::text::say;
 use crate::text::say_front;
 use crate::text::say_hex;
+use crate::text::say_number;
 use crate::text::until;
 use line_code::Repair;
 use mark_answer::Kept;
+use period::Nibbles;
+use period::Rate;
+use period::Whole;
 use profile::Profile;
 use reader::Fed;
 use reader::Head;
@@ -131,7 +135,7 @@ impl Bus {
         match answer {
             Answer::Nothing => say(b"finish: no answer\n"),
             Answer::Line(_) => {}
-            Answer::Gap(_, _) => {}
+            Answer::Gap(_) => {}
             Answer::Refused(_) => {}
         }
         answered(fed, self.answers)
@@ -170,11 +174,13 @@ fn answered(fed: Fed, answers: u64) -> Bus {
             show_repair(b"  end bit ", end);
             bus
         }
-        Answer::Gap(first, second) => {
+        Answer::Gap(gap) => {
             let bus = shown(reader, answer, answers);
             let head = reader.head;
             let profile = head.profile;
-            show_gap_bytes(profile, first, second);
+            show_gap_bytes(profile, gap.first, gap.second);
+            let period = gap.period;
+            show_period(period);
             bus
         }
         Answer::Refused(_) => shown(reader, answer, answers),
@@ -212,5 +218,29 @@ fn show_gap_bytes(profile: Profile, first: u8, second: u8) {
             say_hex(second);
             say(b"\n");
         }
+    }
+}
+
+// The period of a line, where its gap carries one: in nibbles, in whole pixel periods, and its name.
+fn show_period(period: Nibbles) {
+    if period.0 == 0 {
+        return;
+    }
+    say(b"  period ");
+    say_number(period.0 as u64);
+    let whole = period.whole();
+    match whole {
+        Whole::Of(periods) => {
+            say(b" nibbles, ");
+            say_number(periods.0 as u64);
+            say(b" pixel periods");
+        }
+        Whole::Odd => say(b" nibbles, no whole pixel period"),
+    }
+    let rate = period.rate();
+    match rate {
+        Rate::Thirty => say(b", 30 frames a second\n"),
+        Rate::TwentyFive => say(b", 25 frames a second\n"),
+        Rate::Unnamed => say(b"\n"),
     }
 }

@@ -15,7 +15,7 @@ use Rattle.fluturenc.specs.Calls.{writtenNumber, writtenCount}
 pub told-answer : (p : Profile) (a : Answer) (buffer : List ℕ) (o : Outcome) → outcomeOf p a buffer ≡ o → a ≡ answerFor o
 told-answer p answers.Nothing buffer o e = ap answerFor e
 told-answer p (answers.Line f) buffer o e = ap answerFor e
-told-answer p (answers.Gap x y) buffer o e = ap answerFor e
+told-answer p (answers.Gap g) buffer o e = ap answerFor e
 told-answer p (answers.Refused n) buffer o e = ap answerFor e
 
 -- the writer's

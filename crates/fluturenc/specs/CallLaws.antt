@@ -16,6 +16,7 @@ use Rattle.line_code.specs.LineCode.{kindNumber, repairNumber}
 use Rattle.profile.specs.declared.Profile.{Profile}
 use Rattle.profile.specs.declared.Profile.the-variants.{VV5404, VV5300}
 use Rattle.profile.specs.Profile.{profileNumber, profileNumbered, bodyLength, longest}
+use Rattle.stream.specs.declared.GapFacts.{GapFacts}
 use Rattle.stream.specs.declared.LineFacts.{LineFacts}
 use Rattle.stream.specs.declared.Answer.the-variants as answers
 use Rattle.stream.specs.Answers.{eitherRepaired, refused, answerFor}
@@ -55,7 +56,7 @@ leave-full r =
     go false w e = refl
 
 take-whole : (r : Reader) (n : ℕ) → n < 16 → Whole r → Whole (taking r n .reader)
-take-whole r n l h = record { ok = take-ok (r .head) n l (h .ok); full = leave-full r ∙ h .full }
+take-whole r n l h = record { ok = take-ok r n l (h .ok); full = leave-full r ∙ h .full }
 
 onward-whole : (w : List ℕ) (r : Reader) (i : ℕ) → Whole r → Whole (onward r w i .reader)
 onward-whole [] r i h = h
@@ -202,7 +203,7 @@ judges j kind number h = simp (lt-ltb (judgeNumber j) 0x30000 (judge-small j h),
 
 -- Answers as numbers.
 
-kind-small : (k : Kind) → kindNumber k ≤ 5
+pub kind-small : (k : Kind) → kindNumber k ≤ 5
 kind-small BL = omega arith
 kind-small BK = omega arith
 kind-small VL = omega arith
@@ -222,6 +223,7 @@ line-told f h s =
     let b = bit-small (eitherRepaired f) in
     (omega arith, omega arith, omega arith, omega arith, omega arith, omega arith)
 
-pub gap-told : (a b : ℕ) → a < 0x100 → b < 0x100
-    → (answerNumber (answers.Gap a b) / 0x1000000 ≡ 2) × (answerNumber (answers.Gap a b) / 0x100 % 0x100 ≡ a) × (answerNumber (answers.Gap a b) % 0x100 ≡ b)
-gap-told a b h g = (omega arith, omega arith, omega arith)
+pub gap-told : (g : GapFacts) → g .first < 0x100 → g .second < 0x100
+    → (answerNumber (answers.Gap g) / 0x1000000 % 0x100 ≡ 2) × (answerNumber (answers.Gap g) / 0x100000000 ≡ g .period .0)
+    × (answerNumber (answers.Gap g) / 0x100 % 0x100 ≡ g .first) × (answerNumber (answers.Gap g) % 0x100 ≡ g .second)
+gap-told g h k = (omega arith, omega arith, omega arith, omega arith)

@@ -32,7 +32,7 @@ answerNumber answers.Nothing = 0
 answerNumber (answers.Line f) =
     0x1000000000000 * repairNumber (f .end) + 0x100000000 * repairNumber (f .start) + 0x1000000 + 0x80000 * bitOf (eitherRepaired f) + 0x10000 * kindNumber (f .kind)
     + f .number
-answerNumber (answers.Gap a b) = 0x2000000 + 0x100 * a + b
+answerNumber (answers.Gap g) = 0x100000000 * g .period .0 + 0x2000000 + 0x100 * g .first + g .second
 answerNumber (answers.Refused n) = n
 
 -- A call on a reader's state.

@@ -1,19 +1,20 @@
--- A reader's state as bytes of a lent buffer, in this order: the profile's number; the kind number of the mark before the open mark (0: no
--- line kind; 6: no mark is open); the open mark's code; the count and the window, four bytes each, the highest first; the two bytes kept;
+-- A reader's state as bytes of a lent buffer, in this order: the profile's number; the kind number of the mark before the open mark, 6
+-- more where it was handed out as a line (0: no line kind; 6: no mark is open); the open mark's code; the count and the window, four bytes each, the highest first; the two bytes kept;
 -- whether a stray nibble is noted; and the body.
 use mathlib.Core.Bool.{Bool, true, false, _&&_, cond}
 use mathlib.Core.List.{List, [], _∷_, _++_}
-use Prim.Native.Nat.{ℕ, _+_, _*_, _/_, _%_}
-use lib.Dec.{eqb, leb}
+use Prim.Native.Nat.{ℕ, _+_, _-_, _*_, _/_, _%_}
+use lib.Dec.{eqb, leb, ltb}
 use lib.ListN.{length, getD, take, drop}
-use Rattle.line_code.specs.declared.LineKind.{LineKind}
-use Rattle.line_code.specs.declared.LineKind.the-variants.{NotLine, LineOf}
 use Rattle.line_code.specs.LineCode.{kindNumber, kindNumbered}
 use Rattle.profile.specs.declared.Profile.{Profile}
 use Rattle.profile.specs.declared.Profile.the-variants.{VV5404, VV5300}
 use Rattle.profile.specs.Profile.{profileNumber, longest}
+use Rattle.stream.specs.declared.Before.{Before}
+use Rattle.stream.specs.declared.Before.the-variants.{NoLine, RefusedLine, HandedOut}
 use Rattle.stream.specs.declared.Mark.{Mark}
 use Rattle.stream.specs.declared.Mark.the-variants.{NoMark, Open}
+use Rattle.stream.specs.Stream.{beforeBy}
 use Rattle.reader.specs.declared.Head.{Head}
 use Rattle.reader.specs.declared.Reader.{Reader}
 use Rattle.reader.specs.Reader.{passes}
@@ -27,18 +28,23 @@ stateLength = headLength + longest
 
 -- A reader as bytes.
 
--- a kind number, 0 for no line kind
-abbrev pub lineKindNumber : LineKind → ℕ
-lineKindNumber NotLine = 0
-lineKindNumber (LineOf k) = kindNumber k
-
 -- in place of a kind number: no mark is open
 abbrev pub noMark : ℕ
 noMark = 6
 
+-- a kind number, 0 for no line kind; and 6 more for a line handed out
+abbrev pub beforeNumber : Before → ℕ
+beforeNumber NoLine = 0
+beforeNumber (RefusedLine k) = kindNumber k
+beforeNumber (HandedOut k) = noMark + kindNumber k
+
+-- the greatest of these
+abbrev pub lastMark : ℕ
+lastMark = 11
+
 abbrev pub markNumber : Mark → ℕ
 markNumber NoMark = noMark
-markNumber (Open before code) = lineKindNumber before
+markNumber (Open before code) = beforeNumber before
 
 abbrev pub codeOf : Mark → ℕ
 codeOf NoMark = 0
@@ -68,8 +74,11 @@ stored r s = headBytes (r .head) ++ (r .body ++ drop stateLength s)
 abbrev pub profileOf : ℕ → Profile
 profileOf n = cond (eqb n 0) VV5404 VV5300
 
+abbrev pub beforeNumbered : ℕ → Before
+beforeNumbered n = cond (ltb n noMark) (beforeBy (kindNumbered n) false) (beforeBy (kindNumbered (n - noMark)) true)
+
 abbrev pub markNumbered : ℕ → ℕ → Mark
-markNumbered n code = cond (eqb n noMark) NoMark (Open (kindNumbered n) code)
+markNumbered n code = cond (eqb n noMark) NoMark (Open (beforeNumbered n) code)
 
 -- a number from its four bytes
 abbrev pub numberOf : ℕ → ℕ → ℕ → ℕ → ℕ
@@ -93,7 +102,7 @@ readerIn s = record { head = headIn s; body = bodyIn s }
 
 -- these are numbers of a profile, of an open mark and of a bool
 unfoldable pub tagged : ℕ → ℕ → ℕ → Bool
-tagged profile mark stray = leb profile 1 && (leb mark noMark && leb stray 1)
+tagged profile mark stray = leb profile 1 && (leb mark lastMark && leb stray 1)
 
 -- the bytes hold a reader, and it passes its own test
 unfoldable pub holdsReader : List ℕ → Bool

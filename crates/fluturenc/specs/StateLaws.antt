@@ -10,18 +10,18 @@ use lib.ListN.{length, getD, take, drop, length-append, length-drop}
 use lib.Seq.{take-at}
 use Rattle.bits.specs.Every.{and-left, and-both}
 use Rattle.line_code.specs.declared.Kind.the-variants.{BL, BK, VL, SOF, EOF}
-use Rattle.line_code.specs.declared.LineKind.{LineKind}
-use Rattle.line_code.specs.declared.LineKind.the-variants.{NotLine, LineOf}
 use Rattle.line_code.specs.LineCode.{kindNumbered}
 use Rattle.profile.specs.declared.Profile.{Profile}
 use Rattle.profile.specs.declared.Profile.the-variants.{VV5404, VV5300}
 use Rattle.profile.specs.Profile.{profileNumber, longest}
+use Rattle.stream.specs.declared.Before.{Before}
+use Rattle.stream.specs.declared.Before.the-variants.{NoLine, RefusedLine, HandedOut}
 use Rattle.stream.specs.declared.Mark.{Mark}
 use Rattle.stream.specs.declared.Mark.the-variants.{NoMark, Open}
 use Rattle.reader.specs.declared.Head.{Head}
 use Rattle.reader.specs.declared.Reader.{Reader}
 use Rattle.reader.specs.Reader.{passes}
-use Rattle.fluturenc.specs.State.{stateLength, lineKindNumber, markNumber, codeOf, bitOf, headBytes, stored, profileOf, markNumbered, numberOf, headIn, readerIn, tagged, holdsReader}
+use Rattle.fluturenc.specs.State.{stateLength, beforeNumber, beforeNumbered, lastMark, markNumber, codeOf, bitOf, headBytes, stored, profileOf, markNumbered, numberOf, headIn, readerIn, tagged, holdsReader}
 
 pub holds-length : (s : List ℕ) → holdsReader s ≡ true → stateLength ≤ length s
 unfolding holdsReader
@@ -33,26 +33,36 @@ profile-back : (p : Profile) → profileOf (profileNumber p) ≡ p
 profile-back VV5404 = refl
 profile-back VV5300 = refl
 
-kind-back : (k : LineKind) → kindNumbered (lineKindNumber k) ≡ k
+before-back : (b : Before) → beforeNumbered (beforeNumber b) ≡ b
 unfolding kindNumbered
-kind-back NotLine = refl
-kind-back (LineOf BL) = refl
-kind-back (LineOf BK) = refl
-kind-back (LineOf VL) = refl
-kind-back (LineOf SOF) = refl
-kind-back (LineOf EOF) = refl
+before-back NoLine = refl
+before-back (RefusedLine BL) = refl
+before-back (RefusedLine BK) = refl
+before-back (RefusedLine VL) = refl
+before-back (RefusedLine SOF) = refl
+before-back (RefusedLine EOF) = refl
+before-back (HandedOut BL) = refl
+before-back (HandedOut BK) = refl
+before-back (HandedOut VL) = refl
+before-back (HandedOut SOF) = refl
+before-back (HandedOut EOF) = refl
 
-open-back : (before : LineKind) (code : ℕ) → markNumbered (lineKindNumber before) code ≡ Open (kindNumbered (lineKindNumber before)) code
-open-back NotLine code = refl
-open-back (LineOf BL) code = refl
-open-back (LineOf BK) code = refl
-open-back (LineOf VL) code = refl
-open-back (LineOf SOF) code = refl
-open-back (LineOf EOF) code = refl
+open-back : (before : Before) (code : ℕ) → markNumbered (beforeNumber before) code ≡ Open (beforeNumbered (beforeNumber before)) code
+open-back NoLine code = refl
+open-back (RefusedLine BL) code = refl
+open-back (RefusedLine BK) code = refl
+open-back (RefusedLine VL) code = refl
+open-back (RefusedLine SOF) code = refl
+open-back (RefusedLine EOF) code = refl
+open-back (HandedOut BL) code = refl
+open-back (HandedOut BK) code = refl
+open-back (HandedOut VL) code = refl
+open-back (HandedOut SOF) code = refl
+open-back (HandedOut EOF) code = refl
 
 mark-back : (m : Mark) → markNumbered (markNumber m) (codeOf m) ≡ m
 mark-back NoMark = refl
-mark-back (Open before code) = open-back before code ∙ ap (λ (k : LineKind). Open k code) (kind-back before)
+mark-back (Open before code) = open-back before code ∙ ap (λ (b : Before). Open b code) (before-back before)
 
 number-back : (n : ℕ) → numberOf (n / 0x1000000) (n / 0x10000 % 256) (n / 0x100 % 256) (n % 256) ≡ n
 number-back n = omega arith
@@ -66,14 +76,19 @@ unfolding headIn headBytes
 head-back h w =
     simp (profile-back (h .profile), mark-back (h .at), number-back (h .count), number-back (h .window), bit-back (h .kept .stray))
 
-mark-tag : (m : Mark) → leb (markNumber m) 6 ≡ true
+mark-tag : (m : Mark) → leb (markNumber m) lastMark ≡ true
 mark-tag NoMark = refl
-mark-tag (Open NotLine code) = refl
-mark-tag (Open (LineOf BL) code) = refl
-mark-tag (Open (LineOf BK) code) = refl
-mark-tag (Open (LineOf VL) code) = refl
-mark-tag (Open (LineOf SOF) code) = refl
-mark-tag (Open (LineOf EOF) code) = refl
+mark-tag (Open NoLine code) = refl
+mark-tag (Open (RefusedLine BL) code) = refl
+mark-tag (Open (RefusedLine BK) code) = refl
+mark-tag (Open (RefusedLine VL) code) = refl
+mark-tag (Open (RefusedLine SOF) code) = refl
+mark-tag (Open (RefusedLine EOF) code) = refl
+mark-tag (Open (HandedOut BL) code) = refl
+mark-tag (Open (HandedOut BK) code) = refl
+mark-tag (Open (HandedOut VL) code) = refl
+mark-tag (Open (HandedOut SOF) code) = refl
+mark-tag (Open (HandedOut EOF) code) = refl
 
 profile-tag : (p : Profile) → leb (profileNumber p) 1 ≡ true
 profile-tag VV5404 = refl

@@ -13,7 +13,8 @@
 //
 // An answer of feed and finish is one number: 0 nothing yet; 1 to 12 the refusal; 2^24 + 2^19 (repaired) + 2^16 * kind + number a line,
 // whose body is then the front of the line buffer, and above these 32 bits + 2^32 * start + 2^48 * end, what was repaired of the code that
-// starts it and of the one that ends it: 0 nothing, else one more than the bit's number; 2^25 + 2^8 * first + second a good gap. Feeding is refused 11 if the state holds no
+// starts it and of the one that ends it: 0 nothing, else one more than the bit's number; 2^32 * period + 2^25 + 2^8 * first + second a good
+// gap, with its line's period in nibbles, 0 where that line was not handed out or finish closed the gap. Feeding is refused 11 if the state holds no
 // reader that passes its own test, then 12 if the line buffer is shorter than the body, also for no nibbles, and takes nothing; an input
 // above 15 stops it before that place with 10. Finish is refused 11. Refused calls change nothing, but that what stood before a 10 is taken.
 //
@@ -31,13 +32,13 @@ use frame::Borders;
 use frame::Judge;
 use frame::Verdict;
 use line_code::Kind;
-use line_code::LineKind;
 use mark_answer::Kept;
 use profile::Numbered;
 use profile::Profile;
 use reader::Head;
 use reader::Reader;
 use stream::Answer;
+use stream::Before;
 use stream::Mark;
 use writer::Written;
 
@@ -177,7 +178,10 @@ fn answer_number(answer: Answer) -> u64
                 + KIND * kind.number() as u64
                 + f.number as u64
         }
-        Answer::Gap(first, second) => GAP + 256 * first as u64 + second as u64,
+        Answer::Gap(g) => {
+            let period = g.period;
+            PERIOD * period.0 as u64 + GAP + 256 * g.first as u64 + g.second as u64
+        }
         Answer::Refused(n) => n as u64,
     }
 }
@@ -194,10 +198,15 @@ const START: u64 = 0x1_0000_0000;
 
 const END: u64 = 0x1_0000_0000_0000;
 
+const PERIOD: u64 = 0x1_0000_0000;
+
 // A reader's state as bytes.
 
 // In place of a kind number: no mark is open.
 const NO_MARK: u8 = 6;
+
+// The greatest number of an open mark: 6 more than the greatest kind number.
+const LAST_MARK: u8 = 11;
 
 // Whether the bytes hold a reader that passes its own test.
 fn holds_reader(state: &[u8]) -> bool
@@ -219,7 +228,7 @@ fn is_tagged(profile: u8, mark: u8, stray: u8) -> bool
     if 1 < profile {
         return false;
     }
-    if NO_MARK < mark {
+    if LAST_MARK < mark {
         return false;
     }
     stray <= 1
@@ -272,7 +281,13 @@ fn mark_numbered(n: u8, code: u8) -> Mark
     if n == NO_MARK {
         return Mark::NoMark;
     }
-    let before = Kind::numbered(n);
+    if n < NO_MARK {
+        let kind = Kind::numbered(n);
+        let before = Before::of(kind, false);
+        return Mark::Open(before, code);
+    }
+    let kind = Kind::numbered(n - NO_MARK);
+    let before = Before::of(kind, true);
     Mark::Open(before, code)
 }
 
@@ -343,8 +358,9 @@ fn mark_number(at: Mark) -> u8
     match at {
         Mark::NoMark => NO_MARK,
         Mark::Open(before, _) => match before {
-            LineKind::NotLine => 0,
-            LineKind::LineOf(kind) => kind.number(),
+            Before::NoLine => 0,
+            Before::RefusedLine(kind) => kind.number(),
+            Before::HandedOut(kind) => NO_MARK + kind.number(),
         },
     }
 }

@@ -73,7 +73,7 @@ fed-laid r n e = go (feeding r n longest)
     go (feed-room q) = (broken-laid (isBrokenLine _) blank, e)
     go (feed-taken l) = (
       sound-laid (subst (λ (p : Profile). Sound p (taking r n .outcome)) e (take-sound (r .head) (r .body) n)),
-      take-profile (r .head) n ∙ e,
+      take-profile (r .head) _ n ∙ e,
     )
 
 every-append : (P : Shown → Type 0) (a b : List Shown) → Every P a → Every P b → Every P (a ++ b)

@@ -72,15 +72,15 @@ said-mark r n x = go (feeding r n longest)
     w = slide (r .head .window) n
 
     by : (b : Bool) → isSaid (call x (given (took (taking r n .reader) (cond b (marked-outcome (r .head) (r .body) n) answers.nothing))) .output) ≡ true
-        → cond b (opened (r .head) (w % 256)) (shifted (r .head) n) .window < 256
-    by true e = omega arith
-    by false e = absurd (true≢false (sym e))
+        → (handed : Bool) → cond b (opened (r .head) (w % 256) handed) (shifted (r .head) n) .window < 256
+    by true e handed = omega arith
+    by false e handed = absurd (true≢false (sym e))
 
     go : {t : Took} → Feeding r n longest t → isSaid (call x (given t) .output) ≡ true → AtMark (t .reader)
     go (feed-state q) e = absurd (true≢false (sym e))
     go (feed-nibble q) e = absurd (true≢false (sym e))
     go (feed-room q) e = absurd (true≢false (sym e))
-    go (feed-taken h) e = by (isMark w) e
+    go (feed-taken h) e = by (isMark w) e _
 
 -- What is sought, as the gatherer's calls.
 

@@ -139,5 +139,5 @@ shownAs k n held = record { given = line k n; body = take longest held }
 unfoldable pub takeOf : Gatherer → Answer → List ℕ → List ℕ → Outcome
 takeOf s answer.Nothing held buffer = quiet s buffer
 takeOf s (answer.Line f) held buffer = handed s (shownAs (kindNumber (f .kind)) (f .number) held) buffer
-takeOf s (answer.Gap a b) held buffer = quiet s buffer
+takeOf s (answer.Gap g) held buffer = quiet s buffer
 takeOf s (answer.Refused n) held buffer = cond (isBrokenLine n) (handed s (shownAs brokenKind 0 held) buffer) (quiet s buffer)

@@ -449,7 +449,7 @@ hands x g = by (g .answer)
     by : (a : Answer) → Hands x (shown (handedOver a) (g .held)) (takeOf (x .gatherer) a (g .held) (x .buffer))
     by answer.Nothing = none
     by (answer.Line f) = one (shownAs (kindNumber (f .kind)) (f .number) (g .held))
-    by (answer.Gap a b) = none
+    by (answer.Gap g) = none
     by (answer.Refused n) = broken (isBrokenLine n)
 
 -- Calls.

@@ -69,7 +69,7 @@ impl Gatherer {
                 let kind = facts.kind;
                 self.hand(kind.number(), facts.number, line, rows)
             }
-            Answer::Gap(_, _) => quiet(self),
+            Answer::Gap(_) => quiet(self),
             Answer::Refused(number) => {
                 if tally::is_broken_line(number) {
                     return self.hand(Judge::BROKEN, 0, line, rows);

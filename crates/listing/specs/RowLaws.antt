@@ -60,7 +60,7 @@ pub row-short : (mark : ℕ) (a : Answer) → length (rowOf mark a) ≤ rowRoom
 unfolding rowOf refusedWords
 row-short mark Nothing = omega arith
 row-short mark (Line f) = simp length-append (omega (arith, decimal-short mark, line-short f))
-row-short mark (Gap a b) = simp length-append (omega (arith, decimal-short mark))
+row-short mark (Gap g) = simp length-append (omega (arith, decimal-short mark))
 row-short mark (Refused n) = simp length-append (omega (arith, decimal-short mark, decimal-short n))
 
 -- no row needs no room

@@ -76,7 +76,7 @@ rowWith mark words = decimal mark ++ (space ∷ (words ++ (newline ∷ [])))
 unfoldable pub rowOf : ℕ → Answer → List ℕ
 rowOf mark Nothing = []
 rowOf mark (Line f) = rowWith mark (lineWords f)
-rowOf mark (Gap a b) = rowWith mark gapWords
+rowOf mark (Gap g) = rowWith mark gapWords
 rowOf mark (Refused n) = rowWith mark (refusedWords n)
 
 -- Rows in a buffer.

@@ -38,7 +38,7 @@ pub fn row(mark: u64, answer: Answer, out: &mut [u8]) -> usize
     match answer {
         Answer::Nothing => 0,
         Answer::Line(facts) => line_row(mark, facts, out),
-        Answer::Gap(_, _) => gap_row(mark, out),
+        Answer::Gap(_) => gap_row(mark, out),
         Answer::Refused(number) => refused_row(mark, number as u64, out),
     }
 }

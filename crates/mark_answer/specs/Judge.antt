@@ -12,17 +12,17 @@ use Rattle.line_code.specs.declared.Meaning.the-variants.{EndOfLine, Line, Rese
 use Rattle.line_code.specs.declared.Reading.{Reading}
 use Rattle.line_code.specs.declared.Reading.the-variants.{Says, Damaged}
 use Rattle.line_code.specs.declared.Repair.{Repair}
-use Rattle.line_code.specs.declared.LineKind.{LineKind}
-use Rattle.line_code.specs.declared.LineKind.the-variants.{NotLine, LineOf}
 use Rattle.line_code.specs.LineCode.{readingOf, isEnd, repairOf}
 use Rattle.line_number.specs.LineNumber.{numberGood, numberFrom}
 use Rattle.profile.specs.declared.Profile.{Profile}
 use Rattle.profile.specs.declared.Profile.the-variants.{VV5404, VV5300}
 use Rattle.profile.specs.Profile.{bodyLength, nullByte}
 use Rattle.profile.specs.Layout.{rules, fits, gapFits}
+use Rattle.stream.specs.declared.Before.{Before}
+use Rattle.stream.specs.declared.Before.the-variants.{NoLine, RefusedLine, HandedOut}
 use Rattle.stream.specs.declared.Mark.{Mark}
 use Rattle.stream.specs.declared.Mark.the-variants.{NoMark, Open}
-use Rattle.stream.specs.Answers.{facts, Outcome, nothing, line, gap, refused, require}
+use Rattle.stream.specs.Answers.{facts, Outcome, nothing, line, refused, require, goodGap, periodOf}
 use Rattle.mark_answer.specs.declared.Kept.{Kept}
 use Rattle.mark_answer.specs.Kept.{bodyPlace}
 
@@ -38,25 +38,26 @@ judgeLine p k r len t body next =
     require (eqb len (2 * bodyLength p + bodyPlace)) wrongLength
     (require (numberGood (t .first) && numberGood (t .second)) badNumber (judgeBody p k r (numberFrom (t .first) (t .second)) body next))
 
--- 9, or the good gap
-abbrev pub judgeGap : Profile → Kind → ℕ → Kept → Outcome
-judgeGap VV5404 k len t = require (not (t .stray)) badGap (gap nullByte nullByte)
-judgeGap VV5300 k len t =
-    require (not (t .stray) && (leb bodyPlace len && gapFits VV5300 k (t .first) (t .second))) badGap (gap (t .first) (t .second))
+-- 9, or the good gap with its line's period
+abbrev pub judgeGap : Profile → Kind → ℕ → ℕ → Kept → Outcome
+judgeGap VV5404 k n len t = require (not (t .stray)) badGap (goodGap n nullByte nullByte)
+judgeGap VV5300 k n len t =
+    require (not (t .stray) && (leb bodyPlace len && gapFits VV5300 k (t .first) (t .second))) badGap (goodGap n (t .first) (t .second))
 
 -- 8, or the gap's answer
-abbrev pub judgeEnd : Profile → LineKind → ℕ → Kept → Outcome
-judgeEnd p NotLine len t = refused endWithoutLine
-judgeEnd p (LineOf k) len t = judgeGap p k len t
+abbrev pub judgeEnd : Profile → Before → ℕ → ℕ → Kept → Outcome
+judgeEnd p NoLine n len t = refused endWithoutLine
+judgeEnd p (RefusedLine k) n len t = judgeGap p k n len t
+judgeEnd p (HandedOut k) n len t = judgeGap p k n len t
 
-abbrev pub judgeMeaning : Profile → LineKind → Meaning → Repair → ℕ → Kept → List ℕ → Option ℕ → Outcome
-judgeMeaning p before EndOfLine r len t body next = judgeEnd p before len t
+abbrev pub judgeMeaning : Profile → Before → Meaning → Repair → ℕ → Kept → List ℕ → Option ℕ → Outcome
+judgeMeaning p before EndOfLine r len t body next = judgeEnd p before (periodOf p before len next) len t
 judgeMeaning p before (Line k) r len t body none = refused unfinishedLine
 judgeMeaning p before (Line k) r len t body (some next) = judgeLine p k r len t body (readingOf next)
 judgeMeaning p before ReservedEC r len t body next = refused reservedCode
 judgeMeaning p before ReservedF1 r len t body next = refused reservedCode
 
-abbrev pub judgeReading : Profile → LineKind → Reading → ℕ → Kept → List ℕ → Option ℕ → Outcome
+abbrev pub judgeReading : Profile → Before → Reading → ℕ → Kept → List ℕ → Option ℕ → Outcome
 judgeReading p before (Says m r) len t body next = judgeMeaning p before m r len t body next
 judgeReading p before Damaged len t body next = refused damagedCode
 

@@ -5,20 +5,23 @@
 ghost use mathlib.Core.Path.{_≡_};
 ghost use mathlib.Core.List.{[]};
 ghost use mathlib.Core.Option.{none, some};
-ghost use Prim.Native.Nat.{_+_, _*_, _/_, _<_};
+ghost use Prim.Native.Nat.{ℕ, _+_, _*_, _/_, _<_, min};
 ghost use Rattle.line_code.specs.LineCode.{readingOf};
 ghost use Rattle.line_code.specs.declared.Repair.{Repair};
-ghost use Rattle.stream.specs.Answers.{answerFor};
+ghost use Rattle.period.specs.Period.{mostNibbles};
+ghost use Rattle.stream.specs.Answers.{answerFor, groupNibbles, lineNibbles, periodOf};
 ghost use Rattle.mark_answer.specs.Kept.{nothingKept, topPlace, byteAt, gapStart, strayAt, keptAt, bodyAt};
 ghost use Rattle.mark_answer.specs.Judge.{judgeBody, judgeLine, judgeGap, judgeEnd, judgeMeaning, judge};
 use line_code::Kind;
-use line_code::LineKind;
 use line_code::Meaning;
 use line_code::Reading;
 use line_code::Repair;
 use line_number::Decoded;
+use period::Nibbles;
 use profile::Profile;
 use stream::Answer;
+use stream::Before;
+use stream::GapFacts;
 use stream::LineFacts;
 use stream::Mark;
 
@@ -188,7 +191,7 @@ fn stray_at(profile: Profile, place: u32, nibble: u8, stray: bool) -> bool
 
 fn meaning_answer(
     profile: Profile,
-    before: LineKind,
+    before: Before,
     m: Meaning,
     start: Repair,
     length: u32,
@@ -199,43 +202,80 @@ fn meaning_answer(
     ensures { λ r. ⌜ r ≡ answerFor (judgeMeaning profile before m start length kept (now (body .entry)) (some next)) ⌝ }
 {
     match m {
-        Meaning::EndOfLine => end_answer(profile, before, length, kept),
+        Meaning::EndOfLine => {
+            let period = line_period(profile, before, length);
+            end_answer(profile, before, period, length, kept)
+        }
         Meaning::Line(kind) => line_answer(profile, kind, start, length, kept, body, next),
         Meaning::ReservedEC => Answer::Refused(refusal::RESERVED_CODE),
         Meaning::ReservedF1 => Answer::Refused(refusal::RESERVED_CODE),
     }
 }
 
-fn last_answer(profile: Profile, before: LineKind, m: Meaning, length: u32, kept: Kept) -> Answer
+fn last_answer(profile: Profile, before: Before, m: Meaning, length: u32, kept: Kept) -> Answer
     ensures { λ r. ⌜ ((start : Repair) → r ≡ answerFor (judgeMeaning profile before m start length kept [] none)) ⌝ }
 {
     match m {
-        Meaning::EndOfLine => end_answer(profile, before, length, kept),
+        Meaning::EndOfLine => {
+            let period = Nibbles(0);
+            end_answer(profile, before, period, length, kept)
+        }
         Meaning::Line(_) => Answer::Refused(refusal::UNFINISHED_LINE),
         Meaning::ReservedEC => Answer::Refused(refusal::RESERVED_CODE),
         Meaning::ReservedF1 => Answer::Refused(refusal::RESERVED_CODE),
     }
 }
 
-// 8, or the gap's answer.
-fn end_answer(profile: Profile, before: LineKind, length: u32, kept: Kept) -> Answer
-    ensures { λ r. ⌜ r ≡ answerFor (judgeEnd profile before length kept) ⌝ }
+// The period of the line before an end mark whose gap a mark closes: 0 where the line was not handed out.
+fn line_period(profile: Profile, before: Before, length: u32) -> Nibbles
+    ensures { λ r. ⌜ ((next : ℕ) → r .0 ≡ periodOf profile before length (some next)) ⌝ }
 {
     match before {
-        LineKind::NotLine => Answer::Refused(refusal::END_WITHOUT_LINE),
-        LineKind::LineOf(kind) => gap_answer(profile, kind, length, kept),
+        Before::NoLine => Nibbles(0),
+        Before::RefusedLine(_) => Nibbles(0),
+        Before::HandedOut(_) => handed_period(profile, length),
+    }
+}
+
+// Where it was: F F F F 0 0 and text of the line, F F F F 0 0 and text of the end mark.
+fn handed_period(profile: Profile, length: u32) -> Nibbles
+    ensures { λ r. ⌜ r .0 ≡ min mostNibbles (groupNibbles + lineNibbles profile + groupNibbles + length) ⌝ }
+{
+    let line = 2 * profile.body_length() + 18;
+    let most = Nibbles::MOST as usize;
+    if most - line < length as usize {
+        return Nibbles(Nibbles::MOST);
+    }
+    Nibbles((line + length as usize) as u16)
+}
+
+// 8, or the gap's answer.
+fn end_answer(profile: Profile, before: Before, period: Nibbles, length: u32, kept: Kept) -> Answer
+    ensures { λ r. ⌜ r ≡ answerFor (judgeEnd profile before (period .0) length kept) ⌝ }
+{
+    match before {
+        Before::NoLine => Answer::Refused(refusal::END_WITHOUT_LINE),
+        Before::RefusedLine(kind) => gap_answer(profile, kind, period, length, kept),
+        Before::HandedOut(kind) => gap_answer(profile, kind, period, length, kept),
     }
 }
 
 // 9, or the good gap.
-fn gap_answer(profile: Profile, kind: Kind, length: u32, kept: Kept) -> Answer
-    ensures { λ r. ⌜ r ≡ answerFor (judgeGap profile kind length kept) ⌝ }
+fn gap_answer(profile: Profile, kind: Kind, period: Nibbles, length: u32, kept: Kept) -> Answer
+    ensures { λ r. ⌜ r ≡ answerFor (judgeGap profile kind (period .0) length kept) ⌝ }
 {
     if kept.stray {
         return Answer::Refused(refusal::BAD_GAP);
     }
     match profile {
-        Profile::VV5404 => Answer::Gap(Profile::NULL, Profile::NULL),
+        Profile::VV5404 => {
+            let facts = GapFacts {
+                first: Profile::NULL,
+                second: Profile::NULL,
+                period,
+            };
+            Answer::Gap(facts)
+        }
         Profile::VV5300 => {
             if length < BODY_PLACE {
                 return Answer::Refused(refusal::BAD_GAP);
@@ -243,7 +283,12 @@ fn gap_answer(profile: Profile, kind: Kind, length: u32, kept: Kept) -> Answer
             let first = kept.first;
             let second = kept.second;
             if profile.gap_fits(kind, first, second) {
-                return Answer::Gap(first, second);
+                let facts = GapFacts {
+                    first,
+                    second,
+                    period,
+                };
+                return Answer::Gap(facts);
             }
             Answer::Refused(refusal::BAD_GAP)
         }

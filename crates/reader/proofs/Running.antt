@@ -9,7 +9,7 @@ use Rattle.refusal.specs.Refusal.{notANibble, badState, noRoom}
 use Rattle.profile.specs.declared.Profile.{Profile}
 use Rattle.profile.specs.Profile.{bodyLength, longest}
 use Rattle.stream.specs.declared.Answer.{Answer}
-use Rattle.stream.specs.Answers.{Outcome, nothing, line, gap, refused, outcomeOf, answerFor, bufferAfter}
+use Rattle.stream.specs.Answers.{Outcome, nothing, line, gap, refused, outcomeOf, answerFor, bufferAfter, isLine}
 use Rattle.reader.specs.declared.Head.{Head}
 use Rattle.reader.specs.declared.Reader.{Reader}
 use Rattle.reader.specs.Reader.{passes, leaveBody, takeHead, takeOutcome}
@@ -22,7 +22,7 @@ use Rattle.reader.specs.Parts.{reader, ranFrom, isTold, Leads}
 told-outcome : (o : Outcome) → isTold (answerFor o) ≡ isAnswer o
 told-outcome nothing = refl
 told-outcome (line f body) = refl
-told-outcome (gap a b) = refl
+told-outcome (gap g) = refl
 told-outcome (refused n) = refl
 
 pub answered : {t : Bool} {a : Answer} (o : Outcome) → t ≡ isTold a → a ≡ answerFor o → t ≡ isAnswer o
@@ -31,11 +31,11 @@ answered o e f = e ∙ ap isTold f ∙ told-outcome o
 pub nothing-kept : (o : Outcome) (buffer : List ℕ) → isAnswer o ≡ false → bufferAfter o buffer ≡ buffer
 nothing-kept nothing buffer e = refl
 nothing-kept (line f body) buffer e = cc
-nothing-kept (gap a b) buffer e = refl
+nothing-kept (gap g) buffer e = refl
 nothing-kept (refused n) buffer e = refl
 
 -- a turn that brings no answer
-pub leads-one : (s : List ℕ) (h : Head) (B : List ℕ) (i : ℕ) {h′ : Head} {B′ : List ℕ} → i < length s → getD s i 0 < 16 → h′ ≡ takeHead h (getD s i 0)
+pub leads-one : (s : List ℕ) (h : Head) (B : List ℕ) (i : ℕ) {h′ : Head} {B′ : List ℕ} → i < length s → getD s i 0 < 16 → h′ ≡ takeHead h (isLine (takeOutcome h B (getD s i 0))) (getD s i 0)
     → B′ ≡ leaveBody h B → isAnswer (takeOutcome h B (getD s i 0)) ≡ false → Leads s h B i h′ B′ (i + 1)
 unfolding Leads
 leads-one s h B i l g e f q =
@@ -52,7 +52,7 @@ module _ (s : List ℕ) (start : Head) (B₀ : List ℕ) (h : Head) (B : List �
   stops-above l g = up-to-stop (reader start B₀) s ∙ e ∙ onward-above (reader h B) s i l g
 
   pub stops-answered : i < length s → getD s i 0 < 16 → isAnswer (takeOutcome h B (getD s i 0)) ≡ true
-      → ranFrom start B₀ s ≡ ran (reader (takeHead h (getD s i 0)) (leaveBody h B)) (takeOutcome h B (getD s i 0)) (i + 1)
+      → ranFrom start B₀ s ≡ ran (reader (takeHead h (isLine (takeOutcome h B (getD s i 0))) (getD s i 0)) (leaveBody h B)) (takeOutcome h B (getD s i 0)) (i + 1)
   unfolding Leads
   stops-answered l g f = up-to-stop (reader start B₀) s ∙ e ∙ onward-answered (reader h B) s i l g f
 

@@ -15,18 +15,19 @@ use Rattle.line_code.specs.declared.Meaning.the-variants.{EndOfLine, Line, Rese
 use Rattle.line_code.specs.declared.Reading.{Reading}
 use Rattle.line_code.specs.declared.Reading.the-variants.{Says, Damaged}
 use Rattle.line_code.specs.declared.Repair.{Repair}
-use Rattle.line_code.specs.declared.LineKind.{LineKind}
-use Rattle.line_code.specs.declared.LineKind.the-variants.{NotLine, LineOf}
 use Rattle.line_code.specs.LineCode.{readingOf, repairOf}
 use Rattle.profile.specs.declared.Profile.{Profile}
 use Rattle.profile.specs.declared.Profile.the-variants.{VV5404, VV5300}
 use Rattle.profile.specs.Profile.{bodyLength, nullByte}
 use Rattle.profile.specs.Layout.{rules, fits}
 use Rattle.profile.specs.LayoutLaws.{rules-length, fits-length}
+use Rattle.stream.specs.declared.Before.{Before}
+use Rattle.stream.specs.declared.Before.the-variants.{NoLine, RefusedLine, HandedOut}
 use Rattle.stream.specs.declared.LineFacts.{LineFacts}
+use Rattle.stream.specs.declared.GapFacts.{GapFacts}
 use Rattle.stream.specs.declared.Mark.{Mark}
 use Rattle.stream.specs.declared.Mark.the-variants.{NoMark, Open}
-use Rattle.stream.specs.Answers.{facts, Outcome, nothing, line, gap, refused, outcomeOf, answerFor, bufferAfter, require}
+use Rattle.stream.specs.Answers.{facts, Outcome, nothing, line, gap, refused, outcomeOf, answerFor, bufferAfter, require, goodGap, isLine, isLineAnswer}
 use Rattle.mark_answer.specs.declared.Kept.{Kept}
 use Rattle.mark_answer.specs.Judge.{judge, judgeReading, judgeMeaning, judgeEnd, judgeGap, judgeLine}
 use Rattle.reader.specs.declared.Head.{Head}
@@ -38,7 +39,7 @@ use Rattle.reader.specs.Parts.{completeOutcome}
 
 -- what holds of nothing, of refusals, of gaps and of lines whose body fits holds of every answer of a mark
 module _ (P : Outcome → Type 0) (p : Profile) (body : List ℕ) (of-nothing : P nothing) (of-refused : (n : ℕ) → P (refused n))
-    (of-gap : (a b : ℕ) → P (gap a b))
+    (of-gap : (g : GapFacts) → P (gap g))
     (of-line : (f : LineFacts) → fits (rules p (f .kind)) (take (bodyLength p) body) ≡ true → P (line f (take (bodyLength p) body))) where
   required : (t : Bool) (n : ℕ) (o : Outcome) → (t ≡ true → P o) → P (require t n o)
   unfolding require
@@ -49,22 +50,27 @@ module _ (P : Outcome → Type 0) (p : Profile) (body : List ℕ) (of-nothing : 
   by-line k r len t next =
       required _ _ _ (λ _. required _ _ _ (λ _. required _ _ _ (λ f. required _ _ _ (λ _. of-line (facts k _ r (repairOf next)) f))))
 
-  by-gap : (q : Profile) (k : Kind) (len : ℕ) (t : Kept) → P (judgeGap q k len t)
-  by-gap VV5404 k len t = required _ _ _ (λ _. of-gap nullByte nullByte)
-  by-gap VV5300 k len t = required _ _ _ (λ _. of-gap (t .first) (t .second))
+  good : (n a b : ℕ) → P (goodGap n a b)
+  unfolding goodGap
+  good n a b = of-gap _
 
-  by-end : (before : LineKind) (len : ℕ) (t : Kept) → P (judgeEnd p before len t)
-  by-end NotLine len t = of-refused endWithoutLine
-  by-end (LineOf k) len t = by-gap p k len t
+  by-gap : (q : Profile) (k : Kind) (n len : ℕ) (t : Kept) → P (judgeGap q k n len t)
+  by-gap VV5404 k n len t = required _ _ _ (λ _. good n nullByte nullByte)
+  by-gap VV5300 k n len t = required _ _ _ (λ _. good n (t .first) (t .second))
 
-  by-meaning : (before : LineKind) (m : Meaning) (r : Repair) (len : ℕ) (t : Kept) (next : Option ℕ) → P (judgeMeaning p before m r len t body next)
-  by-meaning before EndOfLine r len t next = by-end before len t
+  by-end : (before : Before) (n len : ℕ) (t : Kept) → P (judgeEnd p before n len t)
+  by-end NoLine n len t = of-refused endWithoutLine
+  by-end (RefusedLine k) n len t = by-gap p k n len t
+  by-end (HandedOut k) n len t = by-gap p k n len t
+
+  by-meaning : (before : Before) (m : Meaning) (r : Repair) (len : ℕ) (t : Kept) (next : Option ℕ) → P (judgeMeaning p before m r len t body next)
+  by-meaning before EndOfLine r len t next = by-end before _ len t
   by-meaning before (Line k) r len t none = of-refused unfinishedLine
   by-meaning before (Line k) r len t (some next) = by-line k r len t (readingOf next)
   by-meaning before ReservedEC r len t next = of-refused reservedCode
   by-meaning before ReservedF1 r len t next = of-refused reservedCode
 
-  by-reading : (before : LineKind) (c : Reading) (len : ℕ) (t : Kept) (next : Option ℕ) → P (judgeReading p before c len t body next)
+  by-reading : (before : Before) (c : Reading) (len : ℕ) (t : Kept) (next : Option ℕ) → P (judgeReading p before c len t body next)
   by-reading before (Says m r) len t next = by-meaning before m r len t next
   by-reading before Damaged len t next = of-refused damagedCode
 
@@ -73,10 +79,17 @@ module _ (P : Outcome → Type 0) (p : Profile) (body : List ℕ) (of-nothing : 
   judged NoMark len t next = of-nothing
   judged (Open before code) len t next = by-reading before (readingOf code) len t next
 
+-- whether the program's answer is a line
+pub line-said : (o : Outcome) → isLineAnswer (answerFor o) ≡ isLine o
+line-said nothing = refl
+line-said (line f body) = refl
+line-said (gap g) = refl
+line-said (refused n) = refl
+
 pub told-by-body : (p : Profile) (m : Mark) (len : ℕ) (t : Kept) (body : List ℕ) (next : Option ℕ)
     → outcomeOf p (answerFor (judge p m len t body next)) body ≡ judge p m len t body next
 told-by-body p m len t body next =
-    judged (λ o. outcomeOf p (answerFor o) body ≡ o) p body refl (λ n. refl) (λ a b. refl) (λ f h. refl) m len t next
+    judged (λ o. outcomeOf p (answerFor o) body ≡ o) p body refl (λ n. refl) (λ g. refl) (λ f h. refl) m len t next
 
 -- an outcome that an answer and the buffer after the call tell
 abbrev Told : Profile → List ℕ → Outcome → Type 0
@@ -87,7 +100,7 @@ told-line p buffer f body h = rw (take-at body (drop (length body) buffer) (body
 
 told-judge : (p : Profile) (buffer : List ℕ) (m : Mark) (len : ℕ) (t : Kept) (body : List ℕ) (next : Option ℕ) → Told p buffer (judge p m len t body next)
 told-judge p buffer m len t body next =
-    judged (Told p buffer) p body refl (λ n. refl) (λ a b. refl) (λ f h. told-line p buffer f (take (bodyLength p) body) h) m len t next
+    judged (Told p buffer) p body refl (λ n. refl) (λ g. refl) (λ f h. told-line p buffer f (take (bodyLength p) body) h) m len t next
 
 told-if : (p : Profile) (buffer : List ℕ) (t : Bool) (o : Outcome) → Told p buffer o → Told p buffer (cond t o nothing)
 told-if p buffer true o h = h
@@ -113,11 +126,11 @@ told r n room buffer = go (passes (r .head)) (leb n 15) (leb (bodyLength (r .hea
 
 -- A run.
 
-pub take-profile : (h : Head) (n : ℕ) → takeHead h n .profile ≡ h .profile
+pub take-profile : (h : Head) (d : Bool) (n : ℕ) → takeHead h d n .profile ≡ h .profile
 unfolding takeHead
-take-profile h n = go (isMark (slide (h .window) n)) (slide (h .window) n % 256)
+take-profile h d n = go (isMark (slide (h .window) n)) (slide (h .window) n % 256)
   where
-    go : (b : Bool) (c : ℕ) → cond b (opened h c) (shifted h n) .profile ≡ h .profile
+    go : (b : Bool) (c : ℕ) → cond b (opened h c d) (shifted h n) .profile ≡ h .profile
     go true c = refl
     go false c = refl
 
@@ -125,7 +138,7 @@ told-onward : (w : List ℕ) (r : Reader) (i : ℕ) (buffer : List ℕ) → Told
 told-onward [] r i buffer = refl
 told-onward (n ∷ w) r i buffer =
     go (leb n 15) (isAnswer (t .outcome))
-    (subst (λ p. Told p buffer (onward (t .reader) w (i + 1) .outcome)) (take-profile (r .head) n) (told-onward w (t .reader) (i + 1) buffer))
+    (subst (λ p. Told p buffer (onward (t .reader) w (i + 1) .outcome)) (take-profile (r .head) _ n) (told-onward w (t .reader) (i + 1) buffer))
   where
     t : Took
     t = taking r n

@@ -44,7 +44,7 @@ ranFrom h body w = upToStop (reader h body) w
 abbrev pub isTold : Answer → Bool
 isTold answers.Nothing = false
 isTold (answers.Line f) = true
-isTold (answers.Gap a b) = true
+isTold (answers.Gap g) = true
 isTold (answers.Refused n) = true
 
 -- a run from the place i on, and from the place i′ with what is read up to there, is the same

@@ -6,15 +6,18 @@ use Prim.Native.Nat.{ℕ, zero, suc, _+_, _-_, _*_, _/_, _%_}
 use lib.Dec.{eqb, leb, ltb}
 use lib.ListN.{replicate}
 use Rattle.refusal.specs.Refusal.{notANibble, badState, noRoom}
+use Rattle.line_code.specs.LineCode.{readingOf, isEnd}
+use Rattle.period.specs.Period.{mostNibbles}
 use Rattle.profile.specs.declared.Profile.{Profile}
 use Rattle.profile.specs.declared.Profile.the-variants.{VV5404}
 use Rattle.profile.specs.declared.Numbered.{Numbered}
 use Rattle.profile.specs.declared.Numbered.the-variants as numbered
 use Rattle.profile.specs.Profile.{profileNumbered, bodyLength, longest}
+use Rattle.stream.specs.declared.Before.the-variants.{NoLine, RefusedLine, HandedOut}
 use Rattle.stream.specs.declared.Mark.{Mark}
 use Rattle.stream.specs.declared.Mark.the-variants.{NoMark, Open}
-use Rattle.stream.specs.Answers.{Outcome, nothing, refused}
-use Rattle.stream.specs.Stream.{kindAt}
+use Rattle.stream.specs.Answers.{Outcome, nothing, refused, isLine}
+use Rattle.stream.specs.Stream.{kindAt, beforeBy}
 use Rattle.mark_answer.specs.declared.Kept.{Kept}
 use Rattle.mark_answer.specs.Kept.{topPlace, gapStart, nothingKept, keptAt, bodyAt}
 use Rattle.mark_answer.specs.Judge.{judge}
@@ -40,9 +43,10 @@ isMark w = eqb (w / 256) groupNumber
 unfoldable pub slide : ℕ → ℕ → ℕ
 slide w n = w % topPlace * 16 + n
 
--- where the count of a text's nibbles stops: a longer text is wrong in any case
+-- where the count of a text's nibbles stops: a longer text is wrong as a line's in any case, and without the next mark's eight nibbles it gives a
+-- period past 65,535
 abbrev pub countStop : ℕ
-countStop = 1000
+countStop = mostNibbles + 8
 
 unfoldable pub bump : ℕ → ℕ
 bump n = cond (ltb n countStop) (n + 1) n
@@ -59,9 +63,10 @@ abbrev pub shifted : Head → ℕ → Head
 shifted h n =
     record { profile = h .profile; at = h .at; count = bump (h .count); window = slide (h .window) n; kept = leaveKept h }
 
--- a mark with this code, just complete: its code is all of its text
-abbrev pub opened : Head → ℕ → Head
-opened h code = record { profile = h .profile; at = Open (kindAt (h .at)) code; count = 2; window = code; kept = nothingKept }
+-- a mark with this code, just complete: its code is all of its text; and whether the mark before it was handed out as a line
+abbrev pub opened : Head → ℕ → Bool → Head
+opened h code handed =
+    record { profile = h .profile; at = Open (beforeBy (kindAt (h .at)) handed) code; count = 2; window = code; kept = nothingKept }
 
 -- The reader's own test (11): constant time, and it looks at no byte of the body.
 
@@ -76,13 +81,21 @@ windowFits NoMark c w = cond (leb c 8) (eqb (aged c w) 0) true
 windowFits (Open before code) c w =
     leb 2 c && cond (leb c 8) (eqb (aged (c - 2) w) code) (cond (eqb c 9) (eqb (aged 7 w) (code % 16)) true)
 
--- the count has not passed its stop; no mark is complete and not yet taken; the window fits; and a stray nibble is noted only where one
--- can have left the window
+-- only an end of line follows a line handed out
+abbrev pub handedFits : Mark → Bool
+handedFits NoMark = true
+handedFits (Open NoLine code) = true
+handedFits (Open (RefusedLine k) code) = true
+handedFits (Open (HandedOut k) code) = isEnd (readingOf code)
+
+-- the count has not passed its stop; no mark is complete and not yet taken; the mark is an end of line if it follows a line handed out;
+-- the window fits; and a stray nibble is noted only where one can have left the window
 unfoldable pub passes : Head → Bool
 passes h =
     leb (h .count) countStop
     && (not (isMark (h .window))
-    && (windowFits (h .at) (h .count) (h .window) && (not (h .kept .stray) || ltb (gapStart (h .profile) + 8) (h .count))))
+    && (handedFits (h .at)
+    && (windowFits (h .at) (h .count) (h .window) && (not (h .kept .stray) || ltb (gapStart (h .profile) + 8) (h .count)))))
 
 -- The calls.
 
@@ -101,8 +114,8 @@ abbrev pub newOf : ℕ → Took
 newOf n = newFor (profileNumbered n)
 
 -- the state after a nibble that is taken, and what is answered: a mark is complete, or not. The text has count + 1 - 8 nibbles where it is
-unfoldable pub takeHead : Head → ℕ → Head
-takeHead h n = cond (isMark (slide (h .window) n)) (opened h (slide (h .window) n % 256)) (shifted h n)
+unfoldable pub takeHead : Head → Bool → ℕ → Head
+takeHead h handed n = cond (isMark (slide (h .window) n)) (opened h (slide (h .window) n % 256) handed) (shifted h n)
 
 unfoldable pub takeOutcome : Head → List ℕ → ℕ → Outcome
 takeOutcome h body n =
@@ -113,7 +126,7 @@ takeOutcome h body n =
 abbrev pub taking : Reader → ℕ → Took
 taking r n =
     record {
-      reader = record { head = takeHead (r .head) n; body = leaveBody (r .head) (r .body) };
+      reader = record { head = takeHead (r .head) (isLine (takeOutcome (r .head) (r .body) n)) n; body = leaveBody (r .head) (r .body) };
       outcome = takeOutcome (r .head) (r .body) n;
     }
 

@@ -24,7 +24,7 @@ ran r o i = record { reader = r; outcome = o; taken = i }
 abbrev pub isAnswer : Outcome → Bool
 isAnswer nothing = false
 isAnswer (line f body) = true
-isAnswer (gap a b) = true
+isAnswer (gap g) = true
 isAnswer (refused n) = true
 
 -- a run stops at an input that is above 15, or that brings an answer when it is taken

@@ -7,11 +7,11 @@
 ghost use mathlib.Core.Path.{_≡_};
 ghost use Prim.Native.Nat.{_≤_, _<_, _-_};
 ghost use lib.ListN.{length};
-ghost use Rattle.line_code.specs.declared.LineKind.{LineKind};
 ghost use Rattle.profile.specs.Profile.{bodyLength, longest};
+ghost use Rattle.stream.specs.declared.Before.{Before};
 ghost use Rattle.stream.specs.declared.Mark.the-variants.{NoMark, Open};
-ghost use Rattle.stream.specs.Answers.{outcomeOf, answerFor, bufferAfter, refused};
-ghost use Rattle.reader.specs.Reader.{isMark, slide, bump, leaveKept, leaveBody, shifted, opened, aged, windowFits, passes, freshReader, newOf, takeHead, takeOutcome, feedOf, flushed, finishOf};
+ghost use Rattle.stream.specs.Answers.{outcomeOf, answerFor, bufferAfter, refused, isLine};
+ghost use Rattle.reader.specs.Reader.{isMark, slide, bump, leaveKept, leaveBody, shifted, opened, aged, windowFits, handedFits, passes, freshReader, newOf, takeHead, takeOutcome, feedOf, flushed, finishOf};
 ghost use Rattle.reader.specs.Parts.{fedOf, completeOutcome, copied};
 ghost use Rattle.reader.specs.Run.{runOf, lentRunOf};
 
@@ -21,6 +21,7 @@ use mark_answer::Kept;
 use profile::Numbered;
 use profile::Profile;
 use stream::Answer;
+use stream::Before;
 use stream::Mark;
 
 // All of a reader's state but the body.
@@ -28,7 +29,8 @@ pub struct Head {
     pub profile: Profile,
     // The open mark.
     pub at: Mark,
-    // The nibbles of its text so far, its code's two among them; held at 1000, which is longer than any text that is right.
+    // The nibbles of its text so far, its code's two among them; held at 65,543, which is longer than any text
+    // that is right, and gives a period past 65,535.
     pub count: u32,
     // The text's eight newest nibbles, the newest lowest.
     pub window: u32,
@@ -193,20 +195,23 @@ impl Head {
             return false;
         }
         let at = self.at;
-        if window_fits(at, count, window) {
-            let kept = self.kept;
-            if kept.stray {
-                let p = self.profile;
-                return mark_answer::gap_start(p) + WINDOW < count;
+        if handed_fits(at) {
+            if window_fits(at, count, window) {
+                let kept = self.kept;
+                if kept.stray {
+                    let p = self.profile;
+                    return mark_answer::gap_start(p) + WINDOW < count;
+                }
+                return true;
             }
-            return true;
+            return false;
         }
         false
     }
 }
 
 // Where the count of a text's nibbles stops.
-const COUNT_STOP: u32 = 1000;
+const COUNT_STOP: u32 = 65543;
 
 // The nibbles of a full window: a mark's F F F F 0 0 and its code.
 const WINDOW: u32 = 8;
@@ -248,7 +253,7 @@ fn refuse(h: Head, number: u8) -> Stepped
 // Takes a nibble: the oldest of a full window leaves it, and a mark is complete or not.
 fn take(h: Head, body: &mut [u8], nibble: u8, buffer: &mut [u8]) -> Stepped
     requires { ⌜ (nibble < 16) × (bodyLength (h .profile) ≤ length (now buffer)) × (length (now body) ≡ longest) ⌝ }
-    ensures { λ r. ⌜ (r .head ≡ takeHead h nibble) × (r .answer ≡ answerFor (takeOutcome h (now (body .entry)) nibble)) × (now (body .exit) ≡ leaveBody h (now (body .entry))) × (now (buffer .exit) ≡ bufferAfter (takeOutcome h (now (body .entry)) nibble) (now (buffer .entry))) ⌝ }
+    ensures { λ r. ⌜ (r .head ≡ takeHead h (isLine (takeOutcome h (now (body .entry)) nibble)) nibble) × (r .answer ≡ answerFor (takeOutcome h (now (body .entry)) nibble)) × (now (body .exit) ≡ leaveBody h (now (body .entry))) × (now (buffer .exit) ≡ bufferAfter (takeOutcome h (now (body .entry)) nibble) (now (buffer .entry))) ⌝ }
 {
     leave_body(h, body);
     let newest = slide(h.window, nibble);
@@ -263,14 +268,15 @@ fn take(h: Head, body: &mut [u8], nibble: u8, buffer: &mut [u8]) -> Stepped
 // A mark with this code is complete: the mark before it is answered, and a line handed out.
 fn complete(h: Head, body: &[u8], code: u8, buffer: &mut [u8]) -> Stepped
     requires { ⌜ (bodyLength (h .profile) ≤ length (now buffer)) × (length (now body) ≡ longest) ⌝ }
-    ensures { λ r. ⌜ (r .head ≡ opened h code) × (r .answer ≡ answerFor (completeOutcome h (now (body .entry)) code)) × (now (buffer .exit) ≡ bufferAfter (completeOutcome h (now (body .entry)) code) (now (buffer .entry))) ⌝ }
+    ensures { λ r. ⌜ (r .head ≡ opened h code (isLine (completeOutcome h (now (body .entry)) code))) × (r .answer ≡ answerFor (completeOutcome h (now (body .entry)) code)) × (now (buffer .exit) ≡ bufferAfter (completeOutcome h (now (body .entry)) code) (now (buffer .entry))) ⌝ }
 {
     let p = h.profile;
     let at = h.at;
     let kept = leave_kept(h);
     let answer = mark_answer::at_mark(p, at, text_length(h.count), kept, body, code);
     hand_out(p, answer, body, buffer);
-    let head = open_at(h, code);
+    let handed = answer.is_line();
+    let head = open_at(h, code, handed);
     Stepped { head, answer }
 }
 
@@ -292,7 +298,7 @@ fn hand_out(p: Profile, answer: Answer, body: &[u8], buffer: &mut [u8])
     match answer {
         Answer::Nothing => {}
         Answer::Line(_) => copy_front(buffer, body, p.body_length()),
-        Answer::Gap(_, _) => {}
+        Answer::Gap(_) => {}
         Answer::Refused(_) => {}
     }
 }
@@ -375,14 +381,15 @@ fn shift(h: Head, nibble: u8) -> Head
     }
 }
 
-// A mark with this code, just complete: its code is all of its text.
-fn open_at(h: Head, code: u8) -> Head
-    ensures { λ r. ⌜ r ≡ opened h code ⌝ }
+// A mark with this code, just complete: its code is all of its text; and whether the mark before it was handed out as a line.
+fn open_at(h: Head, code: u8, handed: bool) -> Head
+    ensures { λ r. ⌜ r ≡ opened h code handed ⌝ }
 {
     let profile = h.profile;
-    let before = h.at;
-    let kind = before.kind();
-    let at = Mark::Open(kind, code);
+    let mark = h.at;
+    let kind = mark.kind();
+    let before = Before::of(kind, handed);
+    let at = Mark::Open(before, code);
     let kept = Kept::nothing();
     Head {
         profile,
@@ -406,6 +413,20 @@ fn flush(h: Head) -> Head
     g
 }
 
+// Only an end of line follows a line handed out.
+fn handed_fits(at: Mark) -> bool
+    ensures { λ r. ⌜ r ≡ handedFits at ⌝ }
+{
+    match at {
+        Mark::NoMark => true,
+        Mark::Open(before, code) => match before {
+            Before::NoLine => true,
+            Before::RefusedLine(_) => true,
+            Before::HandedOut(_) => line_code::read(code).is_end(),
+        },
+    }
+}
+
 // While the code is still in the window it stands where the count says, and nothing before it.
 fn window_fits(at: Mark, count: u32, window: u32) -> bool
     ensures { λ r. ⌜ r ≡ windowFits at count window ⌝ }
@@ -426,7 +447,7 @@ fn unmarked_fits(count: u32, window: u32) -> bool
 }
 
 fn marked_fits(code: u32, count: u32, window: u32) -> bool
-    ensures { λ r. ⌜ ((before : LineKind) → r ≡ windowFits (Open before code) count window) ⌝ }
+    ensures { λ r. ⌜ ((before : Before) → r ≡ windowFits (Open before code) count window) ⌝ }
 {
     if count < 2 {
         return false;

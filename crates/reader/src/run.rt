@@ -77,7 +77,7 @@ fn is_answer(answer: Answer) -> bool
     match answer {
         Answer::Nothing => false,
         Answer::Line(_) => true,
-        Answer::Gap(_, _) => true,
+        Answer::Gap(_) => true,
         Answer::Refused(_) => true,
     }
 }

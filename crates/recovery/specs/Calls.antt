@@ -10,6 +10,7 @@ use Rattle.refusal.specs.Refusal.{notANibble, noRoom}
 use Rattle.line_code.specs.declared.Kind.{Kind}
 use Rattle.profile.specs.declared.Profile.{Profile}
 use Rattle.profile.specs.Profile.{bodyLength}
+use Rattle.stream.specs.declared.GapFacts.{GapFacts}
 use Rattle.stream.specs.declared.Answer.{Answer}
 use Rattle.stream.specs.declared.Answer.the-variants as answers
 use Rattle.stream.specs.Answers.{eitherRepaired, Outcome, nothing, line, gap, refused, outcomeOf, answerFor, bufferAfter}
@@ -40,7 +41,7 @@ pub record Gives (R : Type 0) : Type 0 where
 abbrev pub takes : Answer → ℕ → List ℕ → List ℕ
 takes answers.Nothing n w = n ∷ w
 takes (answers.Line f) n w = n ∷ w
-takes (answers.Gap a b) n w = n ∷ w
+takes (answers.Gap g) n w = n ∷ w
 takes (answers.Refused r) n w = cond (eqb r notANibble || eqb r noRoom) w (n ∷ w)
 
 abbrev pub takenBy : Call → Answer → List ℕ → List ℕ
@@ -86,16 +87,68 @@ pub record LineOut : Type 0 where
   pub repaired : Bool
   pub body : List ℕ
 
--- the line of an outcome, if it is one, in front of those that come later
-abbrev pub lineIn : Outcome → List LineOut → List LineOut
-lineIn nothing ls = ls
-lineIn (line f body) ls = record { kind = f .kind; number = f .number; repaired = eitherRepaired f; body = body } ∷ ls
-lineIn (gap a b) ls = ls
-lineIn (refused n) ls = ls
+-- the line of an outcome, if it is one
+abbrev pub lineIn : Outcome → List LineOut
+lineIn nothing = []
+lineIn (line f body) = record { kind = f .kind; number = f .number; repaired = eitherRepaired f; body = body } ∷ []
+lineIn (gap g) = []
+lineIn (refused n) = []
 
 -- a line comes out as sent: with the kind, number and body given to the writer, and neither code repaired
 abbrev pub asSent : Sent → LineOut
 asSent s = record { kind = s .kind; number = s .number; repaired = false; body = s .body }
+
+-- Periods that come out (02, A7).
+
+-- the good gap of an outcome, if it is one
+abbrev pub gapIn : Outcome → List GapFacts
+gapIn nothing = []
+gapIn (line f body) = []
+gapIn (gap g) = g ∷ []
+gapIn (refused n) = []
+
+-- a line's gap and period as sent: the bytes given to the writer; and as the next line is written straight after this one, the nibbles from
+-- its first mark nibble to the first nibble of the mark after its gap are the line as written
+abbrev pub gapAsSent : Sent → GapFacts
+gapAsSent s = record { first = s .gap-one; second = s .gap-two; period = record { 0 = length (written s) } }
+
+-- the lines of which everything, from the first nibble through the code of the mark after the gap, lies wholly before the place i, where the
+-- first line starts at the place o. That mark is the next line's: the last line has none
+abbrev pub closedBy : ℕ → ℕ → List Sent → List Sent
+closedBy i o [] = []
+closedBy i o (s ∷ []) = []
+closedBy i o (s ∷ next ∷ ss) =
+    let later : List Sent = closedBy i (o + length (written s)) (next ∷ ss) in
+    cond (leb (o + length (written s) + length (startMark next)) i) (s ∷ later) later
+
+-- the lines with a mark after their gap: all but the last
+abbrev pub closed : List Sent → List Sent
+closed [] = []
+closed (s ∷ []) = []
+closed (s ∷ next ∷ ss) = s ∷ closed (next ∷ ss)
+
+-- the nibbles of a mark: F F F F 0 0 and its code
+abbrev pub markNibbles : ℕ
+markNibbles = 8
+
+-- What is collected of the calls' outcomes.
+
+-- what is taken of the outcome of a call that feeds, and of the outcome of finish
+pub record Collector (A : Type 0) : Type 0 where
+  pub fed : Outcome → List A
+  pub finished : Outcome → List A
+
+abbrev pub collects : {A : Type 0} → Collector A → Call → Outcome → List A
+collects k (feed n buffer) o = k .fed o
+collects k done o = k .finished o
+
+-- every line
+abbrev pub lineCollector : Collector LineOut
+lineCollector = record { fed = lineIn; finished = lineIn }
+
+-- every good gap that a mark closes. One that finish closes carries no period
+abbrev pub gapCollector : Collector GapFacts
+gapCollector = record { fed = gapIn; finished = λ o. [] }
 
 -- A reader of the type R, by its calls.
 
@@ -110,10 +163,18 @@ module _ {R : Type 0} (on : R → Call → Gives R) where
   onTaken r [] = []
   onTaken r (c ∷ cs) = takenBy c (on r c .answer) (onTaken (on r c .reader) cs)
 
+  -- what is collected, in order: a call's outcome is told by its answer and the buffer lent to it
+  abbrev pub onCollected : {A : Type 0} → Collector A → Profile → R → List Call → List A
+  onCollected k p r [] = []
+  onCollected k p r (c ∷ cs) = collects k c (outcomeOf p (on r c .answer) (on r c .buffer)) ++ onCollected k p (on r c .reader) cs
+
   -- the lines that come out, in order
   abbrev pub onLines : Profile → R → List Call → List LineOut
-  onLines p r [] = []
-  onLines p r (c ∷ cs) = lineIn (outcomeOf p (on r c .answer) (on r c .buffer)) (onLines p (on r c .reader) cs)
+  onLines p r cs = onCollected lineCollector p r cs
+
+  -- the good gaps that a mark closes, in order
+  abbrev pub onGaps : Profile → R → List Call → List GapFacts
+  onGaps p r cs = onCollected gapCollector p r cs
 
   -- what demand 3 says of the calls cs from the reader r
   pub record DemandThree (p : Profile) (r : R) (ss : List Sent) (i j : ℕ) (new : List ℕ) (cs : List Call) : Type 0 where
@@ -125,6 +186,14 @@ module _ {R : Type 0} (on : R → Call → Gives R) where
     -- come exactly the lines sent from there on, none missing and none added, in the order sent and each as sent
     pub lines-after : (first rest : List Call) → first ++ rest ≡ cs → length (onTaken r first) ≡ startAfter ss i j new
         → onLines p (onRun r first) rest ≡ map asSent (linesFrom j 0 ss)
+    -- out of the calls that take the nibbles before the stretch come exactly the good gaps of the lines that lie wholly before it, each from
+    -- its first nibble through the code of the mark after its gap: in the order sent, and each with its period as sent
+    pub periods-before : (first rest : List Call) → first ++ rest ≡ cs → length (onTaken r first) ≡ i
+        → onGaps p r first ≡ map gapAsSent (closedBy i 0 ss)
+    -- out of the calls after those that take the mark of the first line start after the stretch come exactly the good gaps of the lines sent
+    -- from there on that have a mark after them: in the order sent, and each with its period as sent
+    pub periods-after : (first rest : List Call) → first ++ rest ≡ cs → length (onTaken r first) ≡ startAfter ss i j new + markNibbles
+        → onGaps p (onRun r first) rest ≡ map gapAsSent (closed (linesFrom j 0 ss))
 
   -- demand 3 of the fresh reader r: for every clean stream, every stretch and what stands in its place, and every list of calls that
   -- take the changed stream

@@ -1,4 +1,4 @@
--- Demand 3 at work: three lines of mixed kinds with a stretch of the second one replaced by an odd count of nibbles, in either profile.
+-- Demand 3 at work: four lines of mixed kinds with a stretch of the second one replaced by an odd count of nibbles, in either profile.
 -- No hypothesis of demand 3 is empty: such lines, such a stretch and such calls there are.
 use mathlib.Core.Path.{_≡_, refl, _∙_, ap, ap₂}
 use mathlib.Core.Bool.{Bool, true, cond}
@@ -19,7 +19,7 @@ use Rattle.profile.specs.Profile.{bodyLength, fillerByte, nullByte}
 use Rattle.profile.specs.Layout.{allows, fits, rules, gapFits}
 use Rattle.stream.specs.Stream.{State, fresh, step}
 use Rattle.stream.specs.Written.{Sent, Writable, AllWritable, no-lines, and-line, stream}
-use Rattle.recovery.specs.Calls.{Call, feed, done, FinishLast, done-last, feed-first, Gives, takes, changed, endedBy, linesFrom, onTaken, DemandThree, turnedAway, fed, meaningCall}
+use Rattle.recovery.specs.Calls.{Call, feed, done, FinishLast, done-last, feed-first, Gives, takes, changed, endedBy, linesFrom, closedBy, closed, onTaken, DemandThree, turnedAway, fed, meaningCall}
 use Rattle.recovery.specs.WrittenLaws.{AllNibbles, no-nibble, and-nibble, all-changed}
 use Rattle.recovery.specs.DemandThree.{step-taken, demand-three}
 
@@ -56,12 +56,13 @@ sample p k n = record { kind = k; number = n; body = map byteFor (rules p k); ga
 pub sample-writable : (p : Profile) (k : Kind) (n : ℕ) → n ≤ greatest → Writable p (sample p k n)
 sample-writable p k n h = record { number-small = h; body-fits = bytes-fit (rules p k); gap-fits = gap-fits p k; nulls-few = lit≤ tt }
 
-abbrev pub three : Profile → List Sent
-three p = sample p SOF 0 ∷ sample p BL 3 ∷ sample p VL 10 ∷ []
+abbrev pub four : Profile → List Sent
+four p = sample p SOF 0 ∷ sample p BL 3 ∷ sample p VL 10 ∷ sample p EOF 302 ∷ []
 
-pub three-writable : (p : Profile) → AllWritable p (three p)
-three-writable p =
-    and-line (sample-writable p SOF 0 (lit≤ tt)) (and-line (sample-writable p BL 3 (lit≤ tt)) (and-line (sample-writable p VL 10 (lit≤ tt)) no-lines))
+pub four-writable : (p : Profile) → AllWritable p (four p)
+four-writable p =
+    and-line (sample-writable p SOF 0 (lit≤ tt))
+    (and-line (sample-writable p BL 3 (lit≤ tt)) (and-line (sample-writable p VL 10 (lit≤ tt)) (and-line (sample-writable p EOF 302 (lit≤ tt)) no-lines)))
 
 -- The stretch: 100 nibbles within the second line, and three in their place.
 
@@ -80,18 +81,27 @@ pub stretch-ordered : (p : Profile) → from p ≤ to p
 stretch-ordered VV5404 = lit≤ tt
 stretch-ordered VV5300 = lit≤ tt
 
-pub stretch-within : (p : Profile) → to p ≤ length (stream (three p))
+pub stretch-within : (p : Profile) → to p ≤ length (stream (four p))
 stretch-within VV5404 = lit≤ tt
 stretch-within VV5300 = lit≤ tt
 
--- the first line lies before it, and the third one after it
-pub line-before : (p : Profile) → endedBy (from p) 0 (three p) ≡ sample p SOF 0 ∷ []
+-- the first line lies before it, and the last two after it
+pub line-before : (p : Profile) → endedBy (from p) 0 (four p) ≡ sample p SOF 0 ∷ []
 line-before VV5404 = refl
 line-before VV5300 = refl
 
-pub line-after : (p : Profile) → linesFrom (to p) 0 (three p) ≡ sample p VL 10 ∷ []
+pub line-after : (p : Profile) → linesFrom (to p) 0 (four p) ≡ sample p VL 10 ∷ sample p EOF 302 ∷ []
 line-after VV5404 = refl
 line-after VV5300 = refl
+
+-- and so do the marks after the first line's gap and after the third one's: their periods are as sent
+pub period-before : (p : Profile) → closedBy (from p) 0 (four p) ≡ sample p SOF 0 ∷ []
+period-before VV5404 = refl
+period-before VV5300 = refl
+
+pub period-after : (p : Profile) → closed (linesFrom (to p) 0 (four p)) ≡ sample p VL 10 ∷ []
+period-after VV5404 = refl
+period-after VV5300 = refl
 
 -- Calls.
 
@@ -119,7 +129,7 @@ all-taken p buffer h (and-nibble {n} {w} l g) s =
     ∙ ap {B = List ℕ} (λ v. n ∷ v) (all-taken p buffer h g (step p s n .state))
 
 abbrev pub calls : Profile → List Call
-calls p = fedThenDone (replicate (bodyLength p) 0) (changed (three p) (from p) (to p) new)
+calls p = fedThenDone (replicate (bodyLength p) 0) (changed (four p) (from p) (to p) new)
 
 room : (p : Profile) → bodyLength p ≤ length {A = ℕ} (replicate (bodyLength p) 0)
 room VV5404 = lit≤ tt
@@ -128,10 +138,10 @@ room VV5300 = lit≤ tt
 new-nibbles : AllNibbles new
 new-nibbles = and-nibble (lit≤ tt) (and-nibble (lit≤ tt) (and-nibble (lit≤ tt) no-nibble))
 
--- demand 3 holds of these lines, this stretch and these calls: the first line comes out before the stretch, and the third one after it
-pub recovered : (p : Profile) → DemandThree (meaningCall p) p fresh (three p) (from p) (to p) new (calls p)
+-- demand 3 holds of these lines, this stretch and these calls: the first line comes out before the stretch, and the last two after it
+pub recovered : (p : Profile) → DemandThree (meaningCall p) p fresh (four p) (from p) (to p) new (calls p)
 recovered p =
     let buffer : List ℕ = replicate (bodyLength p) 0 in
-    let w = changed (three p) (from p) (to p) new in
-    demand-three p (three p) (three-writable p) (from p) (to p) (stretch-ordered p) (stretch-within p) new (calls p) (finish-last buffer w)
-    (all-taken p buffer (room p) {w = w} (all-changed p (three-writable p) (from p) (to p) new-nibbles) fresh)
+    let w = changed (four p) (from p) (to p) new in
+    demand-three p (four p) (four-writable p) (from p) (to p) (stretch-ordered p) (stretch-within p) new (calls p) (finish-last buffer w)
+    (all-taken p buffer (room p) {w = w} (all-changed p (four-writable p) (from p) (to p) new-nibbles) fresh)

@@ -1,10 +1,14 @@
 pub mod Calls
 pub mod Marks
 pub mod AnswerLaws
+pub mod Collected
 pub mod Resync
 pub mod MarkFree
 pub mod ReadBack
 pub mod Damage
+pub mod Gaps
+pub mod MarkPlaces
+pub mod Periods
 pub mod DemandThree
 pub mod WrittenLaws
 pub mod Examples

@@ -26,6 +26,7 @@ use Rattle.stream.specs.Stream.{group, strip, Completed, not-yet, markIf, detec
 use Rattle.stream.specs.Written.{Sent, Writable, nibbles, content}
 use Rattle.line_number.specs.LineNumberLaws.{byte-small}
 use Rattle.recovery.specs.Marks.{onto, strip-none}
+use Rattle.recovery.specs.Collected.{nothings}
 use Rattle.recovery.specs.Resync.{stateWith}
 
 -- Nibbles that bring no mark.
@@ -49,11 +50,6 @@ no-group-onto t (n ∷ w) h = no-group-older (no-group-onto (n ∷ t) w h)
 none-completed : (n : ℕ) {t : List ℕ} → NoGroup t → detect (n ∷ t) ≡ not-yet
 none-completed n no-group-empty = refl
 none-completed n (no-group-more {n = x} h g) = ap (markIf x n) (no-group-here g)
-
--- as many outcomes that say nothing
-abbrev pub nothings : List ℕ → List Outcome
-nothings [] = []
-nothings (n ∷ w) = nothing ∷ nothings w
 
 -- the nibbles w only lengthen the text t of the mark m
 pub record Lengthens (p : Profile) (m : Mark) (t w : List ℕ) : Type 0 where

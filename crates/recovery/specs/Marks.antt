@@ -72,7 +72,7 @@ pub record MarkEnds (t : List ℕ) : Type 0 where
   pub older : List ℕ
   pub is : t ≡ low ∷ high ∷ (group ++ older)
 
-detected : (t : List ℕ) (x y : ℕ) (before : List ℕ) → detect t ≡ mark x y before → t ≡ y ∷ x ∷ (group ++ before)
+pub detected : (t : List ℕ) (x y : ℕ) (before : List ℕ) → detect t ≡ mark x y before → t ≡ y ∷ x ∷ (group ++ before)
 detected [] x y before h = cc
 detected (b ∷ []) x y before h = cc
 detected (b ∷ a ∷ t) x y before h = go (strip group t) refl h
@@ -99,7 +99,7 @@ there-completes t h = ap completes (h .is)
 -- What the reader keeps of all nibbles.
 
 -- the text is all nibbles taken; or those since some F F F F 0 0, two at least
-data Since (t : List ℕ) : List ℕ → Type 0 where
+pub data Since (t : List ℕ) : List ℕ → Type 0 where
   all-taken : Since t t
   since-group : (older : List ℕ) → 2 ≤ length t → Since t (t ++ (group ++ older))
 
@@ -117,14 +117,14 @@ mark-found x y none = refl
 mark-found x y (some t) = refl
 
 -- so a nibble completes a mark of what is kept exactly if it completes one of all nibbles
-kept-completes : (t all : List ℕ) → Since t all → (n : ℕ) → completes (n ∷ t) ≡ completes (n ∷ all)
+pub kept-completes : (t all : List ℕ) → Since t all → (n : ℕ) → completes (n ∷ t) ≡ completes (n ∷ all)
 kept-completes t all all-taken n = refl
 kept-completes [] all (since-group older h) n = absurd (not-suc-le-zero h)
 kept-completes (x ∷ []) all (since-group older h) n = absurd (not-suc-le-zero (le-of-suc-le-suc h))
 kept-completes (x ∷ a ∷ t) all (since-group older h) n =
     mark-found x n (strip group (a ∷ t)) ∙ sym (apart a t older) ∙ sym (mark-found x n (strip group ((a ∷ t) ++ (group ++ older))))
 
-kept-step : (p : Profile) (m : Mark) (t all : List ℕ) (n : ℕ) (d : Completed) → detect (n ∷ t) ≡ d → Since t all
+pub kept-step : (p : Profile) (m : Mark) (t all : List ℕ) (n : ℕ) (d : Completed) → detect (n ∷ t) ≡ d → Since t all
     → Since (advance p m (n ∷ t) d .state .text) (n ∷ all)
 kept-step p m t all n not-yet e all-taken = all-taken
 kept-step p m t all n not-yet e (since-group older h) = since-group older (omega arith)
@@ -153,7 +153,7 @@ marks-are-places p w n = kept-completes (run p fresh w .text) (onto [] w) (kept 
 abbrev answerIn : Outcome → ℕ
 answerIn nothing = 0
 answerIn (line f body) = 1
-answerIn (gap a b) = 1
+answerIn (gap g) = 1
 answerIn (refused n) = 1
 
 abbrev pub answersIn : List Outcome → ℕ
@@ -175,7 +175,7 @@ waiting (Open before code) = 1
 
 answered : (p : Profile) (m : Mark) (t : List ℕ) (next : Option ℕ) → answerIn (answerAt p m t next) ≡ waiting m
 answered p NoMark t next = refl
-answered p (Open before c) t next = mark-cases (λ (o : Outcome). answerIn o ≡ 1) (λ a b. refl) (λ n l. refl) p before c t next (λ f body l e. refl)
+answered p (Open before c) t next = mark-cases (λ (o : Outcome). answerIn o ≡ 1) (λ g. refl) (λ n l. refl) p before c t next (λ f body l e. refl)
 
 -- a nibble that completes a mark answers the one that waits, and the new one waits; any other answers nothing
 answered-step : (p : Profile) (m : Mark) (t : List ℕ) (d : Completed)

@@ -4,11 +4,11 @@ use mathlib.Core.Path.{_≡_, refl, _∙_, ap, ap₂, sym}
 use mathlib.Core.Bool.{Bool, true, false, _&&_, true≢false}
 use mathlib.Core.List.{List, [], _∷_, _++_, append-nil}
 use mathlib.Core.Option.{Option, none, some}
-use Prim.Native.Nat.{ℕ, zero, suc, _+_, _/_, _%_, _≤_, _<_}
+use Prim.Native.Nat.{ℕ, zero, suc, _+_, _*_, _/_, _%_, _≤_, _<_}
 use native.Mathlib.Omega.{arith}
 use lib.Dec.{eqb, leb}
-use lib.ListN.{length, replicate}
-use borrow.Author.Tests.{leb-true, leb-false, eqb-true, eqb-false, eq-eqb}
+use lib.ListN.{length, replicate, length-append, length-replicate}
+use borrow.Author.Tests.{leb-true, leb-false, eqb-true, eqb-false, eq-eqb, ne-eqb}
 use Rattle.bits.specs.Bits.{flipped}
 use Rattle.bits.specs.Every.{and-left, and-right, and-both}
 use Rattle.refusal.specs.Refusal.{wrongLength, badNumber, badBody, noEndOfLine, badGap}
@@ -19,7 +19,6 @@ use Rattle.line_code.specs.declared.Meaning.the-variants.{EndOfLine, Line}
 use Rattle.line_code.specs.declared.Reading.the-variants.{Says}
 use Rattle.line_code.specs.declared.Repair.{Repair}
 use Rattle.line_code.specs.declared.Repair.the-variants.{Clean, Bit}
-use Rattle.line_code.specs.declared.LineKind.{LineKind}
 use Rattle.line_code.specs.declared.LineKind.the-variants.{LineOf}
 use Rattle.line_code.specs.LineCode.{cleanByte, readingOf, kindOf, isEnd, isDamaged}
 use Rattle.line_code.specs.LineCodeLaws.{clean-reading, one-flip, damaged-far}
@@ -28,16 +27,19 @@ use Rattle.profile.specs.declared.Profile.{Profile}
 use Rattle.profile.specs.declared.Profile.the-variants.{VV5404, VV5300}
 use Rattle.profile.specs.Profile.{bodyLength, fillerByte, nullByte}
 use Rattle.profile.specs.Layout.{isPixel, fits, rules, gapFits, bothAre}
+use Rattle.stream.specs.declared.Before.{Before}
+use Rattle.stream.specs.declared.Before.the-variants.{HandedOut}
 use Rattle.stream.specs.declared.Mark.{Mark}
 use Rattle.stream.specs.declared.Mark.the-variants.{Open}
-use Rattle.stream.specs.Answers.{facts, Outcome, nothing, line, gap, require, bytesOnto, lineFrom, turned, allF, afterCode, gapFrom, byReading, answerOf}
-use Rattle.stream.specs.Stream.{State, group, fresh, kindAt, answerAt, step, finish, run, outcomes}
+use Rattle.stream.specs.Answers.{facts, Outcome, nothing, line, isLine, require, bytesOnto, lineFrom, turned, allF, afterCode, goodGap, periodOf, gapFrom, byReading, answerOf}
+use Rattle.stream.specs.Stream.{State, group, fresh, kindAt, beforeBy, answerAt, step, finish, run, outcomes}
 use Rattle.stream.specs.Written.{Sent, Writable, nibbles, markOf, startMark, content, tail, written}
 use Rattle.line_number.specs.LineNumberLaws.{byte-good, byte-value}
-use Rattle.profile.specs.LayoutLaws.{rules-length, fits-length}
+use Rattle.profile.specs.LayoutLaws.{rules-length, fits-length, body-small}
 use Rattle.recovery.specs.Marks.{onto}
-use Rattle.recovery.specs.Resync.{stateWith, opened, byte-joined, Opens, resync}
-use Rattle.recovery.specs.MarkFree.{NoGroup, no-group-more, nothings, Lengthens, no-mark, strip-wrong, few-no-group, few-empty, few-up, few-pixel, lineText, few-line, no-inner-mark}
+use Rattle.recovery.specs.Resync.{stateWith, opened, becomes, byte-joined, Opens, resync}
+use Rattle.recovery.specs.Collected.{nothings}
+use Rattle.recovery.specs.MarkFree.{NoGroup, no-group-more, Lengthens, no-mark, strip-wrong, few-no-group, few-empty, few-up, few-pixel, lineText, few-line, no-inner-mark}
 
 -- Runs, piece by piece.
 
@@ -59,7 +61,7 @@ sevenThen o = seven ++ (o ∷ [])
 
 -- a mark with the code c after a text t without F F F F 0 0: the mark before is answered with that text
 record MarkTold (p : Profile) (m : Mark) (t : List ℕ) (c : ℕ) : Type 0 where
-  state : run p (stateWith m t) (markOf c) ≡ opened (kindAt m) c
+  state : run p (stateWith m t) (markOf c) ≡ opened (becomes p m t c) c
   told : outcomes p (stateWith m t) (markOf c) ≡ sevenThen (answerAt p m t (some c))
 
 marked : (p : Profile) (m : Mark) (t : List ℕ) (c : ℕ) → NoGroup t → MarkTold p m t c
@@ -67,7 +69,7 @@ marked p m t c h =
     let w : List ℕ = 15 ∷ 15 ∷ 0 ∷ 0 ∷ c / 16 ∷ c % 16 ∷ [] in
     let q : Lengthens p m t (15 ∷ 15 ∷ []) = no-mark p m t (15 ∷ 15 ∷ []) (no-group-more refl (no-group-more refl h)) in
     record {
-      state = ap (λ (x : State). run p x w) (q .state) ∙ ap (λ (b : ℕ). stateWith (Open (kindAt m) b) (c % 16 ∷ c / 16 ∷ [])) (byte-joined c);
+      state = ap (λ (x : State). run p x w) (q .state) ∙ ap (λ (b : ℕ). stateWith (Open (becomes p m t b) b) (c % 16 ∷ c / 16 ∷ [])) (byte-joined c);
       told =
           outcomes-append p (stateWith m t) (15 ∷ 15 ∷ []) w
           ∙ ap₂ _++_ (q .told) (ap (λ (x : State). outcomes p x w) (q .state))
@@ -117,10 +119,10 @@ writtenWith start end s = markOf start ++ (content s ++ (markOf end ++ tail s))
 abbrev pub gapText : ℕ → Sent → List ℕ
 gapText c s = onto (c % 16 ∷ c / 16 ∷ []) (tail s)
 
-body-long : (p : Profile) (s : Sent) → Writable p s → eqb (length (s .body)) (bodyLength p) ≡ true
+pub body-long : (p : Profile) (s : Sent) → Writable p s → eqb (length (s .body)) (bodyLength p) ≡ true
 body-long p s g = eq-eqb (length (s .body)) (bodyLength p) (fits-length (rules p (s .kind)) (s .body) (g .body-fits) ∙ rules-length p (s .kind))
 
-line-answer : (p : Profile) (s : Sent) → Writable p s → (before : LineKind) (start end : ℕ) (r q : Repair)
+line-answer : (p : Profile) (s : Sent) → Writable p s → (before : Before) (start end : ℕ) (r q : Repair)
     → readingOf start ≡ Says (Line (s .kind)) r → readingOf end ≡ Says EndOfLine q
     → answerAt p (Open before start) (lineText start s) (some end) ≡ line (facts (s .kind) (s .number) r q) (s .body)
 unfolding answerOf
@@ -189,24 +191,52 @@ nulls-F (suc k) = nulls-F k
 null-F : (b : ℕ) (bs : List ℕ) → b ≡ nullByte → allF (nibbles bs) ≡ true → allF (nibbles (b ∷ bs)) ≡ true
 null-F b bs e h = and-both (eqb (b / 16) 15) _ (eq-eqb (b / 16) 15 (omega arith)) (and-both (eqb (b % 16) 15) _ (eq-eqb (b % 16) 15 (omega arith)) h)
 
-gap-from : (p : Profile) (k : Kind) (a b n : ℕ) → gapFits p k a b ≡ true → gapFrom p k (nibbles (a ∷ b ∷ replicate n nullByte)) ≡ gap a b
-gap-from VV5404 k a b n h =
+gap-from : (p : Profile) (k : Kind) (m a b n : ℕ) → gapFits p k a b ≡ true → gapFrom p k m (nibbles (a ∷ b ∷ replicate n nullByte)) ≡ goodGap m a b
+gap-from VV5404 k m a b n h =
     let ea = eqb-true a nullByte (and-left (eqb a nullByte) (eqb b nullByte) h) in
     let eb = eqb-true b nullByte (and-right (eqb a nullByte) (eqb b nullByte) h) in
     let ns : List ℕ = replicate n nullByte in
-    passes (allF (nibbles (a ∷ b ∷ ns))) badGap _ (null-F a (b ∷ ns) ea (null-F b ns eb (nulls-F n))) ∙ ap₂ gap (sym ea) (sym eb)
-gap-from VV5300 k a b n h =
-    ap₂ (λ (x y : ℕ). require (gapFits VV5300 k x y && allF (nibbles (replicate n nullByte))) badGap (gap x y)) (byte-joined a) (byte-joined b)
+    passes (allF (nibbles (a ∷ b ∷ ns))) badGap _ (null-F a (b ∷ ns) ea (null-F b ns eb (nulls-F n))) ∙ ap₂ (goodGap m) (sym ea) (sym eb)
+gap-from VV5300 k m a b n h =
+    ap₂ (λ (x y : ℕ). require (gapFits VV5300 k x y && allF (nibbles (replicate n nullByte))) badGap (goodGap m x y)) (byte-joined a) (byte-joined b)
     ∙ passes (gapFits VV5300 k a b && allF (nibbles (replicate n nullByte))) badGap _ (and-both (gapFits VV5300 k a b) _ h (nulls-F n))
 
 gap-answer : (p : Profile) (s : Sent) → Writable p s → (end : ℕ) (q : Repair) → readingOf end ≡ Says EndOfLine q → (next : Option ℕ)
-    → answerAt p (Open (LineOf (s .kind)) end) (gapText end s) next ≡ gap (s .gap-one) (s .gap-two)
+    → answerAt p (Open (HandedOut (s .kind)) end) (gapText end s) next
+    ≡ goodGap (periodOf p (HandedOut (s .kind)) (length (gapText end s)) next) (s .gap-one) (s .gap-two)
 unfolding answerOf
 gap-answer p s g end q he next =
-    ap (λ x. byReading p (LineOf (s .kind)) x (gapText end s) next) he
-    ∙ ap (λ w. gapFrom p (s .kind) (afterCode w)) (turned-onto (end % 16 ∷ end / 16 ∷ []) (tail s) [])
-    ∙ ap (λ w. gapFrom p (s .kind) w) (append-nil (tail s))
-    ∙ gap-from p (s .kind) (s .gap-one) (s .gap-two) (s .nulls) (g .gap-fits)
+    let n = periodOf p (HandedOut (s .kind)) (length (gapText end s)) next in
+    ap (λ x. byReading p (HandedOut (s .kind)) x (gapText end s) next) he
+    ∙ ap (λ w. gapFrom p (s .kind) n (afterCode w)) (turned-onto (end % 16 ∷ end / 16 ∷ []) (tail s) [])
+    ∙ ap (λ w. gapFrom p (s .kind) n w) (append-nil (tail s))
+    ∙ gap-from p (s .kind) n (s .gap-one) (s .gap-two) (s .nulls) (g .gap-fits)
+
+-- the period of a line as written is its length (A7)
+
+pub length-nibbles : (bs : List ℕ) → length (nibbles bs) ≡ 2 * length bs
+length-nibbles [] = refl
+length-nibbles (b ∷ bs) = omega (arith, length-nibbles bs)
+
+length-onto : (t w : List ℕ) → length (onto t w) ≡ length t + length w
+length-onto t [] = omega arith
+length-onto t (n ∷ w) = length-onto (n ∷ t) w ∙ (let e : suc (length t) + length w ≡ length t + suc (length w) = omega arith in e)
+
+pub written-length : (p : Profile) (s : Sent) → Writable p s → (start end code : ℕ)
+    → periodOf p (HandedOut (s .kind)) (length (gapText end s)) (some code) ≡ length (writtenWith start end s)
+unfolding periodOf
+written-length p s g start end code =
+    omega (
+      arith,
+      length-onto (end % 16 ∷ end / 16 ∷ []) (tail s),
+      length-append (content s) (markOf end ++ tail s),
+      length-nibbles (numberByte (s .number / 64) ∷ numberByte (s .number % 64) ∷ s .body),
+      length-nibbles (s .gap-one ∷ s .gap-two ∷ replicate (s .nulls) nullByte),
+      length-replicate {A = ℕ} (s .nulls) nullByte,
+      g .nulls-few,
+      eqb-true (length (s .body)) (bodyLength p) (body-long p s g),
+      body-small p,
+    )
 
 -- Both, from any state.
 
@@ -218,21 +248,21 @@ pub record ComesBack (p : Profile) (s : Sent) (start end : ℕ) (r q : Repair) (
   -- no line comes out of the start mark
   pub opens : Opens p x (markOf start) start
   pub told : outcomes p x (writtenWith start end s) ≡ outcomes p x (markOf start) ++ restTold s r q
-  pub state : run p x (writtenWith start end s) ≡ stateWith (Open (LineOf (s .kind)) end) (gapText end s)
+  pub state : run p x (writtenWith start end s) ≡ stateWith (Open (HandedOut (s .kind)) end) (gapText end s)
 
 pub comes-back : (p : Profile) (s : Sent) → Writable p s → (start end : ℕ) (r q : Repair)
     → readingOf start ≡ Says (Line (s .kind)) r → readingOf end ≡ Says EndOfLine q → (x : State) → ComesBack p s start end r q x
 comes-back p s g start end r q hs he x =
     let open₁ : Opens p x (markOf start) start = resync p x start (ap isEnd hs) in
     let m = Open (open₁ .before) start in
-    let e = Open (LineOf (s .kind)) end in
+    let e = Open (HandedOut (s .kind)) end in
     let start-small = read-small start r (Line (s .kind)) hs in
     let end-small = read-small end q EndOfLine he in
     let one : Lengthens p m (start % 16 ∷ start / 16 ∷ []) (content s) = no-inner-mark p s g m start start-small in
     let two : MarkTold p m (lineText start s) end = marked p m (lineText start s) end (few-no-group (lineText start s) (few-line p s g start start-small)) in
     let three : Lengthens p e (end % 16 ∷ end / 16 ∷ []) (tail s) = no-mark p e (end % 16 ∷ end / 16 ∷ []) (tail s) (no-group-gap p s g end end-small) in
-    let open₂ : run p (stateWith m (lineText start s)) (markOf end) ≡ opened (LineOf (s .kind)) end
-    = two .state ∙ ap (λ (b : LineKind). opened b end) (ap kindOf hs) in
+    let open₂ : run p (stateWith m (lineText start s)) (markOf end) ≡ opened (HandedOut (s .kind)) end
+    = two .state ∙ ap₂ (λ k o. opened (beforeBy k (isLine o)) end) (ap kindOf hs) (line-answer p s g (open₁ .before) start end r q hs he) in
     record {
       opens = open₁;
       told =
@@ -254,30 +284,53 @@ comes-back p s g start end r q hs he x =
           ∙ three .state;
     }
 
+-- up to its end code a line as written leads, from any state, to its end mark open after a line handed out
+pub line-opens : (p : Profile) (s : Sent) → Writable p s → (start end : ℕ) (r q : Repair)
+    → readingOf start ≡ Says (Line (s .kind)) r → readingOf end ≡ Says EndOfLine q → (x : State)
+    → run p x (markOf start ++ (content s ++ markOf end)) ≡ opened (HandedOut (s .kind)) end
+line-opens p s g start end r q hs he x =
+    let open₁ : Opens p x (markOf start) start = resync p x start (ap isEnd hs) in
+    let m = Open (open₁ .before) start in
+    let start-small = read-small start r (Line (s .kind)) hs in
+    let one : Lengthens p m (start % 16 ∷ start / 16 ∷ []) (content s) = no-inner-mark p s g m start start-small in
+    let two : MarkTold p m (lineText start s) end = marked p m (lineText start s) end (few-no-group (lineText start s) (few-line p s g start start-small)) in
+    run-append p x (markOf start) (content s ++ markOf end)
+    ∙ ap (λ (y : State). run p y (content s ++ markOf end)) (open₁ .state)
+    ∙ run-append p (opened (open₁ .before) start) (content s) (markOf end)
+    ∙ ap (λ (y : State). run p y (markOf end)) (one .state)
+    ∙ two .state
+    ∙ ap₂ (λ k o. opened (beforeBy k (isLine o)) end) (ap kindOf hs) (line-answer p s g (open₁ .before) start end r q hs he)
+
+-- from the state after a line as written, any mark tells its gap: its two bytes, and as the line's period its length as written
+pub gap-told : (p : Profile) (s : Sent) → Writable p s → (start end : ℕ) (q : Repair) → readingOf end ≡ Says EndOfLine q → (code : ℕ)
+    → outcomes p (stateWith (Open (HandedOut (s .kind)) end) (gapText end s)) (markOf code)
+    ≡ sevenThen (goodGap (length (writtenWith start end s)) (s .gap-one) (s .gap-two))
+gap-told p s g start end q he code =
+    marked p (Open (HandedOut (s .kind)) end) (gapText end s) code (no-group-gap p s g end (read-small end q EndOfLine he)) .told
+    ∙ ap sevenThen (gap-answer p s g end q he (some code) ∙ ap (λ (n : ℕ). goodGap n (s .gap-one) (s .gap-two)) (written-length p s g start end code))
+
 -- From a fresh reader.
 
 -- the nibbles w, fed to a fresh reader, are read as the line s, with these repairs of the code that starts it and of the one that ends it
 pub record ReadsBack (p : Profile) (s : Sent) (w : List ℕ) (r q : Repair) : Type 0 where
   -- only the second nibble of the end code brings an answer: the line
   pub line-told : outcomes p fresh w ≡ nothings (startMark s) ++ restTold s r q
-  -- the gap is told when the next mark's code is complete, whatever that is, or at finish
-  pub gap-at-mark : (code : ℕ) → outcomes p (run p fresh w) (markOf code) ≡ sevenThen (gap (s .gap-one) (s .gap-two))
-  pub gap-at-finish : finish p (run p fresh w) .outcome ≡ gap (s .gap-one) (s .gap-two)
+  -- the gap is told when the next mark's code is complete, whatever that is, and its line's period is its length as written; or at finish
+  pub gap-at-mark : (code : ℕ) → outcomes p (run p fresh w) (markOf code) ≡ sevenThen (goodGap (length w) (s .gap-one) (s .gap-two))
+  pub gap-at-finish : finish p (run p fresh w) .outcome ≡ goodGap 0 (s .gap-one) (s .gap-two)
 
 -- with any code bytes that are read as the line's kind and as end of line
 pub read-back-with : (p : Profile) (s : Sent) → Writable p s → (start end : ℕ) (r q : Repair)
     → readingOf start ≡ Says (Line (s .kind)) r → readingOf end ≡ Says EndOfLine q → ReadsBack p s (writtenWith start end s) r q
+unfolding periodOf
 read-back-with p s g start end r q hs he =
     let b = comes-back p s g start end r q hs he fresh in
-    let e = Open (LineOf (s .kind)) end in
-    let answered = gap-answer p s g end q he in
     record {
       line-told = b .told;
       gap-at-mark = λ code.
           ap (λ (y : State). outcomes p y (markOf code)) (b .state)
-          ∙ marked p e (gapText end s) code (no-group-gap p s g end (read-small end q EndOfLine he)) .told
-          ∙ ap sevenThen (answered (some code));
-      gap-at-finish = ap (λ (y : State). finish p y .outcome) (b .state) ∙ answered none;
+          ∙ gap-told p s g start end q he code;
+      gap-at-finish = ap (λ (y : State). finish p y .outcome) (b .state) ∙ gap-answer p s g end q he none;
     }
 
 -- one of the eight bits of the start code flipped: the same line, that bit named

@@ -22,7 +22,7 @@ use Rattle.profile.specs.declared.Rule.{Rule}
 use Rattle.profile.specs.declared.Rule.the-variants.{Filler, Pixel, Any}
 use Rattle.profile.specs.Profile.{fillerByte, nullByte}
 use Rattle.profile.specs.Layout.{isPixel, allows, fits, rules, bothAre, gapFits}
-use Rattle.stream.specs.Written.{Sent, Writable, AllWritable, no-lines, and-line, nibbles, markOf, written, stream}
+use Rattle.stream.specs.Written.{Sent, Writable, AllWritable, no-lines, and-line, nibbles, markOf, content, written, stream}
 use Rattle.line_number.specs.LineNumberLaws.{byte-small}
 use Rattle.recovery.specs.Calls.{changed}
 use Rattle.recovery.specs.ReadBack.{read-small}
@@ -82,14 +82,18 @@ all-mark m =
     let c = read-small (cleanByte m) Clean m (clean-reading m) in
     all-byte 255 (omega arith) (all-byte 255 (omega arith) (all-byte 0 (omega arith) (all-byte (cleanByte m) (omega arith) no-nibble)))
 
-all-written : (p : Profile) (s : Sent) → Writable p s → AllNibbles (written s)
-all-written p s g =
+-- number and body
+pub all-content : (p : Profile) (s : Sent) → Writable p s → AllNibbles (content s)
+all-content p s g =
     let high = byte-small (s .number / 64) (omega (arith, g .number-small)) in
     let low = byte-small (s .number % 64) (omega arith) in
+    all-byte (numberByte (s .number / 64)) (omega (arith, high)) (all-byte (numberByte (s .number % 64)) (omega (arith, low)) (all-body (rules p (s .kind)) (s .body) (g .body-fits)))
+
+all-written : (p : Profile) (s : Sent) → Writable p s → AllNibbles (written s)
+all-written p s g =
     let two = gap-bytes p (s .kind) (s .gap-one) (s .gap-two) (g .gap-fits) in
     all-append (all-mark (Line (s .kind)))
-    (all-append
-    (all-byte (numberByte (s .number / 64)) (omega (arith, high)) (all-byte (numberByte (s .number % 64)) (omega (arith, low)) (all-body (rules p (s .kind)) (s .body) (g .body-fits))))
+    (all-append (all-content p s g)
     (all-append (all-mark EndOfLine) (all-byte (s .gap-one) (two .0) (all-byte (s .gap-two) (two .1) (all-nulls (s .nulls))))))
 
 all-stream : (p : Profile) {ss : List Sent} → AllWritable p ss → AllNibbles (stream ss)

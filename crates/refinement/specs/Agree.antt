@@ -22,7 +22,7 @@ use Rattle.profile.specs.declared.Rule.{Rule}
 use Rattle.profile.specs.declared.Rule.the-variants.{Filler, Pixel, Any}
 use Rattle.profile.specs.Profile.{bodyLength, fillerByte, nullByte}
 use Rattle.profile.specs.Layout.{isPixel, allows, fits, rules, gapFits}
-use Rattle.stream.specs.Answers.{facts, Outcome, line, gap, require, bytesOnto, lineFrom, turned, allF, twoBytesThenF, gapFrom}
+use Rattle.stream.specs.Answers.{facts, Outcome, line, require, goodGap, bytesOnto, lineFrom, turned, allF, twoBytesThenF, gapFrom}
 use Rattle.stream.specs.Written.{nibbles}
 use Rattle.recovery.specs.MarkFree.{spacedOut, rules-spaced}
 use Rattle.refinement.specs.Window.{Small, small-more}
@@ -245,17 +245,17 @@ next-nibble F h k (other f n {w} {w₂} g m) = k n 0 w w₂ (omega arith) m
 next-nibble F h k (an-F f {w} {w₂} m) = k 15 (suc f) w w₂ (omega arith) m
 next-nibble F h k (free f a b g ha hb m) = absurd (omega arith)
 
-pub gap-same : (p : Profile) (k : Kind) {w w₂ : List ℕ} → Agree 0 w w₂ → gapFrom p k w ≡ gapFrom p k w₂
-gap-same VV5404 k m = ap (λ b. require b badGap (gap nullByte nullByte)) (all-F-same m)
-gap-same VV5300 k m =
-    next-nibble (twoBytesThenF k) (omega arith)
-    (λ h n₁ u₁ v₁ l₁ m₁. next-nibble (λ w. twoBytesThenF k (h ∷ w)) (omega arith)
-    (λ l n₂ u₂ v₂ l₂ m₂. next-nibble (λ w. twoBytesThenF k (h ∷ l ∷ w)) (omega arith)
-    (λ h₂ n₃ u₃ v₃ l₃ m₃. next-nibble (λ w. twoBytesThenF k (h ∷ l ∷ h₂ ∷ w)) (omega arith)
+pub gap-same : (p : Profile) (k : Kind) (q : ℕ) {w w₂ : List ℕ} → Agree 0 w w₂ → gapFrom p k q w ≡ gapFrom p k q w₂
+gap-same VV5404 k q m = ap (λ b. require b badGap (goodGap q nullByte nullByte)) (all-F-same m)
+gap-same VV5300 k q m =
+    next-nibble (twoBytesThenF k q) (omega arith)
+    (λ h n₁ u₁ v₁ l₁ m₁. next-nibble (λ w. twoBytesThenF k q (h ∷ w)) (omega arith)
+    (λ l n₂ u₂ v₂ l₂ m₂. next-nibble (λ w. twoBytesThenF k q (h ∷ l ∷ w)) (omega arith)
+    (λ h₂ n₃ u₃ v₃ l₃ m₃. next-nibble (λ w. twoBytesThenF k q (h ∷ l ∷ h₂ ∷ w)) (omega arith)
     (λ l₂′ n₄ u₄ v₄ l₄ m₄. ap (told (16 * h + l) (16 * h₂ + l₂′)) (all-F-same m₄)) m₃) m₂) m₁) m
   where
     told : ℕ → ℕ → Bool → Outcome
-    told a b rest = require (gapFits VV5300 k a b && rest) badGap (gap a b)
+    told a b rest = require (gapFits VV5300 k a b && rest) badGap (goodGap q a b)
 
 -- Newest first.
 

@@ -60,7 +60,7 @@ run-on f (small-more {n} {t = w} h q) r i ok = go (isAnswer (t .outcome)) refl (
     t = taking r n
 
     ok-next : Ok (t .reader .head)
-    ok-next = take-ok (r .head) n h ok
+    ok-next = take-ok r n h ok
 
     first : f .from r (n ∷ w) ≡ f .next t w
     first = f .one r n w ∙ ap (λ (x : Took). f .next x w) (fed-taken r n ok h)
@@ -102,7 +102,7 @@ lent-onward h body w room ok full e =
 pub answer-of : (p : Profile) (a : Answer) (buffer : List ℕ) (o : Outcome) → outcomeOf p a buffer ≡ o → a ≡ answerFor o
 answer-of p answers.Nothing buffer o e = ap answerFor e
 answer-of p (answers.Line f) buffer o e = ap answerFor e
-answer-of p (answers.Gap a b) buffer o e = ap answerFor e
+answer-of p (answers.Gap g) buffer o e = ap answerFor e
 answer-of p (answers.Refused n) buffer o e = ap answerFor e
 
 -- some of the nibbles

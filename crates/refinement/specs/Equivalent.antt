@@ -16,16 +16,16 @@ use Rattle.line_code.specs.declared.Meaning.the-variants.{EndOfLine, Line, Rese
 use Rattle.line_code.specs.declared.Reading.{Reading}
 use Rattle.line_code.specs.declared.Reading.the-variants.{Says, Damaged}
 use Rattle.line_code.specs.declared.Repair.{Repair}
-use Rattle.line_code.specs.declared.LineKind.{LineKind}
-use Rattle.line_code.specs.declared.LineKind.the-variants.{NotLine, LineOf}
 use Rattle.line_code.specs.LineCode.{readingOf, isEnd, isDamaged}
 use Rattle.line_code.specs.LineCodeLaws.{no-end-F}
 use Rattle.profile.specs.declared.Profile.{Profile}
 use Rattle.profile.specs.Profile.{bodyLength}
+use Rattle.stream.specs.declared.Before.{Before}
+use Rattle.stream.specs.declared.Before.the-variants.{NoLine, RefusedLine, HandedOut}
 use Rattle.stream.specs.declared.Mark.{Mark}
 use Rattle.stream.specs.declared.Mark.the-variants.{NoMark, Open}
-use Rattle.stream.specs.Answers.{answerFor, bufferAfter, gapFrom, gapAnswer, afterCode, lineAnswer, byMeaning, byReading, answerOf}
-use Rattle.stream.specs.Stream.{State, Step, strip, markIf, answerAt, advance, step, finish}
+use Rattle.stream.specs.Answers.{answerFor, bufferAfter, isLine, turned, periodOf, gapFrom, gapAnswer, afterCode, lineAnswer, byMeaning, byReading, answerOf}
+use Rattle.stream.specs.Stream.{State, Step, strip, markIf, kindAt, beforeBy, answerAt, advance, step, finish}
 use Rattle.recovery.specs.Calls.{Call, feed, done, Gives, turnedAway, fed, meaningCall}
 use Rattle.recovery.specs.Resync.{stateWith}
 use Rattle.refinement.specs.Window.{Small, small-none, small-more}
@@ -78,27 +78,34 @@ base-small (Open before c) h = small-more {n = c % 16} (omega arith) (small-more
 
 -- Texts that agree have the same answer.
 
-gap-agrees : (p : Profile) (before : LineKind) (c : ℕ) {f : ℕ} {t t₂ : List ℕ} → trailingF c ≡ 0
-    → AgreeOnto (trailingF c) (c % 16 ∷ c / 16 ∷ []) f t t₂ → gapAnswer p before t ≡ gapAnswer p before t₂
-gap-agrees p NotLine c h m = refl
-gap-agrees p (LineOf k) c {f} {t} {t₂} h m =
+kind-agrees : (p : Profile) (k : Kind) (c : ℕ) {f : ℕ} {t t₂ : List ℕ} → trailingF c ≡ 0
+    → AgreeOnto (trailingF c) (c % 16 ∷ c / 16 ∷ []) f t t₂ → (n : ℕ) → gapFrom p k n (afterCode (turned t [])) ≡ gapFrom p k n (afterCode (turned t₂ []))
+kind-agrees p k c {f} {t} {t₂} h m n =
     let q = agree-turned m (both-end f) in
-    ap (λ (w : List ℕ). gapFrom p k (afterCode w)) (q .is-one)
-    ∙ gap-same p k (subst (λ (n : ℕ). Agree n (q .one) (q .two)) h (q .tails))
-    ∙ ap (λ (w : List ℕ). gapFrom p k (afterCode w)) (sym (q .is-two))
+    ap (λ (w : List ℕ). gapFrom p k n (afterCode w)) (q .is-one)
+    ∙ gap-same p k n (subst (λ (n : ℕ). Agree n (q .one) (q .two)) h (q .tails))
+    ∙ ap (λ (w : List ℕ). gapFrom p k n (afterCode w)) (sym (q .is-two))
+
+gap-agrees : (p : Profile) (before : Before) (c : ℕ) {f : ℕ} {t t₂ : List ℕ} → trailingF c ≡ 0
+    → AgreeOnto (trailingF c) (c % 16 ∷ c / 16 ∷ []) f t t₂ → (n : ℕ) → gapAnswer p before n t ≡ gapAnswer p before n t₂
+gap-agrees p NoLine c h m n = refl
+gap-agrees p (RefusedLine k) c h m n = kind-agrees p k c h m n
+gap-agrees p (HandedOut k) c h m n = kind-agrees p k c h m n
 
 line-agrees : (p : Profile) (k : Kind) (r : Repair) (c : ℕ) {f : ℕ} {t t₂ : List ℕ} (next : Option ℕ) → c < 256 → trailingF c ≤ 1
     → AgreeOnto (trailingF c) (c % 16 ∷ c / 16 ∷ []) f t t₂ → lineAnswer p k r t next ≡ lineAnswer p k r t₂ next
 line-agrees p k r c none g h m = refl
 line-agrees p k r c {f} {t} {t₂} (some n) g h m =
-    let s = agree-small (base-small (Open NotLine c) g) m in
+    let s = agree-small (base-small (Open NoLine c) g) m in
     line-from-same p k r (readingOf n) t t₂ h (agree-turned m (both-end f)) (as-bytes t t₂ (s .0) (s .1) (agree-length m) [] [] refl)
 
-module _ (p : Profile) (before : LineKind) (c : ℕ) {f : ℕ} {t t₂ : List ℕ} (next : Option ℕ) (g : c < 256)
+module _ (p : Profile) (before : Before) (c : ℕ) {f : ℕ} {t t₂ : List ℕ} (next : Option ℕ) (g : c < 256)
     (m : AgreeOnto (trailingF c) (c % 16 ∷ c / 16 ∷ []) f t t₂) where
   meaning-agrees : (d : Meaning) (r : Repair) → isDamaged (readingOf c) ≡ false → (d ≡ EndOfLine → isEnd (readingOf c) ≡ true)
       → byMeaning p before d r t next ≡ byMeaning p before d r t₂ next
-  meaning-agrees EndOfLine r h k = gap-agrees p before c (no-F c (k refl)) m
+  meaning-agrees EndOfLine r h k =
+      gap-agrees p before c (no-F c (k refl)) m (periodOf p before (length t) next)
+      ∙ ap (λ (n : ℕ). gapAnswer p before (periodOf p before n next) t₂) (agree-length m)
   meaning-agrees (Line j) r h k = line-agrees p j r c next g (one-F c h) m
   meaning-agrees ReservedEC r h k = refl
   meaning-agrees ReservedF1 r h k = refl
@@ -178,6 +185,9 @@ same-step p s s₂ n h (the-same s₃) = record { state = the-same _; outcome = 
 same-step p s s₂ n h (texts-agree m t t₂ g (above x k₁ hx (above a k₂ ha (above b k₃ hb (above c k₄ {t = u} {t₂ = u₂} hc (below f q)))))) =
     go (rests-if (eqb 0 a) (rests-if (eqb 0 b) (rests-if (eqb 15 c) (rests-F 3 q))))
   where
+    opened : Before → State
+    opened before = stateWith (Open before (16 * x + n)) (n ∷ x ∷ [])
+
     go : {o o₂ : Option (List ℕ)} → Rests (trailingFAt m) (baseOf m) o o₂
         → SameStep (advance p m (n ∷ x ∷ a ∷ b ∷ c ∷ u) (markIf x n o)) (advance p m (n ∷ x ∷ a ∷ b ∷ c ∷ u₂) (markIf x n o₂))
     go (one-rest none) =
@@ -188,7 +198,14 @@ same-step p s s₂ n h (texts-agree m t t₂ g (above x k₁ hx (above a k₂ ha
           outcome = refl;
         }
     go (one-rest (some r)) = record { state = the-same _; outcome = refl }
-    go (two-rests f₂ q₂) = record { state = the-same _; outcome = answer-agrees p m (some (16 * x + n)) g q₂ }
+    go (two-rests f₂ {r = r} {r₂ = r₂} q₂) =
+        let o = answer-agrees p m (some (16 * x + n)) g q₂ in
+        record {
+          state =
+              subst (λ y. Equivalent (opened (beforeBy (kindAt m) (isLine (answerAt p m r (some (16 * x + n)))))) (opened (beforeBy (kindAt m) (isLine y)))) o
+              (the-same _);
+          outcome = o;
+        }
 
 same-finish : (p : Profile) (s s₂ : State) → Equivalent s s₂ → SameStep (finish p s) (finish p s₂)
 same-finish p s s₂ (the-same s₃) = record { state = the-same _; outcome = refl }

@@ -154,7 +154,7 @@ explained r typed e =
         no-mark = no-mark-yet text text-small (ap isMark (x .is-window) ∙ h .no-mark-there)
 
         q : Reachable p (stateWith m text)
-        q = reachable p m (typed .code-byte) (x .new-small) no-mark
+        q = reachable p m (typed .code-byte) (h .handed-fits) (x .new-small) no-mark
 
         r₂ : Reader
         r₂ = readerWith p m c w (storedText p (s .body) (drop 8 text))
@@ -167,6 +167,7 @@ explained r typed e =
                   record {
                     count-small = h .count-small;
                     no-mark-there = h .no-mark-there;
+                    handed-fits = h .handed-fits;
                     window-fits = h .window-fits;
                     stray-late = λ z.
                         let l = stray-late p (drop 8 text) z in

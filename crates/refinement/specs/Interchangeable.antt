@@ -14,8 +14,8 @@ use Rattle.profile.specs.declared.Profile.{Profile}
 use Rattle.profile.specs.Profile.{bodyLength, longest}
 use Rattle.stream.specs.declared.Mark.{Mark}
 use Rattle.stream.specs.declared.Mark.the-variants.{NoMark, Open}
-use Rattle.stream.specs.Answers.{nothing}
-use Rattle.stream.specs.Stream.{kindAt}
+use Rattle.stream.specs.Answers.{Outcome, nothing, isLine}
+use Rattle.stream.specs.Stream.{kindAt, beforeBy}
 use Rattle.mark_answer.specs.declared.Kept.{Kept}
 use Rattle.mark_answer.specs.Kept.{topPlace, nothingKept, keptAt, bodyAt}
 use Rattle.mark_answer.specs.Judge.{judge}
@@ -90,29 +90,39 @@ same-take p n g (differ-unused m c w s s₂ h f) = go (isMark (slide w n))
     new : Store → Store
     new s = record { kept = nothingKept; body = leave p m c w s .body }
 
+    told : Store → Bool → Outcome
+    told s b = cond b (judge p m (c - 7) (leave p m c w s .kept) (leave p m c w s .body) (some code)) nothing
+
+    same-told : told s true ≡ told s₂ true
+    same-told = judge-same p m (c - 7) (c - 7) (some code) (omega arith) l
+
+    opens : Store → Outcome → Reader
+    opens s o = readerWith p (Open (beforeBy (kindAt m) (isLine o)) code) 2 code (new s)
+
     after : Store → Bool → Took
     after s b =
         record {
           reader =
               record {
-                head = cond b (opened (headWith p m c w (s .kept)) code) (shifted (headWith p m c w (s .kept)) n);
+                head = cond b (opened (headWith p m c w (s .kept)) code (isLine (told s b))) (shifted (headWith p m c w (s .kept)) n);
                 body = leave p m c w s .body;
               };
-          outcome = cond b (judge p m (c - 7) (leave p m c w s .kept) (leave p m c w s .body) (some code)) nothing;
+          outcome = told s b;
         }
 
     go : (b : Bool) → SameTook p (after s b) (after s₂ b)
     go true =
         record {
           reader =
-              differ-unused (Open (kindAt m) code) 2 code (new s) (new s₂) (omega arith)
+              subst (λ o. Interchangeable p (opens s (told s true)) (opens s₂ o)) same-told
+              (differ-unused (Open (beforeBy (kindAt m) (isLine (told s true))) code) 2 code (new s) (new s₂) (omega arith)
               (record {
                 nibbles = no-nibbles p _ 0 (new s) (new s₂) (omega arith);
                 stray-same = λ q. refl;
                 size = l .size;
                 size-two = l .size-two;
-              });
-          outcome = judge-same p m (c - 7) (c - 7) (some code) (omega arith) l;
+              }));
+          outcome = same-told;
         }
     go false =
         record {

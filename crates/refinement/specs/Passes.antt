@@ -2,25 +2,29 @@
 use mathlib.Core.Path.{_≡_, refl, _∙_, ap, sym, subst}
 use mathlib.Core.Bool.{Bool, true, false, _||_, not, cond, true≢false}
 use mathlib.Core.List.{[]}
-use mathlib.Core.Option.{none}
+use mathlib.Core.Option.{none, some}
 use Prim.Native.Nat.{ℕ, zero, suc, _+_, _*_, _-_, _/_, _%_, _≤_, _<_}
 use native.Mathlib.Omega.{arith}
 use lib.Dec.{eqb, leb, ltb}
 use borrow.Author.Tests.{eqb-true, eq-eqb, ne-eqb, le-leb, lt-leb, leb-true, leb-false, ltb-true, ltb-false, lt-ltb, not-true}
 use Rattle.bits.specs.Every.{and-left, and-right, and-both}
 use Rattle.refusal.specs.Refusal.{notANibble, badState, noRoom}
+use Rattle.line_code.specs.declared.LineKind.{LineKind}
+use Rattle.line_code.specs.declared.LineKind.the-variants.{NotLine, LineOf}
+use Rattle.line_code.specs.LineCode.{readingOf, isEnd}
 use Rattle.profile.specs.declared.Profile.{Profile}
 use Rattle.profile.specs.declared.Profile.the-variants.{VV5404, VV5300}
 use Rattle.profile.specs.Profile.{bodyLength}
 use Rattle.stream.specs.declared.Mark.{Mark}
 use Rattle.stream.specs.declared.Mark.the-variants.{NoMark, Open}
-use Rattle.stream.specs.Answers.{refused}
+use Rattle.stream.specs.Answers.{Outcome, nothing, refused, isLine}
+use Rattle.stream.specs.Stream.{kindAt, beforeBy}
 use Rattle.mark_answer.specs.Kept.{topPlace, gapStart, strayAt, keptAt}
 use Rattle.mark_answer.specs.Judge.{judge}
 use Rattle.reader.specs.declared.Head.{Head}
 use Rattle.reader.specs.declared.Reader.{Reader}
-use Rattle.reader.specs.Reader.{Took, groupNumber, isMark, slide, countStop, bump, leaveKept, shifted, opened, aged, windowFits, passes, freshReader, refusing, takeHead, taking, feedOf, flushed, finishOf}
-use Rattle.refinement.specs.Sound.{Sound, judge-sound, take-sound, refusalOf, at-most-nine}
+use Rattle.reader.specs.Reader.{Took, groupNumber, isMark, slide, countStop, bump, leaveKept, leaveBody, shifted, opened, aged, windowFits, handedFits, passes, freshReader, refusing, takeHead, takeOutcome, taking, feedOf, flushed, finishOf}
+use Rattle.refinement.specs.Sound.{Sound, line-ends, judge-sound, take-sound, refusalOf, at-most-nine}
 
 -- The test as facts.
 
@@ -36,6 +40,7 @@ Fits (Open before code) c w = MarkFits code c w
 pub record Passed (h : Head) : Type 0 where
   pub count-small : h .count ≤ countStop
   pub no-mark-there : isMark (h .window) ≡ false
+  pub handed-fits : handedFits (h .at) ≡ true
   pub window-fits : Fits (h .at) (h .count) (h .window)
   pub stray-late : h .kept .stray ≡ true → gapStart (h .profile) + 8 < h .count
 
@@ -92,11 +97,13 @@ unfolding passes
 passed h e =
     let f = and-right (leb (h .count) countStop) _ e in
     let g = and-right (not (isMark (h .window))) _ f in
-    let i = and-right (windowFits (h .at) (h .count) (h .window)) _ g in
+    let j = and-right (handedFits (h .at)) _ g in
+    let i = and-right (windowFits (h .at) (h .count) (h .window)) _ j in
     record {
       count-small = leb-true (h .count) countStop (and-left (leb (h .count) countStop) _ e);
       no-mark-there = not-true (isMark (h .window)) (and-left (not (isMark (h .window))) _ f);
-      window-fits = fits-fact (h .at) (h .count) (h .window) (and-left (windowFits (h .at) (h .count) (h .window)) _ g);
+      handed-fits = and-left (handedFits (h .at)) _ g;
+      window-fits = fits-fact (h .at) (h .count) (h .window) (and-left (windowFits (h .at) (h .count) (h .window)) _ j);
       stray-late = λ q. ltb-true (gapStart (h .profile) + 8) (h .count) (not-then (h .kept .stray) _ i q);
     }
 
@@ -105,8 +112,9 @@ unfolding passes
 passes-test h f =
     and-both (leb (h .count) countStop) _ (le-leb (h .count) countStop (f .count-small))
     (and-both (not (isMark (h .window))) _ (ap not (f .no-mark-there))
+    (and-both (handedFits (h .at)) _ (f .handed-fits)
     (and-both (windowFits (h .at) (h .count) (h .window)) _ (fact-fits (h .at) (h .count) (h .window) (f .window-fits))
-    (then-not (h .kept .stray) _ (λ e. lt-ltb (gapStart (h .profile) + 8) (h .count) (f .stray-late e)))))
+    (then-not (h .kept .stray) _ (λ e. lt-ltb (gapStart (h .profile) + 8) (h .count) (f .stray-late e))))))
 
 -- Windows that slide.
 
@@ -307,18 +315,25 @@ unfolding isMark
 fresh-ok p =
     record {
       byte = tt;
-      test = record { count-small = omega arith; no-mark-there = refl; window-fits = λ l. refl; stray-late = λ e. absurd (true≢false (sym e)) };
+      test = record { count-small = omega arith; no-mark-there = refl; handed-fits = refl; window-fits = λ l. refl; stray-late = λ e. absurd (true≢false (sym e)) };
     }
 
-opened-ok : (h : Head) (code : ℕ) → code < 256 → Ok (opened h code)
+-- a mark that follows a line handed out
+opened-fits : (k : LineKind) (handed : Bool) (code : ℕ) → (handed ≡ true → isEnd (readingOf code) ≡ true) → handedFits (Open (beforeBy k handed) code) ≡ true
+opened-fits NotLine handed code h = refl
+opened-fits (LineOf k) true code h = h refl
+opened-fits (LineOf k) false code h = refl
+
+opened-ok : (h : Head) (code : ℕ) (handed : Bool) → code < 256 → (handed ≡ true → isEnd (readingOf code) ≡ true) → Ok (opened h code handed)
 unfolding isMark
-opened-ok h code l =
+opened-ok h code handed l q =
     record {
       byte = l;
       test =
           record {
             count-small = omega arith;
             no-mark-there = ne-eqb (code / 256) groupNumber (λ e. omega arith);
+            handed-fits = opened-fits (kindAt (h .at)) handed code q;
             window-fits = record { two = omega arith; within = λ i. refl; half = λ e. absurd (omega arith) };
             stray-late = λ e. absurd (true≢false (sym e));
           };
@@ -332,21 +347,30 @@ shifted-ok h n l e f =
           record {
             count-small = bump-small (h .count) (f .test .count-small);
             no-mark-there = e;
+            handed-fits = f .test .handed-fits;
             window-fits = fits-bump (h .at) (h .count) (h .window) n (f .byte) l (f .test .count-small) (f .test .window-fits);
             stray-late = leave-stray h (f .test);
           };
     }
 
 -- a nibble that is taken
-pub take-ok : (h : Head) (n : ℕ) → n < 16 → Ok h → Ok (takeHead h n)
-unfolding takeHead
-take-ok h n l f = go (isMark w) refl
+pub take-ok : (r : Reader) (n : ℕ) → n < 16 → Ok (r .head) → Ok (taking r n .reader .head)
+unfolding takeHead takeOutcome
+take-ok r n l f = go (isMark w) refl
   where
+    h : Head
+    h = r .head
+
     w : ℕ
     w = slide (h .window) n
 
-    go : (b : Bool) → isMark w ≡ b → Ok (cond b (opened h (w % 256)) (shifted h n))
-    go true e = opened-ok h (w % 256) (omega arith)
+    o : Outcome
+    o = judge (h .profile) (h .at) (h .count - 7) (leaveKept h) (leaveBody h (r .body)) (some (w % 256))
+
+    go : (b : Bool) → isMark w ≡ b → Ok (cond b (opened h (w % 256) (isLine (cond b o nothing))) (shifted h n))
+    go true e =
+        opened-ok h (w % 256) (isLine o) (omega arith)
+        (line-ends (h .profile) (h .at) (h .count - 7) (leaveKept h) (leaveBody h (r .body)) (w % 256))
     go false e = shifted-ok h n l e f
 
 -- every call, whatever it is given
@@ -358,7 +382,7 @@ feed-ok r n room f = go (feeding r n room)
     go (feed-state e) = f
     go (feed-nibble e) = f
     go (feed-room e) = f
-    go (feed-taken l) = take-ok (r .head) n l f
+    go (feed-taken l) = take-ok r n l f
 
 pub finish-ok : (r : Reader) → Ok (r .head) → Ok (finishOf r .reader .head)
 finish-ok r f = go (finishing r)

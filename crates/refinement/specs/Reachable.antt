@@ -1,7 +1,7 @@
 -- Each state of the meaning in which no mark is just complete is equivalent to one that nibbles fed to a fresh reader lead to: its newest
 -- four nibbles are fed as they are, and before them each 0 after four F is fed as 1, so that no mark comes.
 use mathlib.Core.Path.{_≡_, refl, _∙_, ap, sym, subst}
-use mathlib.Core.Bool.{Bool, true, false, cond}
+use mathlib.Core.Bool.{Bool, true, false, cond, true≢false}
 use mathlib.Core.List.{List, [], _∷_, _++_}
 use mathlib.Core.Option.{Option, none}
 use Prim.Native.Nat.{ℕ, zero, suc, _+_, _*_, _/_, _%_, _<_}
@@ -12,20 +12,28 @@ use lib.ListN.{replicate}
 use borrow.Author.Tests.{eqb-true, eqb-false, ltb-true, ltb-false, leb-true, leb-false}
 use Rattle.line_code.specs.declared.Kind.{Kind}
 use Rattle.line_code.specs.declared.Kind.the-variants.{BL, BK, VL, SOF, EOF}
-use Rattle.line_code.specs.declared.Meaning.the-variants.{Line}
-use Rattle.line_code.specs.declared.LineKind.{LineKind}
-use Rattle.line_code.specs.declared.LineKind.the-variants.{NotLine, LineOf}
-use Rattle.line_code.specs.LineCode.{cleanByte, readingOf, meaningOf, kindNumbered, reservedOf}
+use Rattle.line_code.specs.declared.Meaning.the-variants.{EndOfLine, Line, ReservedEC, ReservedF1}
+use Rattle.line_code.specs.declared.Reading.{Reading}
+use Rattle.line_code.specs.declared.Reading.the-variants.{Says, Damaged}
+use Rattle.line_code.specs.declared.Repair.{Repair}
+use Rattle.line_code.specs.declared.Repair.the-variants.{Clean}
+use Rattle.line_code.specs.LineCode.{cleanByte, readingOf, meaningOf, kindNumbered, reservedOf, isEnd}
+use Rattle.line_code.specs.LineCodeLaws.{clean-reading}
 use Rattle.profile.specs.declared.Profile.{Profile}
+use Rattle.stream.specs.declared.Before.{Before}
+use Rattle.stream.specs.declared.Before.the-variants.{NoLine, RefusedLine, HandedOut}
 use Rattle.stream.specs.declared.Mark.{Mark}
 use Rattle.stream.specs.declared.Mark.the-variants.{NoMark, Open}
-use Rattle.stream.specs.Answers.{turned}
+use Rattle.stream.specs.Answers.{turned, answerOf}
 use Rattle.stream.specs.Stream.{State, strip, group, Completed, not-yet, markIf, detect, advance, fresh, run}
-use Rattle.stream.specs.Written.{markOf}
+use Rattle.stream.specs.Written.{markOf, content}
+use Rattle.reader.specs.Reader.{handedFits}
 use Rattle.recovery.specs.Resync.{stateWith}
 use Rattle.recovery.specs.Marks.{strip-none}
 use Rattle.recovery.specs.MarkFree.{strip-wrong}
-use Rattle.recovery.specs.ReadBack.{run-append}
+use Rattle.recovery.specs.ReadBack.{run-append, line-opens}
+use Rattle.recovery.specs.WrittenLaws.{AllNibbles, no-nibble as none-left, and-nibble, all-content}
+use Rattle.recovery.specs.Examples.{sample, sample-writable}
 use Rattle.refinement.specs.Window.{Small, small-none, small-more}
 use Rattle.refinement.specs.Passes.{Byte}
 use Rattle.refinement.specs.Agree.{AgreeOnto, at-base, onto-other, onto-F, onto-free}
@@ -215,27 +223,45 @@ leads m b (small-more {n = a} ha (small-more {n = c} hc (small-more {n = d} hd (
 
 -- To a mark with nothing after its code.
 
--- a mark before it of the kind wanted, if any, then its own
-abbrev marksFor : LineKind → ℕ → List ℕ
-marksFor NotLine c = markOf c
-marksFor (LineOf k) c = markOf (cleanByte (Line k)) ++ markOf c
+-- a mark before it of the kind wanted, if any, then its own: between them nothing, so that the mark before is refused, or a line's number and
+-- body, so that it is handed out
+abbrev marksFor : Profile → Before → ℕ → List ℕ
+marksFor p NoLine c = markOf c
+marksFor p (RefusedLine k) c = markOf (cleanByte (Line k)) ++ markOf c
+marksFor p (HandedOut k) c = markOf (cleanByte (Line k)) ++ (content (sample p k 0) ++ markOf c)
 
-abbrev nibblesTo : Mark → List ℕ
-nibblesTo NoMark = []
-nibblesTo (Open before c) = marksFor before c
+abbrev nibblesTo : Profile → Mark → List ℕ
+nibblesTo p NoMark = []
+nibblesTo p (Open before c) = marksFor p before c
 
-opened-at : (before : LineKind) (c : ℕ) (t : List ℕ) → stateWith (Open before (16 * (c / 16) + c % 16)) t ≡ stateWith (Open before c) t
+-- a code that is read as end of line
+data EndRead (d : Reading) : Type 0 where
+  end-read : (q : Repair) → d ≡ Says EndOfLine q → EndRead d
+
+reads-end : (d : Reading) → isEnd d ≡ true → EndRead d
+reads-end (Says EndOfLine q) h = end-read q refl
+reads-end (Says (Line k) q) h = absurd (true≢false (sym h))
+reads-end (Says ReservedEC q) h = absurd (true≢false (sym h))
+reads-end (Says ReservedF1 q) h = absurd (true≢false (sym h))
+reads-end Damaged h = absurd (true≢false (sym h))
+
+after-line : (p : Profile) (k : Kind) (c : ℕ) → EndRead (readingOf c) → run p fresh (marksFor p (HandedOut k) c) ≡ stateWith (Open (HandedOut k) c) (c % 16 ∷ c / 16 ∷ [])
+after-line p k c (end-read q e) =
+    line-opens p (sample p k 0) (sample-writable p k 0 (omega arith)) (cleanByte (Line k)) c Clean q (clean-reading (Line k)) e fresh
+
+opened-at : (before : Before) (c : ℕ) (t : List ℕ) → stateWith (Open before (16 * (c / 16) + c % 16)) t ≡ stateWith (Open before c) t
 opened-at before c t = let e : 16 * (c / 16) + c % 16 ≡ c = omega arith in ap (λ (x : ℕ). stateWith (Open before x) t) e
 
-to-mark : (p : Profile) (m : Mark) → run p fresh (nibblesTo m) ≡ stateWith m (baseOf m)
-unfolding cleanByte readingOf meaningOf kindNumbered reservedOf
-to-mark p NoMark = refl
-to-mark p (Open NotLine c) = opened-at NotLine c (c % 16 ∷ c / 16 ∷ [])
-to-mark p (Open (LineOf BL) c) = opened-at (LineOf BL) c (c % 16 ∷ c / 16 ∷ [])
-to-mark p (Open (LineOf BK) c) = opened-at (LineOf BK) c (c % 16 ∷ c / 16 ∷ [])
-to-mark p (Open (LineOf VL) c) = opened-at (LineOf VL) c (c % 16 ∷ c / 16 ∷ [])
-to-mark p (Open (LineOf SOF) c) = opened-at (LineOf SOF) c (c % 16 ∷ c / 16 ∷ [])
-to-mark p (Open (LineOf EOF) c) = opened-at (LineOf EOF) c (c % 16 ∷ c / 16 ∷ [])
+to-mark : (p : Profile) (m : Mark) → handedFits m ≡ true → run p fresh (nibblesTo p m) ≡ stateWith m (baseOf m)
+unfolding cleanByte readingOf meaningOf kindNumbered reservedOf answerOf
+to-mark p NoMark h = refl
+to-mark p (Open (HandedOut k) c) h = after-line p k c (reads-end (readingOf c) h)
+to-mark p (Open NoLine c) h = opened-at NoLine c (c % 16 ∷ c / 16 ∷ [])
+to-mark p (Open (RefusedLine BL) c) h = opened-at (RefusedLine BL) c (c % 16 ∷ c / 16 ∷ [])
+to-mark p (Open (RefusedLine BK) c) h = opened-at (RefusedLine BK) c (c % 16 ∷ c / 16 ∷ [])
+to-mark p (Open (RefusedLine VL) c) h = opened-at (RefusedLine VL) c (c % 16 ∷ c / 16 ∷ [])
+to-mark p (Open (RefusedLine SOF) c) h = opened-at (RefusedLine SOF) c (c % 16 ∷ c / 16 ∷ [])
+to-mark p (Open (RefusedLine EOF) c) h = opened-at (RefusedLine EOF) c (c % 16 ∷ c / 16 ∷ [])
 
 pub small-append : {u w : List ℕ} → Small u → Small w → Small (u ++ w)
 small-append small-none t = t
@@ -256,10 +282,17 @@ clean-small VL = omega arith
 clean-small SOF = omega arith
 clean-small EOF = omega arith
 
-to-mark-small : (m : Mark) → Byte m → Small (nibblesTo m)
-to-mark-small NoMark h = small-none
-to-mark-small (Open NotLine c) h = mark-small c h
-to-mark-small (Open (LineOf k) c) h = small-append (mark-small _ (clean-small k)) (mark-small c h)
+nibbles-small : {w : List ℕ} → AllNibbles w → Small w
+nibbles-small none-left = small-none
+nibbles-small (and-nibble {n} l h) = small-more {n = n} (omega arith) (nibbles-small h)
+
+to-mark-small : (p : Profile) (m : Mark) → Byte m → Small (nibblesTo p m)
+to-mark-small p NoMark h = small-none
+to-mark-small p (Open NoLine c) h = mark-small c h
+to-mark-small p (Open (RefusedLine k) c) h = small-append (mark-small _ (clean-small k)) (mark-small c h)
+to-mark-small p (Open (HandedOut k) c) h =
+    small-append (mark-small _ (clean-small k))
+    (small-append (nibbles-small (all-content p (sample p k 0) (sample-writable p k 0 (omega arith)))) (mark-small c h))
 
 small-turned : {v w : List ℕ} → Small v → Small w → Small (turned v w)
 small-turned small-none t = t
@@ -271,20 +304,20 @@ pub record Reachable (p : Profile) (s : State) : Type 0 where
   pub small : Small nibbles
   pub equivalent : Equivalent s (run p fresh nibbles)
 
-pub reachable : (p : Profile) (m : Mark) {v : List ℕ} → Byte m → Small v → detect (v ++ baseOf m) ≡ not-yet
+pub reachable : (p : Profile) (m : Mark) {v : List ℕ} → Byte m → handedFits m ≡ true → Small v → detect (v ++ baseOf m) ≡ not-yet
     → Reachable p (stateWith m (v ++ baseOf m))
-reachable p m {v} b s e = go (leads m b s e)
+reachable p m {v} b fits s e = go (leads m b s e)
   where
     go : Leads m v → Reachable p (stateWith m (v ++ baseOf m))
     go q =
         record {
-          nibbles = nibblesTo m ++ turned (q .new) [];
-          small = small-append (to-mark-small m b) (small-turned (q .small) small-none);
+          nibbles = nibblesTo p m ++ turned (q .new) [];
+          small = small-append (to-mark-small p m b) (small-turned (q .small) small-none);
           equivalent =
               subst (λ (x : State). Equivalent (stateWith m (v ++ baseOf m)) x)
               (sym
-              (run-append p fresh (nibblesTo m) (turned (q .new) [])
-              ∙ ap (λ (x : State). run p x (turned (q .new) [])) (to-mark p m)
+              (run-append p fresh (nibblesTo p m) (turned (q .new) [])
+              ∙ ap (λ (x : State). run p x (turned (q .new) [])) (to-mark p m fits)
               ∙ run-lengthens p m (baseOf m) [] (q .no-mark)))
               (q .equivalent);
         }

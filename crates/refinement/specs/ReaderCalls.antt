@@ -53,7 +53,7 @@ reached-passes p cs = passes-test _ (calls-ok cs (freshReader p) (fresh-ok p) .t
 answered : (o : Outcome) (k : ℕ) → answerFor o ≡ answers.Refused k → o ≡ refused k
 answered nothing k e = cc
 answered (line f body) k e = cc
-answered (gap a b) k e = cc
+answered (gap g) k e = cc
 answered (refused n) k e = cc
 
 eleven : (r : Reader) (c : Call) → readerCall r c .answer ≡ answers.Refused badState → passes (r .head) ≡ false

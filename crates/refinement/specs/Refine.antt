@@ -10,26 +10,27 @@ use lib.ListN.{length, replicate, take, drop, getD, length-drop, length-replicat
 use lib.Seq.{drop-cons}
 use borrow.Author.Tests.{le-leb, leb-true, leb-false, ltb-true, ltb-false}
 use Rattle.refusal.specs.Refusal.{badGap, notANibble, badState, noRoom}
+use Rattle.period.specs.Period.{mostNibbles}
 use Rattle.line_code.specs.declared.Kind.{Kind}
 use Rattle.line_code.specs.declared.Meaning.{Meaning}
 use Rattle.line_code.specs.declared.Meaning.the-variants.{EndOfLine, Line, ReservedEC, ReservedF1}
 use Rattle.line_code.specs.declared.Reading.{Reading}
 use Rattle.line_code.specs.declared.Reading.the-variants.{Says, Damaged}
 use Rattle.line_code.specs.declared.Repair.{Repair}
-use Rattle.line_code.specs.declared.LineKind.{LineKind}
-use Rattle.line_code.specs.declared.LineKind.the-variants.{NotLine, LineOf}
 use Rattle.line_code.specs.LineCode.{readingOf}
 use Rattle.profile.specs.declared.Profile.{Profile}
 use Rattle.profile.specs.declared.Profile.the-variants.{VV5404, VV5300}
 use Rattle.profile.specs.Profile.{bodyLength, longest}
 use Rattle.profile.specs.Layout.{gapFits}
+use Rattle.stream.specs.declared.Before.{Before}
+use Rattle.stream.specs.declared.Before.the-variants.{NoLine, RefusedLine, HandedOut}
 use Rattle.stream.specs.declared.Mark.{Mark}
 use Rattle.stream.specs.declared.Mark.the-variants.{NoMark, Open}
-use Rattle.stream.specs.Answers.{Outcome, nothing, gap, require}
-use Rattle.stream.specs.Stream.{State, Step, Completed, not-yet, mark, detect, fresh, kindAt, advance, step, finish, run, outcomes}
+use Rattle.stream.specs.Answers.{Outcome, nothing, isLine, require, goodGap, groupNibbles, lineNibbles, periodOf}
+use Rattle.stream.specs.Stream.{State, Step, Completed, not-yet, mark, detect, fresh, kindAt, beforeBy, answerAt, advance, step, finish, run, outcomes}
 use Rattle.mark_answer.specs.declared.Kept.{Kept}
 use Rattle.mark_answer.specs.Kept.{topPlace, bodyPlace, gapStart, byteAt, strayAt, keptAt, bodyAt}
-use Rattle.mark_answer.specs.Judge.{judgeLine, judgeMeaning, judgeReading, judge}
+use Rattle.mark_answer.specs.Judge.{judgeLine, judgeGap, judgeEnd, judgeMeaning, judgeReading, judge}
 use Rattle.reader.specs.declared.Head.{Head}
 use Rattle.reader.specs.declared.Reader.{Reader}
 use Rattle.reader.specs.Reader.{Took, isMark, slide, countStop, bump, leaveKept, leaveBody, shifted, opened, freshReader, refusing, takeHead, takeOutcome, taking, feedOf, flushed, finishOf}
@@ -38,10 +39,10 @@ use Rattle.refinement.specs.Window.{num, Small, small-none, small-more, 
 use Rattle.refinement.specs.Stored.{storedKept, storedBody, byte-keep, body-out, stored-length, wrong-length, judged}
 use Rattle.refinement.specs.Passes.{gap-start, finished, Ok, fresh-ok, take-ok, passes-test}
 
--- The count's stop: numbers that are equal, or both past every body.
+-- The count's stop: numbers that are equal, or both past every body and every period that is told.
 
 abbrev pastBody : ℕ
-pastBody = 2 * longest + 7
+pastBody = mostNibbles
 
 data About (a b : ℕ) : Type 0 where
   equal : a ≡ b → About a b
@@ -84,16 +85,28 @@ module _ (p : Profile) (t : Kept) (body : List ℕ) {x y : ℕ} (hx : pastBody �
   line-far k r next =
       wrong-length p k r x t body next (λ e. omega (arith, body-small p)) ∙ sym (wrong-length p k r y t body next (λ e. omega (arith, body-small p)))
 
-  meaning-far : (before : LineKind) (m : Meaning) (r : Repair) (next : Option ℕ)
+  -- a period is held
+  period-far : (before : Before) (next : Option ℕ) → periodOf p before x next ≡ periodOf p before y next
+  unfolding periodOf
+  period-far NoLine next = refl
+  period-far (RefusedLine k) next = refl
+  period-far (HandedOut k) none = refl
+  period-far (HandedOut k) (some c) = omega arith
+
+  gap-far : (q : Profile) (k : Kind) (n : ℕ) → judgeGap q k n x t ≡ judgeGap q k n y t
+  gap-far VV5404 k n = refl
+  gap-far VV5300 k n =
+      ap (λ b. require (not (t .stray) && (b && gapFits VV5300 k (t .first) (t .second))) badGap (goodGap n (t .first) (t .second)))
+      (le-leb bodyPlace x (omega arith) ∙ sym (le-leb bodyPlace y (omega arith)))
+
+  end-far : (before : Before) (n : ℕ) → judgeEnd p before n x t ≡ judgeEnd p before n y t
+  end-far NoLine n = refl
+  end-far (RefusedLine k) n = gap-far p k n
+  end-far (HandedOut k) n = gap-far p k n
+
+  meaning-far : (before : Before) (m : Meaning) (r : Repair) (next : Option ℕ)
       → judgeMeaning p before m r x t body next ≡ judgeMeaning p before m r y t body next
-  meaning-far NotLine EndOfLine r next = refl
-  meaning-far (LineOf k) EndOfLine r next = go p
-    where
-      go : (p : Profile) → judgeMeaning p (LineOf k) EndOfLine r x t body next ≡ judgeMeaning p (LineOf k) EndOfLine r y t body next
-      go VV5404 = refl
-      go VV5300 =
-          ap (λ b. require (not (t .stray) && (b && gapFits VV5300 k (t .first) (t .second))) badGap (gap (t .first) (t .second)))
-          (le-leb bodyPlace x (omega arith) ∙ sym (le-leb bodyPlace y (omega arith)))
+  meaning-far before EndOfLine r next = end-far before _ ∙ ap (λ (n : ℕ). judgeEnd p before n y t) (period-far before next)
   meaning-far before (Line k) r none = refl
   meaning-far before (Line k) r (some next) = line-far k r (readingOf next)
   meaning-far before ReservedEC r next = refl
@@ -222,11 +235,14 @@ module _ (p : Profile) (r : Reader) (s : State) (n : ℕ) (small-n : n < 16) (sa
   w = slide (h .window) n
 
   -- by whether a mark is complete
+  abbrev told : Bool → Outcome
+  told b = cond b (judge (h .profile) (h .at) (h .count - 7) (leaveKept h) (leaveBody h (r .body)) (some (w % 256))) nothing
+
   abbrev took : Bool → Took
   took b =
       record {
-        reader = record { head = cond b (opened h (w % 256)) (shifted h n); body = leaveBody h (r .body) };
-        outcome = cond b (judge (h .profile) (h .at) (h .count - 7) (leaveKept h) (leaveBody h (r .body)) (some (w % 256))) nothing;
+        reader = record { head = cond b (opened h (w % 256) (isLine (told b))) (shifted h n); body = leaveBody h (r .body) };
+        outcome = told b;
       }
 
   sim-not-yet : Sim p (took false) (advance p (s .at) t′ not-yet)
@@ -251,13 +267,20 @@ module _ (p : Profile) (r : Reader) (s : State) (n : ℕ) (small-n : n < 16) (sa
       let code : w % 256 ≡ 16 * x + y = ap (λ (i : ℕ). i % 256) (slide-same q n) ∙ sym (c .is-code) in
       let l : length text ≡ length (s .text) - 7 =
       length-drop 8 t′ ∙ (let z : suc (length (s .text)) - 8 ≡ length (s .text) - 7 = omega arith in z) in
+      let same-told : told true ≡ answerAt p (s .at) text (some (16 * x + y)) =
+      ap₂ (λ a b. judge a b (h .count - 7) (leaveKept h) (leaveBody h (r .body)) (some (w % 256))) (q .profile-same) (q .at-same)
+      ∙ ap₂ (λ a b. judge p (s .at) (h .count - 7) a b (some (w % 256))) (leave-kept q) body′
+      ∙ judge-about p (s .at) (storedKept p text) (storedBody (same .base) text) (some (w % 256))
+      (about-min (h .count) (length (s .text)) 7 (q .count-same) (omega arith))
+      ∙ ap₂ (λ (a b : ℕ). judge p (s .at) a (storedKept p text) (storedBody (same .base) text) (some b)) (sym l) code
+      ∙ judged p (same .base) (same .base-length) text (s .at) (some (16 * x + y)) in
       record {
         same =
             record {
               head-same =
                   record {
                     profile-same = q .profile-same;
-                    at-same = ap₂ (λ m k. Open (kindAt m) k) (q .at-same) code;
+                    at-same = ap₂ (λ m o. Open (beforeBy (kindAt m) (isLine o)) (w % 256)) (q .at-same) same-told ∙ ap (λ (k : ℕ). Open (beforeBy (kindAt (s .at)) (isLine (answerAt p (s .at) text (some (16 * x + y))))) k) code;
                     count-same = refl;
                     window-same = code ∙ (let z : 16 * x + y ≡ y + 16 * (x + 16 * 0) = omega arith in z);
                     kept-same = refl;
@@ -267,13 +290,7 @@ module _ (p : Profile) (r : Reader) (s : State) (n : ℕ) (small-n : n < 16) (sa
               base-length = ap length body′ ∙ stored-length (same .base) text ∙ same .base-length;
               body-same = refl;
             };
-        outcome-same =
-            ap₂ (λ a b. judge a b (h .count - 7) (leaveKept h) (leaveBody h (r .body)) (some (w % 256))) (q .profile-same) (q .at-same)
-            ∙ ap₂ (λ a b. judge p (s .at) (h .count - 7) a b (some (w % 256))) (leave-kept q) body′
-            ∙ judge-about p (s .at) (storedKept p text) (storedBody (same .base) text) (some (w % 256))
-            (about-min (h .count) (length (s .text)) 7 (q .count-same) (omega arith))
-            ∙ ap₂ (λ (a b : ℕ). judge p (s .at) a (storedKept p text) (storedBody (same .base) text) (some b)) (sym l) code
-            ∙ judged p (same .base) (same .base-length) text (s .at) (some (16 * x + y));
+        outcome-same = same-told;
       }
 
   pub taking-sim : Sim p (taking r n) (step p s n)
@@ -360,7 +377,7 @@ feed-tests {p} {r} f n room =
 pub taking-steps : (p : Profile) (r : Reader) (s : State) (n : ℕ) → n < 16 → Follows p r s → Steps p (taking r n) (step p s n)
 taking-steps p r s n l f =
     let q = taking-sim p r s n l (f .same) in
-    record { follows = record { same = q .same; ok = take-ok (r .head) n l (f .ok) }; outcome-same = q .outcome-same }
+    record { follows = record { same = q .same; ok = take-ok r n l (f .ok) }; outcome-same = q .outcome-same }
 
 pub feed-steps : (p : Profile) (r : Reader) (s : State) (n room : ℕ) → n < 16 → bodyLength p ≤ room → Follows p r s
     → Steps p (feedOf r n room) (step p s n)

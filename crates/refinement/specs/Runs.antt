@@ -4,16 +4,17 @@ use mathlib.Core.Path.{_≡_}
 use mathlib.Core.Bool.{Bool, _&&_, cond}
 use mathlib.Core.List.{List, [], _∷_, _++_, map}
 use Prim.Native.Nat.{ℕ, suc, _≤_}
-use lib.Dec.{leb}
+use lib.Dec.{eqb, leb}
 use lib.ListN.{length, take}
+use Rattle.refusal.specs.Refusal.{noRoom}
 use Rattle.profile.specs.declared.Profile.{Profile}
 use Rattle.profile.specs.Profile.{bodyLength}
-use Rattle.stream.specs.Answers.{outcomeOf, answerFor, bufferAfter}
+use Rattle.stream.specs.Answers.{Outcome, nothing, line, gap, refused, outcomeOf, answerFor, bufferAfter}
 use Rattle.stream.specs.Written.{Sent, AllWritable, stream}
 use Rattle.reader.specs.declared.Reader.{Reader}
 use Rattle.reader.specs.Reader.{passes}
 use Rattle.reader.specs.Run.{stopPlace, runOf}
-use Rattle.recovery.specs.Calls.{Call, feed, done, FinishLast, Gives, takenBy, changed, LineOut, lineIn, onRun, onTaken, onLines, DemandThree}
+use Rattle.recovery.specs.Calls.{Call, feed, done, FinishLast, Gives, takenBy, changed, Collector, collects, lineCollector, gapCollector, onRun, onTaken, onCollected, onLines, onGaps, DemandThree}
 use Rattle.refinement.specs.ReaderCalls.{readerCall}
 
 -- a run of inputs with the buffer lent to it; or a call as before
@@ -47,10 +48,25 @@ abbrev pub runsTaken : Reader → List RunCall → List ℕ
 runsTaken r [] = []
 runsTaken r (c ∷ cs) = runTakes r c (runsTaken (runGives r c .reader) cs)
 
--- the lines that come out, in order
-abbrev pub runsLines : Profile → Reader → List RunCall → List LineOut
-runsLines p r [] = []
-runsLines p r (c ∷ cs) = lineIn (outcomeOf p (runGives r c .answer) (runGives r c .buffer)) (runsLines p (runGives r c .reader) cs)
+-- what is collected, in order: a run is a call that feeds
+abbrev pub runCollects : {A : Type 0} → Collector A → RunCall → Outcome → List A
+runCollects k (run w buffer) o = k .fed o
+runCollects k (one c) o = collects k c o
+
+abbrev pub runsCollected : {A : Type 0} → Collector A → Profile → Reader → List RunCall → List A
+runsCollected k p r [] = []
+runsCollected k p r (c ∷ cs) =
+    runCollects k c (outcomeOf p (runGives r c .answer) (runGives r c .buffer)) ++ runsCollected k p (runGives r c .reader) cs
+
+-- every answer: an outcome that is neither nothing nor 12
+abbrev pub answerIn : Outcome → List Outcome
+answerIn nothing = []
+answerIn (line f body) = line f body ∷ []
+answerIn (gap g) = gap g ∷ []
+answerIn (refused n) = cond (eqb n noRoom) [] (refused n ∷ [])
+
+abbrev pub answerCollector : Collector Outcome
+answerCollector = record { fed = answerIn; finished = answerIn }
 
 -- One by one.
 
@@ -80,11 +96,14 @@ pub data FinishLastRun : List RunCall → Type 0 where
   feed-first : {n : ℕ} {buffer : List ℕ} {cs : List RunCall} → FinishLastRun cs → FinishLastRun (one (feed n buffer) ∷ cs)
   run-first : {w : List ℕ} {buffer : List ℕ} {cs : List RunCall} → FinishLastRun cs → FinishLastRun (run w buffer ∷ cs)
 
--- a list with runs does what its calls one by one do: it leaves the same reader, takes the same nibbles, and the same lines come out
+-- a list with runs does what its calls one by one do: it leaves the same reader and takes the same nibbles; and the same answers come out,
+-- among them the same lines, and the same good gaps with their periods
 pub record SameAsFeeds (p : Profile) (r : Reader) (cs : List RunCall) : Type 0 where
   pub same-reader : onRuns r cs ≡ onRun readerCall r (allOneByOne r cs)
   pub same-taken : runsTaken r cs ≡ onTaken readerCall r (allOneByOne r cs)
-  pub same-lines : runsLines p r cs ≡ onLines readerCall p r (allOneByOne r cs)
+  pub same-answers : runsCollected answerCollector p r cs ≡ onCollected readerCall answerCollector p r (allOneByOne r cs)
+  pub same-lines : runsCollected lineCollector p r cs ≡ onLines readerCall p r (allOneByOne r cs)
+  pub same-gaps : runsCollected gapCollector p r cs ≡ onGaps readerCall p r (allOneByOne r cs)
 
 -- demand 3 of the reader r over lists with runs: where they take the changed stream, they do what their calls one by one do, and of those
 -- demand 3 holds

@@ -9,10 +9,10 @@ use lib.Dec.{eqb, leb, ltb}
 use lib.ListN.{length, take, drop, getD, drop-of-length-le}
 use lib.Seq.{take-all}
 use borrow.Author.Tests.{eqb-true, eqb-false, le-leb, lt-leb, leb-true, leb-false, lt-ltb, le-ltb}
-use Rattle.line_code.specs.declared.LineKind.{LineKind}
 use Rattle.profile.specs.declared.Profile.{Profile}
 use Rattle.profile.specs.declared.Profile.the-variants.{VV5404, VV5300}
 use Rattle.profile.specs.Profile.{longest}
+use Rattle.stream.specs.declared.Before.{Before}
 use Rattle.stream.specs.declared.Mark.{Mark}
 use Rattle.stream.specs.declared.Mark.the-variants.{NoMark, Open}
 use Rattle.mark_answer.specs.Kept.{gapStart, strayAt, keptAt}
@@ -124,7 +124,7 @@ same-nibbles p m s h (suc k) =
     (one-nibble p (endsLine m) s (storedText p (s .body) c) i h (stored-length (s .body) c ∙ h .size) (same-nibbles p m s h k)))
 
 -- after an end code, a stray nibble is noted of the text exactly if the store has noted one and the text is long enough
-same-stray : (p : Profile) (before : LineKind) (c : ℕ) (s : Store) → endsLine (Open before c) ≡ true → (k : ℕ)
+same-stray : (p : Profile) (before : Before) (c : ℕ) (s : Store) → endsLine (Open before c) ≡ true → (k : ℕ)
     → storedKept p (keptText p (Open before c) s k ++ baseOf (Open before c)) .stray ≡ (s .kept .stray && ltb (gapStart p) (k + 2))
 unfolding keptAt strayAt
 same-stray p before c s h zero = start p (s .kept .stray)
@@ -226,7 +226,7 @@ in-window p m k w s h c e l a y =
     }
 
 -- half of it is
-half-in-window : (p : Profile) (before : LineKind) (code w : ℕ) (s : Store) → Typed s → aged 7 w ≡ code % 16
+half-in-window : (p : Profile) (before : Before) (code w : ℕ) (s : Store) → Typed s → aged 7 w ≡ code % 16
     → (s .kept .stray ≡ true → gapStart p + 8 < 9) → StandsFor p (Open before code) 9 w s
 unfolding keptAt strayAt
 half-in-window p before code w s h a y =

@@ -17,17 +17,17 @@ use Rattle.line_code.specs.declared.Meaning.the-variants.{EndOfLine, Line, Rese
 use Rattle.line_code.specs.declared.Reading.{Reading}
 use Rattle.line_code.specs.declared.Reading.the-variants.{Says, Damaged}
 use Rattle.line_code.specs.declared.Repair.{Repair}
-use Rattle.line_code.specs.declared.LineKind.{LineKind}
-use Rattle.line_code.specs.declared.LineKind.the-variants.{NotLine, LineOf}
 use Rattle.line_code.specs.LineCode.{readingOf, isEnd, repairOf}
 use Rattle.line_number.specs.LineNumber.{numberGood, numberFrom}
 use Rattle.profile.specs.declared.Profile.{Profile}
 use Rattle.profile.specs.declared.Profile.the-variants.{VV5404, VV5300}
 use Rattle.profile.specs.Profile.{bodyLength, longest, nullByte}
 use Rattle.profile.specs.Layout.{rules, fits, gapFits}
+use Rattle.stream.specs.declared.Before.{Before}
+use Rattle.stream.specs.declared.Before.the-variants.{NoLine, RefusedLine, HandedOut}
 use Rattle.stream.specs.declared.Mark.{Mark}
 use Rattle.stream.specs.declared.Mark.the-variants.{NoMark, Open}
-use Rattle.stream.specs.Answers.{facts, Outcome, line, gap, refused, require, bytesOnto, lineFrom, turned, allF, afterCode, twoBytesThenF, gapFrom, byMeaning, byReading, answerOf}
+use Rattle.stream.specs.Answers.{facts, Outcome, line, refused, require, goodGap, periodOf, bytesOnto, lineFrom, turned, allF, afterCode, twoBytesThenF, gapFrom, byMeaning, byReading, answerOf}
 use Rattle.stream.specs.Stream.{answerAt}
 use Rattle.mark_answer.specs.declared.Kept.{Kept}
 use Rattle.mark_answer.specs.Kept.{bodyPlace, gapStart, nothingKept, byteAt, strayAt, keptAt, bodyAt}
@@ -227,22 +227,22 @@ after-code (a ∷ []) = refl
 after-code (a ∷ b ∷ w) = refl
 
 -- profile 1's, from the text's length, whether it ends in nothing but F, and its two bytes
-abbrev gapShape : Kind → ℕ → Bool → ℕ → ℕ → Outcome
-gapShape k n x a b = require (x && (leb bodyPlace n && gapFits VV5300 k a b)) badGap (gap a b)
+abbrev gapShape : Kind → ℕ → ℕ → Bool → ℕ → ℕ → Outcome
+gapShape k m n x a b = require (x && (leb bodyPlace n && gapFits VV5300 k a b)) badGap (goodGap m a b)
 
-gap-by-nibbles : (k : Kind) (w : List ℕ)
-    → twoBytesThenF k (afterCode w)
-    ≡ gapShape k (length w) (allF (drop bodyPlace w)) (byteOf (getD w 2 0) (getD w 3 0)) (byteOf (getD w 4 0) (getD w 5 0))
+gap-by-nibbles : (k : Kind) (m : ℕ) (w : List ℕ)
+    → twoBytesThenF k m (afterCode w)
+    ≡ gapShape k m (length w) (allF (drop bodyPlace w)) (byteOf (getD w 2 0) (getD w 3 0)) (byteOf (getD w 4 0) (getD w 5 0))
 unfolding require
-gap-by-nibbles k [] = refl
-gap-by-nibbles k (a ∷ []) = refl
-gap-by-nibbles k (a ∷ b ∷ []) = refl
-gap-by-nibbles k (a ∷ b ∷ c ∷ []) = refl
-gap-by-nibbles k (a ∷ b ∷ c ∷ d ∷ []) = refl
-gap-by-nibbles k (a ∷ b ∷ c ∷ d ∷ e ∷ []) = refl
-gap-by-nibbles k (a ∷ b ∷ c ∷ d ∷ e ∷ f ∷ w) =
+gap-by-nibbles k m [] = refl
+gap-by-nibbles k m (a ∷ []) = refl
+gap-by-nibbles k m (a ∷ b ∷ []) = refl
+gap-by-nibbles k m (a ∷ b ∷ c ∷ []) = refl
+gap-by-nibbles k m (a ∷ b ∷ c ∷ d ∷ []) = refl
+gap-by-nibbles k m (a ∷ b ∷ c ∷ d ∷ e ∷ []) = refl
+gap-by-nibbles k m (a ∷ b ∷ c ∷ d ∷ e ∷ f ∷ w) =
     let ok = gapFits VV5300 k (byteOf c d) (byteOf e f) in
-    ap (λ x. require x badGap (gap (byteOf c d) (byteOf e f)))
+    ap (λ x. require x badGap (goodGap m (byteOf c d) (byteOf e f)))
     (swap ok (allF w) ∙ ap (λ x. allF w && (x && ok)) (sym (le-leb bodyPlace (length (a ∷ b ∷ c ∷ d ∷ e ∷ f ∷ w)) (omega arith))))
   where
     swap : (x y : Bool) → (x && y) ≡ (y && x)
@@ -251,13 +251,13 @@ gap-by-nibbles k (a ∷ b ∷ c ∷ d ∷ e ∷ f ∷ w) =
     swap false true = refl
     swap false false = refl
 
-gap-judged : (p : Profile) (k : Kind) (c : List ℕ) → gapFrom p k (afterCode (turned c [])) ≡ judgeGap p k (length c) (storedKept p c)
-gap-judged VV5404 k c =
-    ap (λ b. require b badGap (gap nullByte nullByte)) (ap allF (after-code (old c)) ∙ not-stray VV5404 c)
-gap-judged VV5300 k c =
-    gap-by-nibbles k (old c)
-    ∙ ap₂ (λ n x. gapShape k n x (byteOf (nibbleAt 2 c) (nibbleAt 3 c)) (byteOf (nibbleAt 4 c) (nibbleAt 5 c))) (length-old c) (not-stray VV5300 c)
-    ∙ ap₂ (gapShape k (length c) (not (storedKept VV5300 c .stray)))
+gap-judged : (p : Profile) (k : Kind) (m : ℕ) (c : List ℕ) → gapFrom p k m (afterCode (turned c [])) ≡ judgeGap p k m (length c) (storedKept p c)
+gap-judged VV5404 k m c =
+    ap (λ b. require b badGap (goodGap m nullByte nullByte)) (ap allF (after-code (old c)) ∙ not-stray VV5404 c)
+gap-judged VV5300 k m c =
+    gap-by-nibbles k m (old c)
+    ∙ ap₂ (λ n x. gapShape k m n x (byteOf (nibbleAt 2 c) (nibbleAt 3 c)) (byteOf (nibbleAt 4 c) (nibbleAt 5 c))) (length-old c) (not-stray VV5300 c)
+    ∙ ap₂ (gapShape k m (length c) (not (storedKept VV5300 c .stray)))
     (sym (stored-first VV5300 c ∙ stored-byte 2 c)) (sym (stored-second VV5300 c ∙ stored-byte 4 c))
 
 -- Bytes, oldest first, of an even number of nibbles.
@@ -470,16 +470,17 @@ module _ (p : Profile) (k : Kind) (r : Repair) (b : List ℕ) (size : length b �
 -- Any mark's answer.
 
 module _ (p : Profile) (b : List ℕ) (size : length b ≡ longest) (c : List ℕ) where
-  meaning-judged : (before : LineKind) (m : Meaning) (r : Repair) (next : Option ℕ)
+  meaning-judged : (before : Before) (m : Meaning) (r : Repair) (next : Option ℕ)
       → judgeMeaning p before m r (length c) (storedKept p c) (storedBody b c) next ≡ byMeaning p before m r c next
-  meaning-judged NotLine EndOfLine r next = refl
-  meaning-judged (LineOf k) EndOfLine r next = sym (gap-judged p k c)
+  meaning-judged NoLine EndOfLine r next = refl
+  meaning-judged (RefusedLine k) EndOfLine r next = sym (gap-judged p k _ c)
+  meaning-judged (HandedOut k) EndOfLine r next = sym (gap-judged p k _ c)
   meaning-judged before (Line k) r none = refl
   meaning-judged before (Line k) r (some next) = sym (line-judged p k r b size (readingOf next) c)
   meaning-judged before ReservedEC r next = refl
   meaning-judged before ReservedF1 r next = refl
 
-  reading-judged : (before : LineKind) (d : Reading) (next : Option ℕ)
+  reading-judged : (before : Before) (d : Reading) (next : Option ℕ)
       → judgeReading p before d (length c) (storedKept p c) (storedBody b c) next ≡ byReading p before d c next
   reading-judged before (Says m r) next = meaning-judged before m r next
   reading-judged before Damaged next = refl

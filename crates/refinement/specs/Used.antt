@@ -17,17 +17,17 @@ use Rattle.line_code.specs.declared.Meaning.the-variants.{EndOfLine, Line, Rese
 use Rattle.line_code.specs.declared.Reading.{Reading}
 use Rattle.line_code.specs.declared.Reading.the-variants.{Says, Damaged}
 use Rattle.line_code.specs.declared.Repair.{Repair}
-use Rattle.line_code.specs.declared.LineKind.{LineKind}
-use Rattle.line_code.specs.declared.LineKind.the-variants.{NotLine, LineOf}
 use Rattle.line_code.specs.LineCode.{readingOf, endMeant, isEnd, repairOf}
 use Rattle.line_number.specs.LineNumber.{numberGood, numberFrom}
 use Rattle.profile.specs.declared.Profile.{Profile}
 use Rattle.profile.specs.declared.Profile.the-variants.{VV5404, VV5300}
 use Rattle.profile.specs.Profile.{bodyLength, longest, nullByte}
 use Rattle.profile.specs.Layout.{rules, fits, gapFits}
+use Rattle.stream.specs.declared.Before.{Before}
+use Rattle.stream.specs.declared.Before.the-variants.{NoLine, RefusedLine, HandedOut}
 use Rattle.stream.specs.declared.Mark.{Mark}
 use Rattle.stream.specs.declared.Mark.the-variants.{NoMark, Open}
-use Rattle.stream.specs.Answers.{facts, Outcome, line, gap, require}
+use Rattle.stream.specs.Answers.{facts, Outcome, line, goodGap, require}
 use Rattle.mark_answer.specs.declared.Kept.{Kept}
 use Rattle.mark_answer.specs.Kept.{bodyPlace, gapStart, strayAt, keptAt, bodyAt}
 use Rattle.mark_answer.specs.Judge.{judgeLine, judgeGap, judgeMeaning, judgeReading, judge}
@@ -272,20 +272,20 @@ line-same p k r len n {s} {s₂} next h f = go (eqb len (2 * bodyLength p + body
         ap₂ (λ x y. shape x y (take (bodyLength p) (s .body))) one two
         ∙ ap (shape (s₂ .kept .first) (s₂ .kept .second)) (same-body p f (omega arith))
 
-gap-same : (p : Profile) (k : Kind) (len n : ℕ) {s s₂ : Store} → min len lineEnd ≤ n → SameUsed p true n s s₂
-    → judgeGap p k len (s .kept) ≡ judgeGap p k len (s₂ .kept)
-gap-same VV5404 k len n h f = ap (λ x. require (not x) badGap (gap nullByte nullByte)) (f .stray-same refl)
-gap-same VV5300 k len n {s} {s₂} h f = go (leb bodyPlace len) refl
+gap-same : (p : Profile) (k : Kind) (m len n : ℕ) {s s₂ : Store} → min len lineEnd ≤ n → SameUsed p true n s s₂
+    → judgeGap p k m len (s .kept) ≡ judgeGap p k m len (s₂ .kept)
+gap-same VV5404 k m len n h f = ap (λ x. require (not x) badGap (goodGap m nullByte nullByte)) (f .stray-same refl)
+gap-same VV5300 k m len n {s} {s₂} h f = go (leb bodyPlace len) refl
   where
     shape : Bool → Bool → ℕ → ℕ → Outcome
-    shape x b y z = require (not x && (b && gapFits VV5300 k y z)) badGap (gap y z)
+    shape x b y z = require (not x && (b && gapFits VV5300 k y z)) badGap (goodGap m y z)
 
     short : (x b y : Bool) → b ≡ false → (x && (b && y)) ≡ false
     short x true y q = absurd (true≢false q)
     short true false y q = refl
     short false false y q = refl
 
-    go : (b : Bool) → leb bodyPlace len ≡ b → judgeGap VV5300 k len (s .kept) ≡ judgeGap VV5300 k len (s₂ .kept)
+    go : (b : Bool) → leb bodyPlace len ≡ b → judgeGap VV5300 k m len (s .kept) ≡ judgeGap VV5300 k m len (s₂ .kept)
     go false q =
         refuses _ badGap _ (short (not (s .kept .stray)) (leb bodyPlace len) _ q)
         ∙ sym (refuses _ badGap _ (short (not (s₂ .kept .stray)) (leb bodyPlace len) _ q))
@@ -296,15 +296,16 @@ gap-same VV5300 k len n {s} {s₂} h f = go (leb bodyPlace len) refl
         ap₂ (shape (s .kept .stray) (leb bodyPlace len)) one two
         ∙ ap (λ x. shape x (leb bodyPlace len) (s₂ .kept .first) (s₂ .kept .second)) (f .stray-same refl)
 
-module _ (p : Profile) (before : LineKind) (len n : ℕ) {s s₂ : Store} (next : Option ℕ) (h : min len lineEnd ≤ n) where
+module _ (p : Profile) (before : Before) (len n : ℕ) {s s₂ : Store} (next : Option ℕ) (h : min len lineEnd ≤ n) where
   meaning-same : (d : Meaning) (r : Repair) → SameUsed p (endMeant d) n s s₂
       → judgeMeaning p before d r len (s .kept) (s .body) next ≡ judgeMeaning p before d r len (s₂ .kept) (s₂ .body) next
   meaning-same d r f = go before d next f
     where
-      go : (before : LineKind) (d : Meaning) (next : Option ℕ) → SameUsed p (endMeant d) n s s₂
+      go : (before : Before) (d : Meaning) (next : Option ℕ) → SameUsed p (endMeant d) n s s₂
           → judgeMeaning p before d r len (s .kept) (s .body) next ≡ judgeMeaning p before d r len (s₂ .kept) (s₂ .body) next
-      go NotLine EndOfLine next f = refl
-      go (LineOf k) EndOfLine next f = gap-same p k len n h f
+      go NoLine EndOfLine next f = refl
+      go (RefusedLine k) EndOfLine next f = gap-same p k _ len n h f
+      go (HandedOut k) EndOfLine next f = gap-same p k _ len n h f
       go before (Line k) none f = refl
       go before (Line k) (some x) f = line-same p k r len n (readingOf x) h f
       go before ReservedEC next f = refl

@@ -2,7 +2,7 @@
 use mathlib.Core.Bool.{Bool, true, false, _&&_, _||_}
 use mathlib.Core.List.{List, [], _∷_, _++_}
 use mathlib.Core.Option.{Option, none, some}
-use Prim.Native.Nat.{ℕ, _+_, _*_}
+use Prim.Native.Nat.{ℕ, _+_, _*_, min}
 use lib.Dec.{eqb}
 use lib.ListN.{length, take, drop}
 use Rattle.refusal.specs.Refusal.{damagedCode, reservedCode, unfinishedLine, wrongLength, badNumber, badBody, noEndOfLine, endWithoutLine, badGap}
@@ -12,15 +12,17 @@ use Rattle.line_code.specs.declared.Meaning.the-variants.{EndOfLine, Line, Rese
 use Rattle.line_code.specs.declared.Reading.{Reading}
 use Rattle.line_code.specs.declared.Reading.the-variants.{Says, Damaged}
 use Rattle.line_code.specs.declared.Repair.{Repair}
-use Rattle.line_code.specs.declared.LineKind.{LineKind}
-use Rattle.line_code.specs.declared.LineKind.the-variants.{NotLine, LineOf}
 use Rattle.line_code.specs.LineCode.{readingOf, isEnd, repairOf, isBit}
 use Rattle.line_number.specs.LineNumber.{numberGood, numberFrom}
 use Rattle.profile.specs.declared.Profile.{Profile}
 use Rattle.profile.specs.declared.Profile.the-variants.{VV5404, VV5300}
 use Rattle.profile.specs.Profile.{bodyLength, nullByte}
 use Rattle.profile.specs.Layout.{rules, fits, gapFits}
+use Rattle.period.specs.Period.{mostNibbles}
+use Rattle.stream.specs.declared.Before.{Before}
+use Rattle.stream.specs.declared.Before.the-variants.{NoLine, RefusedLine, HandedOut}
 use Rattle.stream.specs.declared.LineFacts.{LineFacts}
+use Rattle.stream.specs.declared.GapFacts.{GapFacts}
 use Rattle.stream.specs.declared.Answer.{Answer}
 use Rattle.stream.specs.declared.Answer.the-variants as answer
 
@@ -32,34 +34,47 @@ facts k n start end = record { kind = k; number = n; start = start; end = end }
 abbrev pub eitherRepaired : LineFacts → Bool
 eitherRepaired f = isBit (f .start) || isBit (f .end)
 
--- what an answer says: nothing yet; a line with what is said of it, and its body; a good gap with its two bytes; or a refusal with its
+-- what an answer says: nothing yet; a line with what is said of it, and its body; a good gap with what is said of it; or a refusal with its
 -- number
 pub data Outcome : Type 0 where
   nothing : Outcome
   line : LineFacts → List ℕ → Outcome
-  gap : ℕ → ℕ → Outcome
+  gap : GapFacts → Outcome
   refused : ℕ → Outcome
 
 -- the paper's number and values of each case of the program's answer: a line's body is the front of the lent buffer
 abbrev pub outcomeOf : Profile → Answer → List ℕ → Outcome
 outcomeOf p answer.Nothing buffer = nothing
 outcomeOf p (answer.Line f) buffer = line f (take (bodyLength p) buffer)
-outcomeOf p (answer.Gap a b) buffer = gap a b
+outcomeOf p (answer.Gap g) buffer = gap g
 outcomeOf p (answer.Refused n) buffer = refused n
 
 -- the program's answer that says this
 abbrev pub answerFor : Outcome → Answer
 answerFor nothing = answer.Nothing
 answerFor (line f body) = answer.Line f
-answerFor (gap a b) = answer.Gap a b
+answerFor (gap g) = answer.Gap g
 answerFor (refused n) = answer.Refused n
 
 -- the lent buffer afterwards: a line's body at its front, and the rest as it was
 abbrev pub bufferAfter : Outcome → List ℕ → List ℕ
 bufferAfter nothing buffer = buffer
 bufferAfter (line f body) buffer = body ++ drop (length body) buffer
-bufferAfter (gap a b) buffer = buffer
+bufferAfter (gap g) buffer = buffer
 bufferAfter (refused n) buffer = buffer
+
+-- whether an outcome, or the program's answer, hands out a line
+abbrev pub isLine : Outcome → Bool
+isLine nothing = false
+isLine (line f body) = true
+isLine (gap g) = false
+isLine (refused n) = false
+
+abbrev pub isLineAnswer : Answer → Bool
+isLineAnswer answer.Nothing = false
+isLineAnswer (answer.Line f) = true
+isLineAnswer (answer.Gap g) = false
+isLineAnswer (answer.Refused n) = false
 
 -- a refusal where the test fails
 unfoldable pub require : Bool → ℕ → Outcome → Outcome
@@ -93,6 +108,27 @@ lineAnswer p k r t (some next) = lineFrom p k r (bytesOnto t []) (readingOf next
 
 -- Gaps.
 
+-- a good gap: its two bytes, and the period of its line in nibbles
+unfoldable pub goodGap : ℕ → ℕ → ℕ → Outcome
+goodGap n a b = gap (record { first = a; second = b; period = record { 0 = n } })
+
+-- the nibbles of a line's text: code, two number bytes, body
+abbrev pub lineNibbles : Profile → ℕ
+lineNibbles p = 2 * bodyLength p + 6
+
+-- F F F F 0 0 before each text
+abbrev pub groupNibbles : ℕ
+groupNibbles = 6
+
+-- the period of the line before an end mark (A7), where the line was handed out and a mark closes the gap: from the line's first mark nibble
+-- to the first nibble of that mark stand the line's F F F F 0 0 and text, the end mark's F F F F 0 0, and the end mark's text, of so many
+-- nibbles. It is held at 65,535. (Periods.antt: these are the places in the stream.) Any other gap's is 0
+unfoldable pub periodOf : Profile → Before → ℕ → Option ℕ → ℕ
+periodOf p NoLine len next = 0
+periodOf p (RefusedLine k) len next = 0
+periodOf p (HandedOut k) len none = 0
+periodOf p (HandedOut k) len (some code) = min mostNibbles (groupNibbles + lineNibbles p + groupNibbles + len)
+
 -- newest first to oldest first, in front of others
 abbrev pub turned : List ℕ → List ℕ → List ℕ
 turned [] w = w
@@ -109,37 +145,39 @@ afterCode (x ∷ []) = []
 afterCode (x ∷ y ∷ w) = w
 
 -- profile 1: two bytes that may follow the kind, then nothing but F
-abbrev pub twoBytesThenF : Kind → List ℕ → Outcome
-twoBytesThenF k [] = refused badGap
-twoBytesThenF k (h ∷ []) = refused badGap
-twoBytesThenF k (h ∷ l ∷ []) = refused badGap
-twoBytesThenF k (h ∷ l ∷ h₂ ∷ []) = refused badGap
-twoBytesThenF k (h ∷ l ∷ h₂ ∷ l₂ ∷ w) =
-    require (gapFits VV5300 k (16 * h + l) (16 * h₂ + l₂) && allF w) badGap (gap (16 * h + l) (16 * h₂ + l₂))
+abbrev pub twoBytesThenF : Kind → ℕ → List ℕ → Outcome
+twoBytesThenF k n [] = refused badGap
+twoBytesThenF k n (h ∷ []) = refused badGap
+twoBytesThenF k n (h ∷ l ∷ []) = refused badGap
+twoBytesThenF k n (h ∷ l ∷ h₂ ∷ []) = refused badGap
+twoBytesThenF k n (h ∷ l ∷ h₂ ∷ l₂ ∷ w) =
+    require (gapFits VV5300 k (16 * h + l) (16 * h₂ + l₂) && allF w) badGap (goodGap n (16 * h + l) (16 * h₂ + l₂))
 
--- 9, or the good gap: of what follows the end code, oldest first. Profile 0: nothing but F, however many; its two bytes are told as FF FF
-abbrev pub gapFrom : Profile → Kind → List ℕ → Outcome
-gapFrom VV5404 k w = require (allF w) badGap (gap nullByte nullByte)
-gapFrom VV5300 k w = twoBytesThenF k w
+-- 9, or the good gap: of the period, and what follows the end code, oldest first. Profile 0: nothing but F, however many; its two bytes are
+-- told as FF FF
+abbrev pub gapFrom : Profile → Kind → ℕ → List ℕ → Outcome
+gapFrom VV5404 k n w = require (allF w) badGap (goodGap n nullByte nullByte)
+gapFrom VV5300 k n w = twoBytesThenF k n w
 
 -- 8, or by the line kind of the mark before
-abbrev pub gapAnswer : Profile → LineKind → List ℕ → Outcome
-gapAnswer p NotLine t = refused endWithoutLine
-gapAnswer p (LineOf k) t = gapFrom p k (afterCode (turned t []))
+abbrev pub gapAnswer : Profile → Before → ℕ → List ℕ → Outcome
+gapAnswer p NoLine n t = refused endWithoutLine
+gapAnswer p (RefusedLine k) n t = gapFrom p k n (afterCode (turned t []))
+gapAnswer p (HandedOut k) n t = gapFrom p k n (afterCode (turned t []))
 
 -- Any mark.
 
-abbrev pub byMeaning : Profile → LineKind → Meaning → Repair → List ℕ → Option ℕ → Outcome
-byMeaning p before EndOfLine r t next = gapAnswer p before t
+abbrev pub byMeaning : Profile → Before → Meaning → Repair → List ℕ → Option ℕ → Outcome
+byMeaning p before EndOfLine r t next = gapAnswer p before (periodOf p before (length t) next) t
 byMeaning p before (Line k) r t next = lineAnswer p k r t next
 byMeaning p before ReservedEC r t next = refused reservedCode
 byMeaning p before ReservedF1 r t next = refused reservedCode
 
-abbrev pub byReading : Profile → LineKind → Reading → List ℕ → Option ℕ → Outcome
+abbrev pub byReading : Profile → Before → Reading → List ℕ → Option ℕ → Outcome
 byReading p before (Says m r) t next = byMeaning p before m r t next
 byReading p before Damaged t next = refused damagedCode
 
--- the one answer of a mark: the line kind of the mark before it, its code byte, its text from the code on (newest first), and the next
--- mark's code byte, none at finish
-unfoldable pub answerOf : Profile → LineKind → ℕ → List ℕ → Option ℕ → Outcome
+-- the one answer of a mark: what the mark before it was, its code byte, its text from the code on (newest first), and the next mark's code
+-- byte, none at finish
+unfoldable pub answerOf : Profile → Before → ℕ → List ℕ → Option ℕ → Outcome
 answerOf p before code t next = byReading p before (readingOf code) t next

@@ -10,11 +10,11 @@ use Rattle.line_code.specs.declared.Meaning.the-variants.{EndOfLine, Line, Rese
 use Rattle.line_code.specs.declared.Reading.{Reading}
 use Rattle.line_code.specs.declared.Reading.the-variants.{Says, Damaged}
 use Rattle.line_code.specs.declared.Repair.the-variants.{Clean, Bit}
-use Rattle.line_code.specs.declared.LineKind.{LineKind}
 use Rattle.line_code.specs.LineCode.{kindNumbered, reservedOf, meaningOf, readingOf}
 use Rattle.line_number.specs.declared.Encoded.the-variants.{Bytes}
 use Rattle.line_number.specs.LineNumber.{numberByte, encodeOf}
 use Rattle.profile.specs.declared.Profile.{Profile}
+use Rattle.stream.specs.declared.Before.{Before}
 use Rattle.stream.specs.Answers.{refused, answerOf}
 
 -- a number is these two bytes; a code byte has this reading; a mark with this code byte is refused with this number, whatever its text
@@ -26,7 +26,7 @@ pub data Case : Type 0 where
 unfoldable pub Holds : Case → Type 0
 Holds (number n a b) = encodeOf n ≡ Bytes a b
 Holds (code b r) = readingOf b ≡ r
-Holds (answer b n) = (p : Profile) (before : LineKind) (t : List ℕ) (next : Option ℕ) → answerOf p before b t next ≡ refused n
+Holds (answer b n) = (p : Profile) (before : Before) (t : List ℕ) (next : Option ℕ) → answerOf p before b t next ≡ refused n
 
 unfoldable pub AllHold : List Case → Type 0
 AllHold [] = Unit {0}

@@ -1,16 +1,18 @@
 -- The meaning of a stream (01, 'Marks and line codes'): where marks are, and what each nibble and finish bring.
-use mathlib.Core.Bool.{cond}
+use mathlib.Core.Bool.{Bool, true, false, cond}
 use mathlib.Core.List.{List, [], _∷_}
 use mathlib.Core.Option.{Option, none, some}
 use Prim.Native.Nat.{ℕ, _+_, _*_}
 use lib.Dec.{eqb}
 use Rattle.line_code.specs.declared.LineKind.{LineKind}
-use Rattle.line_code.specs.declared.LineKind.the-variants.{NotLine}
+use Rattle.line_code.specs.declared.LineKind.the-variants.{NotLine, LineOf}
 use Rattle.line_code.specs.LineCode.{readingOf, kindOf}
 use Rattle.profile.specs.declared.Profile.{Profile}
+use Rattle.stream.specs.declared.Before.{Before}
+use Rattle.stream.specs.declared.Before.the-variants.{NoLine, RefusedLine, HandedOut}
 use Rattle.stream.specs.declared.Mark.{Mark}
 use Rattle.stream.specs.declared.Mark.the-variants.{NoMark, Open}
-use Rattle.stream.specs.Answers.{Outcome, nothing, answerOf}
+use Rattle.stream.specs.Answers.{Outcome, nothing, isLine, answerOf}
 
 -- Where a mark is.
 
@@ -60,6 +62,12 @@ abbrev pub kindAt : Mark → LineKind
 kindAt NoMark = NotLine
 kindAt (Open before code) = kindOf (readingOf code)
 
+-- what a mark is to the next one: by the line kind of its own code, and whether it was handed out as a line
+abbrev pub beforeBy : LineKind → Bool → Before
+beforeBy NotLine handed = NoLine
+beforeBy (LineOf k) true = HandedOut k
+beforeBy (LineOf k) false = RefusedLine k
+
 -- the open mark's answer, if there is one: its text, and the next mark's code or none at finish
 abbrev pub answerAt : Profile → Mark → List ℕ → Option ℕ → Outcome
 answerAt p NoMark t next = nothing
@@ -70,7 +78,7 @@ abbrev pub advance : Profile → Mark → List ℕ → Completed → Step
 advance p m t not-yet = record { state = record { at = m; text = t }; outcome = nothing }
 advance p m t (mark x y before) =
     record {
-      state = record { at = Open (kindAt m) (16 * x + y); text = y ∷ x ∷ [] };
+      state = record { at = Open (beforeBy (kindAt m) (isLine (answerAt p m before (some (16 * x + y))))) (16 * x + y); text = y ∷ x ∷ [] };
       outcome = answerAt p m before (some (16 * x + y));
     }
 

@@ -1,16 +1,24 @@
 // The meaning of a stream (paper 01, 'Marks and line codes' and 'One answer for each mark'): the types that reader and callers share.
 // The meaning itself is in specs/: Answers.antt, what a mark is answered; Stream.antt, where marks are and what each nibble brings.
 ghost use mathlib.Core.Path.{_≡_};
-ghost use Rattle.stream.specs.Answers.{eitherRepaired};
-ghost use Rattle.stream.specs.Stream.{kindAt};
+ghost use Rattle.stream.specs.Answers.{eitherRepaired, isLineAnswer};
+ghost use Rattle.stream.specs.Stream.{kindAt, beforeBy};
 use line_code::Kind;
 use line_code::LineKind;
 use line_code::Repair;
+use period::Nibbles;
 
-// The open mark, which waits for its answer: the line kind of the mark before it, and its own code byte.
+// What the mark before an open mark was: absent or not of a line kind; of a line kind, and refused; handed out as a line.
+pub enum Before {
+    NoLine,
+    RefusedLine(Kind),
+    HandedOut(Kind),
+}
+
+// The open mark, which waits for its answer: what the mark before it was, and its own code byte.
 pub enum Mark {
     NoMark,
-    Open(LineKind, u8),
+    Open(Before, u8),
 }
 
 // What is said of a line. Its body is in the lent buffer.
@@ -22,11 +30,19 @@ pub struct LineFacts {
     pub end: Repair,
 }
 
-// The answer of a call: no mark's answer is due yet; a line; a good gap with its two bytes (profile 0: FF FF); a refusal number.
+// What is said of a good gap: its two bytes (profile 0: FF FF); and the period of its line, from the line's first mark nibble to the first
+// nibble of the mark after the gap, held at 65,535. It is 0 where the line was not handed out, and where finish closed the gap.
+pub struct GapFacts {
+    pub first: u8,
+    pub second: u8,
+    pub period: Nibbles,
+}
+
+// The answer of a call: no mark's answer is due yet; a line; a good gap; a refusal number.
 pub enum Answer {
     Nothing,
     Line(LineFacts),
-    Gap(u8, u8),
+    Gap(GapFacts),
     Refused(u8),
 }
 
@@ -41,6 +57,37 @@ impl LineFacts {
         }
         let end = self.end;
         end.is_bit()
+    }
+}
+
+impl Answer {
+    // Whether a line is handed out.
+    pub fn is_line(self) -> bool
+        ensures { λ r. ⌜ r ≡ isLineAnswer self ⌝ }
+    {
+        match self {
+            Answer::Nothing => false,
+            Answer::Line(_) => true,
+            Answer::Gap(_) => false,
+            Answer::Refused(_) => false,
+        }
+    }
+}
+
+impl Before {
+    // What a mark is to the next one: by the line kind of its own code, and whether it was handed out as a line.
+    pub fn of(kind: LineKind, handed: bool) -> Before
+        ensures { λ r. ⌜ r ≡ beforeBy kind handed ⌝ }
+    {
+        match kind {
+            LineKind::NotLine => Before::NoLine,
+            LineKind::LineOf(k) => {
+                if handed {
+                    return Before::HandedOut(k);
+                }
+                Before::RefusedLine(k)
+            }
+        }
     }
 }
 

@@ -3,7 +3,7 @@ use mathlib.Core.Bool.{Bool, true, false, _||_, cond}
 use mathlib.Core.List.{List, [], _∷_, _++_}
 use Prim.Native.Nat.{ℕ}
 use Rattle.line_code.specs.LineCode.{kindNumber}
-use Rattle.profile.specs.Profile.{nullByte}
+use Rattle.stream.specs.declared.GapFacts.{GapFacts}
 use Rattle.stream.specs.declared.LineFacts.{LineFacts}
 use Rattle.stream.specs.declared.Answer.{Answer}
 use Rattle.stream.specs.declared.Answer.the-variants as answer
@@ -29,7 +29,7 @@ newsOf t (a ∷ w) = takeOf t a .news ∷ newsOf (takeOf t a .tally) w
 abbrev pub withMark : ℕ → Answer → ℕ
 withMark n answer.Nothing = n
 withMark n (answer.Line f) = oneMore n
-withMark n (answer.Gap a b) = oneMore n
+withMark n (answer.Gap g) = oneMore n
 withMark n (answer.Refused r) = oneMore n
 
 -- a whole capture: its answers, and finish's
@@ -62,7 +62,7 @@ some says (n ∷ w) = says n || some says w
 abbrev pub handedOver : Answer → List Line
 handedOver answer.Nothing = []
 handedOver (answer.Line f) = line (kindNumber (f .kind)) (f .number) ∷ []
-handedOver (answer.Gap a b) = []
+handedOver (answer.Gap g) = []
 handedOver (answer.Refused n) = cond (isBrokenLine n) (line brokenKind 0 ∷ []) []
 
 abbrev pub allHanded : List Answer → List Line
@@ -92,6 +92,7 @@ abbrev pub linesOf : List LineFacts → List Line
 linesOf [] = []
 linesOf (f ∷ w) = line (kindNumber (f .kind)) (f .number) ∷ linesOf w
 
-abbrev pub withGaps : List LineFacts → List Answer
-withGaps [] = []
-withGaps (f ∷ w) = answer.Line f ∷ answer.Gap nullByte nullByte ∷ withGaps w
+-- whatever a gap's answer says
+abbrev pub withGaps : GapFacts → List LineFacts → List Answer
+withGaps g [] = []
+withGaps g (f ∷ w) = answer.Line f ∷ answer.Gap g ∷ withGaps g w

@@ -99,7 +99,7 @@ isBrokenLine n = within damagedCode noEndOfLine n
 unfoldable pub takeOf : Tally → Answer → Told
 takeOf t answer.Nothing = quiet t
 takeOf t (answer.Line f) = handed (marked t) (kindNumber (f .kind)) (f .number) 0
-takeOf t (answer.Gap a b) = quiet (marked t)
+takeOf t (answer.Gap g) = quiet (marked t)
 takeOf t (answer.Refused n) = cond (isBrokenLine n) (handed (marked t) brokenKind 0 n) (quiet (marked t))
 
 -- The end of the capture.
@@ -116,7 +116,7 @@ cutOf t = cutWithin t (t .judge)
 abbrev pub isUnfinished : Answer → Bool
 isUnfinished answer.Nothing = false
 isUnfinished (answer.Line f) = false
-isUnfinished (answer.Gap a b) = false
+isUnfinished (answer.Gap g) = false
 isUnfinished (answer.Refused n) = eqb n unfinishedLine
 
 -- what the last answer told; and where that is nothing, the frame that is cut off

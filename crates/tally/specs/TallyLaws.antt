@@ -10,6 +10,7 @@ use lib.ListN.{replicate}
 use borrow.Author.Tests.{lt-ltb, ltb-false, ne-eqb}
 use Rattle.refusal.specs.Refusal.{unfinishedLine}
 use Rattle.line_code.specs.LineCode.{kindNumber}
+use Rattle.stream.specs.declared.GapFacts.{GapFacts}
 use Rattle.stream.specs.declared.LineFacts.{LineFacts}
 use Rattle.stream.specs.declared.Answer.{Answer}
 use Rattle.stream.specs.declared.Answer.the-variants as answer
@@ -49,7 +50,7 @@ take-marks : (t : Tally) (a : Answer) → takeOf t a .tally .marks ≡ withMark 
 unfolding takeOf
 take-marks t answer.Nothing = refl
 take-marks t (answer.Line f) = handed-marks (marked t) (kindNumber (f .kind)) (f .number) 0
-take-marks t (answer.Gap a b) = refl
+take-marks t (answer.Gap g) = refl
 take-marks t (answer.Refused n) = either (isBrokenLine n)
   where
     either : (b : Bool) → cond b (handed (marked t) brokenKind 0 n) (quiet (marked t)) .tally .marks ≡ oneMore (t .marks)
@@ -77,7 +78,7 @@ close-marks : (t : Tally) (a : Answer) → closeOf t a .tally .marks ≡ withMar
 unfolding closeOf
 close-marks t answer.Nothing = taken-marks t answer.Nothing
 close-marks t (answer.Line f) = taken-marks t (answer.Line f)
-close-marks t (answer.Gap a b) = taken-marks t (answer.Gap a b)
+close-marks t (answer.Gap g) = taken-marks t (answer.Gap g)
 close-marks t (answer.Refused n) = either (eqb n unfinishedLine)
   where
     either : (b : Bool)
@@ -127,7 +128,7 @@ take-judged : (t : Tally) (a : Answer) → Judges t (handedOver a) (takeOf t a .
 unfolding takeOf
 take-judged t answer.Nothing = nothing-judged t
 take-judged t (answer.Line f) = one-judged t (line (kindNumber (f .kind)) (f .number)) 0
-take-judged t (answer.Gap a b) = record { judge = refl; complete = refl; broken = refl }
+take-judged t (answer.Gap g) = record { judge = refl; complete = refl; broken = refl }
 take-judged t (answer.Refused n) = either (isBrokenLine n)
   where
     either : (b : Bool) → Judges t (cond b (line brokenKind 0 ∷ []) []) (cond b (handed (marked t) brokenKind 0 n) (quiet (marked t)) .tally)
@@ -158,20 +159,20 @@ judged-as-said t (a ∷ w) = then-judged (take-judged t a) (judged-as-said (take
 
 -- A whole frame.
 
-handed-lines : (fs : List LineFacts) → allHanded (withGaps fs) ≡ linesOf fs
-handed-lines [] = refl
-handed-lines (f ∷ fs) = ap (λ (ls : List Line). line (kindNumber (f .kind)) (f .number) ∷ ls) (handed-lines fs)
+handed-lines : (g : GapFacts) (fs : List LineFacts) → allHanded (withGaps g fs) ≡ linesOf fs
+handed-lines g [] = refl
+handed-lines g (f ∷ fs) = ap (λ (ls : List Line). line (kindNumber (f .kind)) (f .number) ∷ ls) (handed-lines g fs)
 
 -- the lines of a frame, repaired or not, each with its gap, from a fresh tally
-pub frame-good : (b : Borders) (fs : List LineFacts) → IsFrame b (linesOf fs)
-    → (tallied freshTally (withGaps fs) .complete ≡ 1) × (tallied freshTally (withGaps fs) .broken ≡ 0) × (isGood (tallied freshTally (withGaps fs)) ≡ true)
+pub frame-good : (b : Borders) (g : GapFacts) (fs : List LineFacts) → IsFrame b (linesOf fs)
+    → (tallied freshTally (withGaps g fs) .complete ≡ 1) × (tallied freshTally (withGaps g fs) .broken ≡ 0) × (isGood (tallied freshTally (withGaps g fs)) ≡ true)
 unfolding isGood oneMore
-frame-good b fs e =
-    let p = judged-as-said freshTally (withGaps fs) in
-    let v : verdicts Waiting (allHanded (withGaps fs)) ≡ replicate lastPlace verdict.Going ++ (verdict.Complete ∷ []) =
-    ap (verdicts Waiting) (handed-lines fs) ∙ frame-complete b (linesOf fs) e .0 in
-    let c : tallied freshTally (withGaps fs) .complete ≡ 1 = p .complete ∙ ap (counting isComplete 0) v in
-    let d : tallied freshTally (withGaps fs) .broken ≡ 0 = p .broken ∙ ap (counting isBreak 0) v in
+frame-good b g fs e =
+    let p = judged-as-said freshTally (withGaps g fs) in
+    let v : verdicts Waiting (allHanded (withGaps g fs)) ≡ replicate lastPlace verdict.Going ++ (verdict.Complete ∷ []) =
+    ap (verdicts Waiting) (handed-lines g fs) ∙ frame-complete b (linesOf fs) e .0 in
+    let c : tallied freshTally (withGaps g fs) .complete ≡ 1 = p .complete ∙ ap (counting isComplete 0) v in
+    let d : tallied freshTally (withGaps g fs) .broken ≡ 0 = p .broken ∙ ap (counting isBreak 0) v in
     (c, d, simp (c, d))
 
 -- Good exactly when a frame was told complete and none was told broken.
@@ -211,7 +212,7 @@ says-take : (t : Tally) (a : Answer) → Says (t .complete) (t .broken) (takeOf 
 unfolding takeOf
 says-take t answer.Nothing = says-nothing t
 says-take t (answer.Line f) = says-handed (marked t) (kindNumber (f .kind)) (f .number) 0
-says-take t (answer.Gap a b) = says-nothing (marked t)
+says-take t (answer.Gap g) = says-nothing (marked t)
 says-take t (answer.Refused n) = either (isBrokenLine n)
   where
     either : (b : Bool) → Says (t .complete) (t .broken) (cond b (handed (marked t) brokenKind 0 n) (quiet (marked t)))

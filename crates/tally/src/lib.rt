@@ -61,7 +61,7 @@ impl Tally {
                 let kind = facts.kind;
                 self.marked().hand(kind.number(), facts.number, NO_REFUSAL)
             }
-            Answer::Gap(_, _) => quiet(self.marked()),
+            Answer::Gap(_) => quiet(self.marked()),
             Answer::Refused(number) => {
                 if is_broken_line(number) {
                     return self.marked().hand(Judge::BROKEN, 0, number);
@@ -247,7 +247,7 @@ fn is_unfinished(last: Answer) -> bool
     match last {
         Answer::Nothing => false,
         Answer::Line(_) => false,
-        Answer::Gap(_, _) => false,
+        Answer::Gap(_) => false,
         Answer::Refused(number) => number == refusal::UNFINISHED_LINE,
     }
 }

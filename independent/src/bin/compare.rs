@@ -176,7 +176,11 @@ fn compare_edges(count: &mut Count) {
     let mut pixels = [0x33u8; LONGEST];
     pixels[LONGEST - 1] = 0x1F;
     let line = |kind, number, start, end| Answer::Line { kind, number, start, end };
-    let gap = Answer::Gap(255, 255);
+    let blank_line = line(1, 303, None, None);
+    let gap = Answer::Gap(255, 255, 0);
+    // A gap that a mark closes after a line, and the end after that mark; and so many F in the gap.
+    let period = |first: &Answer, nibbles| vec![first.clone(), Answer::Gap(255, 255, nibbles), Answer::Refused(3)];
+    let apart = |gap: usize, body: &[u8]| hex(&format!("FFFF009D 085E * FFFF0080 {} FFFF009D", "F".repeat(gap)), body);
     let cases: Vec<(&str, Vec<u8>, Vec<Answer>)> = vec![
         ("no input", vec![], vec![]),
         ("no mark", hex("FFFF0 FFF00 12345", &[]), vec![]),
@@ -188,6 +192,13 @@ fn compare_edges(count: &mut Count) {
         ("a repaired start", hex("FFFF009C 0101 * FFFF0080", &blank), vec![line(1, 0, Some(0), None), gap.clone()]),
         ("a repaired end", hex("FFFF009D 0101 * FFFF0081", &blank), vec![line(1, 0, None, Some(0)), gap.clone()]),
         ("both top bits repaired", hex("FFFF001D 0101 * FFFF0000", &blank), vec![line(1, 0, Some(7), Some(7)), gap.clone()]),
+        ("a line's period", hex("FFFF009D 085E * FFFF0080 FFFF FFFF009D", &blank), period(&blank_line, 736)),
+        ("a refused line's period", hex("FFFF009D 085E * FFFF0080 FFFF FFFF009D", &blank[1..]), period(&Answer::Refused(4), 0)),
+        ("30 frames a second", apart(54, &blank), period(&blank_line, 786)),
+        ("a period not held", apart(64_802, &blank), period(&blank_line, 65_534)),
+        ("a period of the most", apart(64_803, &blank), period(&blank_line, 65_535)),
+        ("a period held", apart(64_804, &blank), period(&blank_line, 65_535)),
+        ("a period held long after", apart(140_000, &blank), period(&blank_line, 65_535)),
         ("a reserved code", hex("FFFF00ED", &[]), vec![Answer::Refused(2)]),
         ("a damaged code", hex("FFFF009E", &[]), vec![Answer::Refused(1)]),
     ];

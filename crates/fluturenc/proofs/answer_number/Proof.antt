@@ -2,6 +2,8 @@
 use borrow.Author.Needs.{needs}
 use Rattle.fluturenc.proofs.answer_number.Statement.{statement}
 use Rattle.fluturenc.proofs.answer_number.Tie as tie
+use Rattle.fluturenc.proofs.answer_number.Reads as reads
+use Rattle.fluturenc.proofs.answer_number.Lts as lts
 use Rattle.fluturenc.proofs.bit.Reads as bit-reads
 use Rattle.line_code.proofs.Kind.number.Reads as Kind-number-reads
 use Rattle.line_code.proofs.Repair.number.Reads as Repair-number-reads
@@ -11,7 +13,7 @@ returns-2 : tie.Need-returns-2
 returns-2 c = simp (c .before .before .before .before .before .before .before .answer .given .1, c .before .before .bit .ensures, c .before .before .before .is-repaired .ensures, c .before .before .before .before .number2 .ensures, c .before .before .before .before .before .number .ensures, c .before .number3 .ensures)
 
 returns-3 : tie.Need-returns-3
-returns-3 c = simp (c .before .answer2 .given .1)
+returns-3 c = simp (c .before .before .before .before .before .answer2 .given .1)
 
 pub answer-number-spec : {M : Type 1} → statement M
 answer-number-spec =
@@ -33,6 +35,9 @@ answer-number-spec =
     (λ c. search needs)
     (λ c. search needs)
     (λ c κs. search needs)
+    (λ c. search needs)
+    (λ c. search needs)
+    (λ c. search needs)
     (λ c. search needs)
     (λ c. search needs)
     (λ c. search needs)

@@ -1,4 +1,4 @@
-use borrow.Author.Tests.{eq-eqb, ne-eqb}
+use borrow.Author.Tests.{eq-eqb, ne-eqb, lt-ltb, le-ltb}
 use borrow.Author.Needs.{needs}
 use Rattle.fluturenc.proofs.mark_numbered.Statement.{statement}
 use Rattle.fluturenc.proofs.mark_numbered.Tie as tie
@@ -6,11 +6,13 @@ use Rattle.fluturenc.proofs.mark_numbered.Tie as tie
 returns : tie.Need-returns
 returns c = simp (eq-eqb _ _ (c .if1 .taken))
 
-numbered-requires : tie.Need-numbered-requires
-numbered-requires c κs = search needs
-
 returns-2 : tie.Need-returns-2
-returns-2 c = simp (ne-eqb _ _ (c .before .if1 .left), c .numbered .ensures)
+returns-2 c = simp (ne-eqb _ _ (c .before .before .before .if1 .left), lt-ltb _ _ (c .before .before .if2 .taken), c .of .ensures, c .before .numbered .ensures)
+
+returns-3 : tie.Need-returns-3
+returns-3 c = simp (ne-eqb _ _ (c .before .before .before .if1 .left), le-ltb _ _ (c .before .before .if2 .left), c .of2 .ensures, c .before .numbered2 .ensures)
 
 pub mark-numbered-spec : {M : Type 1} → statement M
-mark-numbered-spec = tie.close (tie.spec returns numbered-requires returns-2)
+mark-numbered-spec =
+    tie.close
+    (tie.spec returns (λ c κs. search needs) (λ c κs. search needs) returns-2 (λ c κs. search needs) (λ c κs. search needs) returns-3)

@@ -9,18 +9,18 @@ use Rattle.stream.specs.Answers.{refused}
 use Rattle.mark_answer.specs.declared.Kept.{Kept}
 use Rattle.mark_answer.specs.Judge.{judgeGap}
 use borrow.Author.Tests.{le-leb, lt-leb}
-use Rattle.stream.specs.Answers.{require}
+use Rattle.stream.specs.Answers.{require, goodGap}
 use borrow.Author.Needs.{needs}
 use Rattle.mark_answer.proofs.gap_answer.Statement.{statement}
 use Rattle.mark_answer.proofs.gap_answer.Tie as tie
 
-stray-refused : (p : Profile) (k : Kind) (len : ℕ) (t : Kept) → t .stray ≡ true → judgeGap p k len t ≡ refused badGap
+stray-refused : (p : Profile) (k : Kind) (n len : ℕ) (t : Kept) → t .stray ≡ true → judgeGap p k n len t ≡ refused badGap
 unfolding require
-stray-refused VV5404 k len t h = simp h
-stray-refused VV5300 k len t h = simp h
+stray-refused VV5404 k n len t h = simp h
+stray-refused VV5300 k n len t h = simp h
 
 returns : tie.Need-returns
-returns c = simp (stray-refused (c .before .args .profile) (c .before .args .kind) (c .before .args .length) (c .before .args .kept) (c .if1 .taken))
+returns c = simp (stray-refused (c .before .args .profile) (c .before .args .kind) (c .before .args .period .0) (c .before .args .length) (c .before .args .kept) (c .if1 .taken))
 
 enum-told : tie.Need-enum-told
 enum-told c = search needs
@@ -36,14 +36,14 @@ gap-fits-requires : tie.Need-gap-fits-requires
 gap-fits-requires c κs = search needs
 
 returns-3 : tie.Need-returns-3
-unfolding require
+unfolding require goodGap
 returns-3 c =
     let p = c .before .before .before .enum-told2 .given .1 in
     let e = simp p at (c .before .gap-fits .ensures) in
     simp (p, c .before .before .before .before .before .if1 .left, le-leb _ _ (c .before .before .if2 .left), ← e, c .if3 .taken)
 
 returns-4 : tie.Need-returns-4
-unfolding require
+unfolding require goodGap
 returns-4 c = simp (c .enum-told .given .1, c .before .before .if1 .left)
 
 returns-5 : tie.Need-returns-5

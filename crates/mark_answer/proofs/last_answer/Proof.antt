@@ -1,4 +1,5 @@
 use borrow.Author.Needs.{needs}
+use Rattle.mark_answer.proofs.ByReading.{no-period}
 use Rattle.mark_answer.proofs.last_answer.Statement.{statement}
 use Rattle.mark_answer.proofs.last_answer.Tie as tie
 
@@ -18,7 +19,9 @@ enum-told-4 : tie.Need-enum-told-4
 enum-told-4 c = search needs
 
 returns : tie.Need-returns
-returns c = λ r. simp (c .before .enum-told .given .1, c .end-answer .ensures)
+returns c = λ r.
+    let a = c .before .before .before .args in
+    simp (c .before .enum-told .given .1, c .end-answer .ensures, no-period (a .profile) (a .before) (a .length))
 
 returns-2 : tie.Need-returns-2
 returns-2 c = λ r. simp (c .enum-told2 .given .1)

@@ -21,7 +21,9 @@ enum-told-3 : tie.Need-enum-told-3
 enum-told-3 c = search needs
 
 returns : tie.Need-returns
-returns c = simp (c .before .enum-told .given .1, c .end-answer .ensures)
+returns c =
+    let a = c .before .before .before .before .before .args in
+    simp (c .before .before .enum-told .given .1, c .end-answer .ensures, c .before .line-period .ensures (a .next))
 
 returns-2 : tie.Need-returns-2
 returns-2 c = simp (c .before .before .m .given .1, c .line-answer .ensures)
@@ -37,6 +39,7 @@ meaning-answer-spec =
     tie.close
     (tie.spec
     enum-told
+    (λ c κs. search needs)
     end-answer-requires
     enum-known-m
     line-answer-requires

@@ -1,4 +1,4 @@
-use Rattle.reader.proofs.Told.{told-by-body}
+use Rattle.reader.proofs.Told.{line-said, told-by-body}
 use borrow.Author.Needs.{needs}
 use Rattle.reader.proofs.complete.Statement.{statement}
 use Rattle.reader.proofs.complete.Tie as tie
@@ -22,7 +22,11 @@ same-length : tie.Need-same-length
 same-length c = search needs
 
 returns : tie.Need-returns
-returns c = (simp (c .open-at .ensures), simp (c .before .before .before .before .before .at-mark .ensures, c .before .before .before .before .before .before .text-length .ensures, c .before .before .before .before .before .before .before .leave-kept .ensures), simp (c .before .before .before .hand-out .ensures, c .before .before .before .before .before .at-mark .ensures, c .before .before .before .before .before .before .text-length .ensures, c .before .before .before .before .before .before .before .leave-kept .ensures, told-by-body))
+returns c =
+    let a = c .before .before .before .before .before .before .at-mark .ensures in
+    let l = c .before .before .before .before .before .before .before .text-length .ensures in
+    let k = c .before .before .before .before .before .before .before .before .leave-kept .ensures in
+    (simp (c .open-at .ensures, c .before .is-line .ensures, a, l, k, line-said), simp (a, l, k), simp (c .before .before .before .before .hand-out .ensures, a, l, k, told-by-body))
 
 pub complete-spec : {M : Type 1} → statement M
 complete-spec =
@@ -32,6 +36,7 @@ complete-spec =
     text-length-requires
     at-mark-requires
     hand-out-requires
+    (λ c κs. search needs)
     open-at-requires
     same-length
     returns)

@@ -9,7 +9,7 @@ nothing-requires : tie.Need-nothing-requires
 nothing-requires c κs = search needs
 
 returns : tie.Need-returns
-returns c = simp (c .nothing .ensures, c .before .kind .ensures)
+returns c = simp (c .nothing .ensures, c .before .of .ensures, c .before .before .kind .ensures)
 
 pub open-at-spec : {M : Type 1} → statement M
-open-at-spec = tie.close (tie.spec kind-requires nothing-requires returns)
+open-at-spec = tie.close (tie.spec kind-requires (λ c κs. search needs) nothing-requires returns)

@@ -32,7 +32,7 @@ returns c =
     let t = c .before .before .before .before .before .if1 .taken in
     let e = c .before .before .complete .ensures in
     let b = c .before .before .before .before .before .before .before .before .before .before .leave-body .ensures in
-    (simp (← s, ← m, t, e .0), simp (← s, ← m, t, e .1, b), b, simp (← s, ← m, t, e .2, b))
+    (simp (← s, ← m, t, e .0, b), simp (← s, ← m, t, e .1, b), b, simp (← s, ← m, t, e .2, b))
 
 shift-requires : tie.Need-shift-requires
 shift-requires c κs = search needs

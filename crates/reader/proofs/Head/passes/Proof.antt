@@ -10,44 +10,41 @@ returns : tie.Need-returns
 unfolding passes
 returns c = simp (lt-leb _ _ (c .if1 .taken))
 
-is-mark-requires : tie.Need-is-mark-requires
-is-mark-requires c κs = search needs
-
 returns-2 : tie.Need-returns-2
 unfolding passes
 returns-2 c = simp (le-leb _ _ (c .before .before .if1 .left), ← c .before .is-mark .ensures, c .if2 .taken)
 
-window-fits-requires : tie.Need-window-fits-requires
-window-fits-requires c κs = search needs
-
-gap-start-requires : tie.Need-gap-start-requires
-gap-start-requires c κs = search needs
-
 add-result : tie.Need-add-result
-add-result c = omega (arith, c .gap-start .ensures, gap-start-small (c .before .before .before .before .before .before .before .before .args .self .profile))
+add-result c = omega (arith, c .gap-start .ensures, gap-start-small (c .before .before .before .before .before .before .before .before .before .before .args .self .profile))
 
 returns-3 : tie.Need-returns-3
 unfolding passes
-returns-3 c = simp (le-leb _ _ (c .before .before .before .before .before .before .before .if1 .left), ← c .before .before .before .before .before .before .is-mark .ensures, c .before .before .before .before .before .if2 .left, ← c .before .before .before .before .window-fits .ensures, c .before .before .before .if3 .taken, c .before .if4 .taken, c .gap-start .ensures)
+returns-3 c = simp (le-leb _ _ (c .before .before .before .before .before .before .before .before .before .if1 .left), ← c .before .before .before .before .before .before .before .before .is-mark .ensures, c .before .before .before .before .before .before .before .if2 .left, ← c .before .before .before .before .before .before .handed-fits .ensures, c .before .before .before .before .before .if3 .taken, ← c .before .before .before .before .window-fits .ensures, c .before .before .before .if4 .taken, c .before .if5 .taken, c .gap-start .ensures)
 
 returns-4 : tie.Need-returns-4
 unfolding passes
-returns-4 c = simp (le-leb _ _ (c .before .before .before .before .before .before .if1 .left), ← c .before .before .before .before .before .is-mark .ensures, c .before .before .before .before .if2 .left, ← c .before .before .before .window-fits .ensures, c .before .before .if3 .taken, c .if4 .left)
+returns-4 c = simp (le-leb _ _ (c .before .before .before .before .before .before .before .before .if1 .left), ← c .before .before .before .before .before .before .before .is-mark .ensures, c .before .before .before .before .before .before .if2 .left, ← c .before .before .before .before .before .handed-fits .ensures, c .before .before .before .before .if3 .taken, ← c .before .before .before .window-fits .ensures, c .before .before .if4 .taken, c .if5 .left)
 
 returns-5 : tie.Need-returns-5
 unfolding passes
-returns-5 c = simp (le-leb _ _ (c .before .before .before .before .if1 .left), ← c .before .before .before .is-mark .ensures, c .before .before .if2 .left, ← c .before .window-fits .ensures, c .if3 .left)
+returns-5 c = simp (le-leb _ _ (c .before .before .before .before .before .before .if1 .left), ← c .before .before .before .before .before .is-mark .ensures, c .before .before .before .before .if2 .left, ← c .before .before .before .handed-fits .ensures, c .before .before .if3 .taken, ← c .before .window-fits .ensures, c .if4 .left)
+
+returns-6 : tie.Need-returns-6
+unfolding passes
+returns-6 c = simp (le-leb _ _ (c .before .before .before .before .if1 .left), ← c .before .before .before .is-mark .ensures, c .before .before .if2 .left, ← c .before .handed-fits .ensures, c .if3 .left)
 
 pub passes-spec : {M : Type 1} → statement M
 passes-spec =
     tie.close
     (tie.spec
     returns
-    is-mark-requires
+    (λ c κs. search needs)
     returns-2
-    window-fits-requires
-    gap-start-requires
+    (λ c κs. search needs)
+    (λ c κs. search needs)
+    (λ c κs. search needs)
     add-result
     returns-3
     returns-4
-    returns-5)
+    returns-5
+    returns-6)

@@ -98,7 +98,7 @@ loop-again c =
       f .3,
       e .3 ∙ nothing-kept (takeOutcome (l .h) (l .body) (getD s (l .i) 0)) (l .buffer) quiet ∙ l .inv .2,
       search needs,
-      f .1 ∙ ap (λ (h : Head). h .profile) (e .0) ∙ take-profile (l .h) _ ∙ l .inv .4,
+      f .1 ∙ ap (λ (h : Head). h .profile) (e .0) ∙ take-profile (l .h) _ _ ∙ l .inv .4,
     )
 
 same-length-5 : tie.Need-same-length-5 Inv-loop μ-loop
