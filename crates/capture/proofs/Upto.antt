@@ -2,7 +2,7 @@
 use mathlib.Core.Path.{_≡_, refl, _∙_, ap, ap₂, sym, subst}
 use mathlib.Core.Bool.{true, false}
 use mathlib.Core.List.{List, [], _∷_, _++_, append-assoc}
-use Prim.Native.Nat.{ℕ, zero, suc, _+_, _-_, _*_, _/_, _%_, _<_, _≤_, min}
+use Prim.Native.Nat.{ℕ, zero, suc, _+_, _-_, _*_, _/_, _%_, _≤_}
 use native.Mathlib.Nat.{zero-add, add-zero, sub-zero}
 use native.Mathlib.Omega.{arith}
 use lib.ListN.{length, take, drop, length-append, length-drop}
@@ -15,7 +15,7 @@ use Rattle.listing.specs.Rows.{rowRoom, onFront}
 use Rattle.listing.specs.Put.{Put}
 use Rattle.listing.specs.PutLaws.{none, joined, on-front}
 use Rattle.capture.specs.declared.Lister.{Lister}
-use Rattle.capture.specs.Listed.{answerTo, afterNibble, nibbleText, listAfter, listText, takenFrom, takenOf, listedText, listedOf}
+use Rattle.capture.specs.Listed.{answerTo, afterNibble, nibbleText, listAfter, listText, takenFrom, listedText, listedOf}
 use Rattle.capture.specs.ListedLaws.{text-short}
 use Rattle.feeding.specs.UnpackedLaws.{nibbles-append}
 use Rattle.capture.specs.Portions.{byteRoom, portionOf, Lists}

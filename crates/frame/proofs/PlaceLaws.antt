@@ -1,7 +1,7 @@
 -- The kind at a place, read off the list of kinds, is the kind that the ranges give.
 -- The kinds of each layout are computed both ways and compared whole; past the last place both give BL.
 use mathlib.Core.Path.{_≡_, refl}
-use Prim.Native.Nat.{ℕ, _+_, _≤_, _<_}
+use Prim.Native.Nat.{ℕ, _+_, _≤_}
 use native.Mathlib.Omega.{arith}
 use borrow.Author.Tests.{le-ltb, ne-eqb}
 use lib.ListN.{List·getD-eq-default}

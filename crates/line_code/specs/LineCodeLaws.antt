@@ -17,7 +17,7 @@ use Rattle.line_code.specs.declared.Repair.the-variants.{Clean, Bit}
 use Rattle.line_code.specs.declared.Reading.{Reading}
 use Rattle.line_code.specs.declared.Reading.the-variants.{Says, Damaged}
 use Rattle.line_code.specs.declared.LineKind.the-variants.{NotLine}
-use Rattle.line_code.specs.LineCode.{kindNumber, kindNumbered, codeOf, reservedOf, meaningOf, meanings, cleanByte, readingOf, repairNumber, repairNumbered, readingNumber, readingNumbered, kindOf, isEnd, isClean, isRepaired, isDamaged}
+use Rattle.line_code.specs.LineCode.{kindNumber, kindNumbered, codeOf, reservedOf, meaningOf, cleanByte, readingOf, repairNumber, repairNumbered, readingNumber, readingNumbered, kindOf, isEnd, isClean, isRepaired, isDamaged}
 
 -- The code of a meaning.
 

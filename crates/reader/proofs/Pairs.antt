@@ -1,7 +1,7 @@
 -- Two nibbles taken at once, where no mark can end in them, are two taken one by one: and the two that leave the window are one byte of
 -- the text, where the count is even.
 use mathlib.Core.Path.{_≡_, refl, sym, ap, ap₂, _∙_, subst}
-use mathlib.Core.Bool.{Bool, true, false, _&&_, _||_, not, cond, true≢false}
+use mathlib.Core.Bool.{Bool, true, false, _||_, not, cond, true≢false}
 use mathlib.Core.List.{List}
 use mathlib.Core.Logic.{_⊎_, inl, inr, ⊎-elim}
 use Prim.Native.Nat.{ℕ, _+_, _-_, _*_, _/_, _%_, _≤_, _<_}
@@ -9,9 +9,9 @@ use native.Mathlib.Nat.{lt-of-not-le}
 use native.Mathlib.Decide.{decLe}
 use native.Mathlib.Omega.{arith}
 use borrow.Author.Tests.{lt-ltb, le-ltb, le-leb, lt-leb, leb-true, eq-eqb, ne-eqb, not-true}
-use lib.Dec.{eqb, leb, ltb, lit≤}
+use lib.Dec.{eqb, leb, ltb}
 use lib.ListN.{length, getD, set, drop}
-use lib.Seq.{set-set, getD-set-same, set-out}
+use lib.Seq.{set-set, getD-set-same}
 use Rattle.bits.specs.Every.{and-left, and-right}
 use Rattle.profile.specs.declared.Profile.{Profile}
 use Rattle.profile.specs.declared.Profile.the-variants.{VV5404, VV5300}
@@ -23,7 +23,7 @@ use Rattle.mark_answer.specs.Kept.{topPlace, bodyPlace, gapStart, byteAt, stray
 use Rattle.reader.specs.declared.Head.{Head}
 use Rattle.reader.specs.declared.Reader.{Reader}
 use Rattle.reader.specs.Reader.{Took, groupNumber, isMark, slide, countStop, bump, leaveKept, leaveBody, shifted, takeHead, takeOutcome, taking}
-use Rattle.reader.specs.Run.{Ran, isAnswer}
+use Rattle.reader.specs.Run.{isAnswer}
 use Rattle.reader.specs.RunLaws.{onward, onward-on}
 use Rattle.reader.specs.Parts.{reader, isNear, isPair, bytePlace, slideByte, strayAfter, strayKept, byteKept, strayed, Leads}
 use Rattle.reader.proofs.Window.{gap-start-small}

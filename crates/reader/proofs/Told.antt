@@ -1,6 +1,6 @@
 -- An answer and a list tell the outcome: before a line is handed out the reader's body, after it the lent buffer, whose front is then
 -- the line's body. That body fits its rules, so it has the profile's length.
-use mathlib.Core.Path.{_≡_, refl, _∙_, ap, sym, subst}
+use mathlib.Core.Path.{_≡_, refl, _∙_, sym, subst}
 use mathlib.Core.Bool.{Bool, true, false, cond}
 use mathlib.Core.List.{List, [], _∷_}
 use mathlib.Core.Option.{Option, none, some}

@@ -12,7 +12,7 @@ use lib.ListN.{length, take, drop, getD, drop-of-length-le}
 use lib.Seq.{drop-cons}
 use Rattle.refusal.specs.Refusal.{notANibble, badState, noRoom}
 use Rattle.profile.specs.Profile.{bodyLength}
-use Rattle.stream.specs.Answers.{Outcome, nothing, line, gap, refused}
+use Rattle.stream.specs.Answers.{nothing, refused}
 use Rattle.reader.specs.declared.Reader.{Reader}
 use Rattle.reader.specs.Reader.{Took, passes, taking}
 use Rattle.reader.specs.Run.{Ran, ran, isAnswer, stops, stopPlace, takingAll, stopping, upToStop, runOf}

@@ -16,7 +16,7 @@ use Rattle.profile.specs.declared.Profile.the-variants.{VV5404, VV5300}
 use Rattle.profile.specs.declared.Rule.{Rule}
 use Rattle.profile.specs.declared.Rule.the-variants.{Filler, Pixel, Any}
 use Rattle.profile.specs.Profile.{bodyLength, fillerByte, nullByte}
-use Rattle.profile.specs.Layout.{allows, fits, rules, gapFits}
+use Rattle.profile.specs.Layout.{fits, rules, gapFits}
 use Rattle.stream.specs.Stream.{State, fresh, step}
 use Rattle.stream.specs.Written.{Sent, Writable, AllWritable, no-lines, and-line, stream}
 use Rattle.recovery.specs.Calls.{Call, feed, done, FinishLast, done-last, feed-first, Gives, takes, changed, endedBy, linesFrom, closedBy, closed, onTaken, DemandThree, turnedAway, fed, meaningCall}

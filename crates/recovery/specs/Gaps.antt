@@ -1,11 +1,11 @@
 -- Good gaps of clean streams (02, A7): each comes out with the code of the next line's mark, with its line's period as sent.
 use mathlib.Core.Path.{_≡_, refl, _∙_, ap, ap₂, sym}
 use mathlib.Core.List.{List, [], _∷_, _++_, append-assoc, append-nil, map}
-use Prim.Native.Nat.{ℕ, zero, suc, _+_, _-_, _≤_}
+use Prim.Native.Nat.{ℕ, suc, _+_, _-_}
 use native.Mathlib.Nat.{zero-add}
 use native.Mathlib.Omega.{arith}
 use lib.Dec.{leb}
-use lib.ListN.{length, take, drop, length-append}
+use lib.ListN.{length, take, length-append}
 use lib.Seq.{take-nil}
 use Rattle.line_code.specs.declared.Meaning.the-variants.{EndOfLine, Line}
 use Rattle.line_code.specs.declared.Repair.the-variants.{Clean}
@@ -17,11 +17,11 @@ use Rattle.stream.specs.declared.GapFacts.{GapFacts}
 use Rattle.stream.specs.declared.Mark.the-variants.{Open}
 use Rattle.stream.specs.Answers.{Outcome, goodGap}
 use Rattle.stream.specs.Stream.{State, fresh, run, outcomes}
-use Rattle.stream.specs.Written.{Sent, Writable, AllWritable, no-lines, and-line, startMark, content, endMark, tail, written, stream}
+use Rattle.stream.specs.Written.{Sent, Writable, AllWritable, no-lines, and-line, startMark, content, tail, written, stream}
 use Rattle.recovery.specs.Calls.{gapIn, gapAsSent, closedBy, closed, markNibbles}
 use Rattle.recovery.specs.Collected.{nothings, collected, collected-append, collected-nothings, take-past, front-collected, map-test}
 use Rattle.recovery.specs.Resync.{stateWith}
-use Rattle.recovery.specs.ReadBack.{seven, sevenThen, outcomes-append, gapText, restTold, ComesBack, comes-back, gap-told}
+use Rattle.recovery.specs.ReadBack.{seven, outcomes-append, gapText, restTold, ComesBack, comes-back, gap-told}
 use Rattle.recovery.specs.Damage.{outcomes-take, outcomes-length}
 
 -- the good gaps that nibbles bring out

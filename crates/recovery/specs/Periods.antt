@@ -1,10 +1,10 @@
 -- The period that a good gap carries is the one by places (02, A7). The meaning keeps no place: it adds the fixed length of a line that is
 -- handed out to the length of the end mark's text. Both are the same.
-use mathlib.Core.Path.{_≡_, refl, _∙_, ap, ap₂, sym, subst}
-use mathlib.Core.Bool.{Bool, true, false, _&&_, _||_, cond, true≢false}
+use mathlib.Core.Path.{_≡_, refl, _∙_, ap, sym, subst}
+use mathlib.Core.Bool.{Bool, true, false, cond, true≢false}
 use mathlib.Core.List.{List, [], _∷_, _++_}
 use mathlib.Core.Option.{Option, none, some}
-use Prim.Native.Nat.{ℕ, zero, suc, _+_, _-_, _*_, _/_, _%_, _≤_, min}
+use Prim.Native.Nat.{ℕ, suc, _+_, _-_, _*_, _/_, _%_, _≤_, min}
 use native.Mathlib.Omega.{arith}
 use lib.Dec.{eqb}
 use lib.ListN.{length, replicate, length-append, length-replicate}
@@ -29,8 +29,8 @@ use Rattle.stream.specs.declared.Before.the-variants.{NoLine, RefusedLine, Hand
 use Rattle.stream.specs.declared.GapFacts.{GapFacts}
 use Rattle.stream.specs.declared.Mark.{Mark}
 use Rattle.stream.specs.declared.Mark.the-variants.{NoMark, Open}
-use Rattle.stream.specs.Answers.{Outcome, nothing, line, gap, refused, isLine, require, bytesOnto, lineFrom, lineAnswer, goodGap, lineNibbles, groupNibbles, periodOf, turned, afterCode, twoBytesThenF, gapFrom, gapAnswer, byMeaning, byReading, answerOf}
-use Rattle.stream.specs.Stream.{State, fresh, group, Completed, not-yet, mark, detect, kindAt, beforeBy, answerAt, advance, step, finish, run}
+use Rattle.stream.specs.Answers.{Outcome, nothing, line, gap, refused, isLine, require, bytesOnto, lineFrom, goodGap, lineNibbles, groupNibbles, periodOf, turned, afterCode, gapFrom, byMeaning, byReading, answerOf}
+use Rattle.stream.specs.Stream.{State, fresh, group, Completed, not-yet, mark, detect, beforeBy, answerAt, advance, step, finish, run}
 use Rattle.stream.specs.Written.{Sent, Writable, content, endMark, tail, written}
 use Rattle.recovery.specs.Calls.{gapAsSent}
 use Rattle.recovery.specs.MarkPlaces.{Noted, noted, notedFrom, marksOf, periodBy}

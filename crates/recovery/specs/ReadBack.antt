@@ -8,7 +8,7 @@ use Prim.Native.Nat.{ℕ, zero, suc, _+_, _*_, _/_, _%_, _≤_, _<_}
 use native.Mathlib.Omega.{arith}
 use lib.Dec.{eqb, leb}
 use lib.ListN.{length, replicate, length-append, length-replicate}
-use borrow.Author.Tests.{leb-true, leb-false, eqb-true, eqb-false, eq-eqb, ne-eqb}
+use borrow.Author.Tests.{leb-true, leb-false, eqb-true, eqb-false, eq-eqb}
 use Rattle.bits.specs.Bits.{flipped}
 use Rattle.bits.specs.Every.{and-left, and-right, and-both}
 use Rattle.refusal.specs.Refusal.{wrongLength, badNumber, badBody, noEndOfLine, badGap}
@@ -19,7 +19,6 @@ use Rattle.line_code.specs.declared.Meaning.the-variants.{EndOfLine, Line}
 use Rattle.line_code.specs.declared.Reading.the-variants.{Says}
 use Rattle.line_code.specs.declared.Repair.{Repair}
 use Rattle.line_code.specs.declared.Repair.the-variants.{Clean, Bit}
-use Rattle.line_code.specs.declared.LineKind.the-variants.{LineOf}
 use Rattle.line_code.specs.LineCode.{cleanByte, readingOf, kindOf, isEnd, isDamaged}
 use Rattle.line_code.specs.LineCodeLaws.{clean-reading, one-flip, damaged-far}
 use Rattle.line_number.specs.LineNumber.{numberByte, numberGood, numberFrom}
@@ -32,7 +31,7 @@ use Rattle.stream.specs.declared.Before.the-variants.{HandedOut}
 use Rattle.stream.specs.declared.Mark.{Mark}
 use Rattle.stream.specs.declared.Mark.the-variants.{Open}
 use Rattle.stream.specs.Answers.{facts, Outcome, nothing, line, isLine, require, bytesOnto, lineFrom, turned, allF, afterCode, goodGap, periodOf, gapFrom, byReading, answerOf}
-use Rattle.stream.specs.Stream.{State, group, fresh, kindAt, beforeBy, answerAt, step, finish, run, outcomes}
+use Rattle.stream.specs.Stream.{State, fresh, beforeBy, answerAt, step, finish, run, outcomes}
 use Rattle.stream.specs.Written.{Sent, Writable, nibbles, markOf, startMark, content, tail, written}
 use Rattle.line_number.specs.LineNumberLaws.{byte-good, byte-value}
 use Rattle.profile.specs.LayoutLaws.{rules-length, fits-length, body-small}

@@ -1,7 +1,7 @@
 -- Two readers that differ only in what no answer looks at: what has not yet left the window, and what the open mark's kind does not need.
 -- Each nibble and finish answers them alike, and leaves them so.
 use mathlib.Core.Path.{_≡_, refl, _∙_, sym, subst}
-use mathlib.Core.Bool.{Bool, true, false, not, cond, true≢false}
+use mathlib.Core.Bool.{Bool, true, false, cond, true≢false}
 use mathlib.Core.List.{List, []}
 use mathlib.Core.Option.{none, some}
 use Prim.Native.Nat.{ℕ, zero, suc, _+_, _-_, _/_, _%_, _≤_, _<_, _^_, min}

@@ -26,7 +26,7 @@ use Rattle.stream.specs.declared.Before.{Before}
 use Rattle.stream.specs.declared.Before.the-variants.{NoLine, RefusedLine, HandedOut}
 use Rattle.stream.specs.declared.Mark.{Mark}
 use Rattle.stream.specs.declared.Mark.the-variants.{NoMark, Open}
-use Rattle.stream.specs.Answers.{Outcome, nothing, isLine, require, goodGap, groupNibbles, lineNibbles, periodOf}
+use Rattle.stream.specs.Answers.{Outcome, nothing, isLine, require, goodGap, periodOf}
 use Rattle.stream.specs.Stream.{State, Step, Completed, not-yet, mark, detect, fresh, kindAt, beforeBy, answerAt, advance, step, finish, run, outcomes}
 use Rattle.mark_answer.specs.declared.Kept.{Kept}
 use Rattle.mark_answer.specs.Kept.{topPlace, bodyPlace, gapStart, byteAt, strayAt, keptAt, bodyAt}

@@ -1,26 +1,25 @@
 -- A run is its feeds: the nibbles up to its stop, and the input there, fed one by one with the run's buffer. So lists with runs do what their
 -- calls one by one do, and demand 3 of those is demand 3 of the lists.
 use mathlib.Core.Path.{_≡_, refl, _∙_, ap, ap₂, sym, subst}
-use mathlib.Core.Bool.{Bool, true, false, _&&_, _||_, not, cond, true≢false}
+use mathlib.Core.Bool.{Bool, true, false, _||_, not, cond, true≢false}
 use mathlib.Core.List.{List, [], _∷_, _++_, append-nil}
-use Prim.Native.Nat.{ℕ, suc, _+_, _≤_, _<_}
+use Prim.Native.Nat.{ℕ, suc, _+_, _≤_}
 use native.Mathlib.Nat.{add-zero, zero-add}
 use native.Mathlib.Omega.{arith}
-use lib.Dec.{eqb, leb}
+use lib.Dec.{leb}
 use lib.ListN.{length, take, replicate}
-use borrow.Author.Tests.{le-leb, leb-true, leb-false, ne-eqb}
-use Rattle.refusal.specs.Refusal.{notANibble, badState, noRoom}
+use borrow.Author.Tests.{leb-true, ne-eqb}
+use Rattle.refusal.specs.Refusal.{notANibble, noRoom}
 use Rattle.profile.specs.declared.Profile.{Profile}
 use Rattle.profile.specs.Profile.{bodyLength}
-use Rattle.stream.specs.declared.Answer.{Answer}
 use Rattle.stream.specs.declared.Answer.the-variants as answers
 use Rattle.stream.specs.Answers.{Outcome, nothing, line, gap, refused, outcomeOf, answerFor, bufferAfter}
 use Rattle.reader.specs.declared.Reader.{Reader}
-use Rattle.reader.specs.Reader.{Took, passes, freshReader, refusing, taking, feedOf}
-use Rattle.reader.specs.Run.{Ran, ran, isAnswer, stops, stopPlace, upToStop, runOf}
+use Rattle.reader.specs.Reader.{Took, freshReader, refusing, taking, feedOf}
+use Rattle.reader.specs.Run.{Ran, ran, isAnswer, stops, stopPlace, runOf}
 use Rattle.reader.specs.RunLaws.{onward, up-to-stop}
 use Rattle.reader.proofs.Told.{take-profile}
-use Rattle.recovery.specs.Calls.{Call, feed, done, FinishLast, takes, Collector, lineCollector, gapCollector, onRun, onTaken, onCollected}
+use Rattle.recovery.specs.Calls.{Call, feed, FinishLast, takes, Collector, lineCollector, gapCollector, onRun, onTaken, onCollected}
 use Rattle.recovery.specs.Calls as calls
 use Rattle.recovery.specs.DemandThree.{taking-by, taking-append, taken-append, run-append, collected-both}
 use Rattle.refinement.specs.Sound.{take-sound, refusalOf, at-most-nine}

@@ -27,7 +27,7 @@ use Rattle.stream.specs.declared.Before.{Before}
 use Rattle.stream.specs.declared.Before.the-variants.{NoLine, RefusedLine, HandedOut}
 use Rattle.stream.specs.declared.Mark.{Mark}
 use Rattle.stream.specs.declared.Mark.the-variants.{NoMark, Open}
-use Rattle.stream.specs.Answers.{facts, Outcome, line, refused, require, goodGap, periodOf, bytesOnto, lineFrom, turned, allF, afterCode, twoBytesThenF, gapFrom, byMeaning, byReading, answerOf}
+use Rattle.stream.specs.Answers.{facts, Outcome, line, refused, require, goodGap, bytesOnto, lineFrom, turned, allF, afterCode, twoBytesThenF, gapFrom, byMeaning, byReading, answerOf}
 use Rattle.stream.specs.Stream.{answerAt}
 use Rattle.mark_answer.specs.declared.Kept.{Kept}
 use Rattle.mark_answer.specs.Kept.{bodyPlace, gapStart, nothingKept, byteAt, strayAt, keptAt, bodyAt}

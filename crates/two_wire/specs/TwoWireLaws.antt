@@ -10,7 +10,7 @@ use lib.Dec.{eqb, leb, ltb, lit≤}
 use lib.ListN.{length, getD, set, length-set}
 use lib.Seq.{getD-set-same, getD-set-other}
 use Rattle.two_wire.specs.declared.Sensor.{Sensor}
-use Rattle.two_wire.specs.Registers.{registerCount, lastIndex, firstSettable, fresh, next, passes, reached, left, put, stored, differs, someDiffers}
+use Rattle.two_wire.specs.Registers.{registerCount, lastIndex, firstSettable, next, passes, reached, left, put, stored, differs, someDiffers}
 use Rattle.two_wire.specs.RegisterLaws.{passes-counts, passes-still, reached-counts, reached-still, or-left, or-right}
 use Rattle.two_wire.specs.Messages.{writeAddress, readAddress, topBit, indexByte, indexIn, incrementIn, Outcome, accepted, refused, refuseIf, writeData, readData, readBack, addressed, laidOut, messageOn, messagesOn, contents, readMessage, behind}
 use Rattle.two_wire.specs.Writing.{someIndexPast, message, messages, writeOf, inThrees, lastListed}

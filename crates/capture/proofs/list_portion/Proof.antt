@@ -1,8 +1,8 @@
-use mathlib.Core.Path.{_≡_, refl, sym, ap, subst, _∙_}
+use mathlib.Core.Path.{_≡_, sym, ap, subst, _∙_}
 use mathlib.Core.List.{List}
 use Prim.Native.Nat.{ℕ, _+_, _-_, _*_, _≤_, _<_}
 use native.Mathlib.Omega.{arith}
-use lib.ListN.{length, take, drop}
+use lib.ListN.{length, take}
 use lib.Seq.{take-all}
 use denote.Ref.{now}
 use borrow.Author.Needs.{needs}
@@ -32,15 +32,6 @@ whole : (bs d w : List ℕ) (r : ℕ) → r ≡ length bs → w ≡ unpacked bs 
 whole bs d w r e f =
     ap (take (2 * r)) f ∙ front-nibbles bs r (omega arith) d ∙ ap nibbles (take-all r bs (omega arith))
 
-slice-aggregate-unpack : tie.Need-slice-aggregate-unpack Inv-loop μ-loop
-slice-aggregate-unpack c = search needs
-
-unpack-requires : tie.Need-unpack-requires Inv-loop μ-loop
-unpack-requires c κs = search needs
-
-mul-n : tie.Need-mul-n Inv-loop μ-loop
-mul-n c = search needs
-
 array-share-prefix-nibbles : tie.Need-array-share-prefix-nibbles Inv-loop μ-loop
 array-share-prefix-nibbles c = omega (arith, c .before .unpack .ensures .0, c .before .unpack .kept .1 .0)
 
@@ -61,15 +52,6 @@ loop-holds c =
 sub-run : tie.Need-sub-run Inv-loop μ-loop
 sub-run c = c .before .before .loop .inv .0 .within
 
-part-run-start : tie.Need-part-run-start Inv-loop μ-loop
-part-run-start c = search needs
-
-part-run-end : tie.Need-part-run-end Inv-loop μ-loop
-part-run-end c = search needs
-
-run-requires : tie.Need-run-requires Inv-loop μ-loop
-run-requires c κs = search needs
-
 add-i : tie.Need-add-i Inv-loop μ-loop
 add-i c =
     let l = c .before .before .before .before .before .before .before .before .before .before .before .loop in
@@ -78,9 +60,6 @@ add-i c =
     let lt = subst (λ n. l .i < n) (sym (l .inv .4)) (c .before .before .before .before .before .before .before .before .before .before .loop-test .taken) in
     let n = along-count (l .inv .0) (l .inv .3) lt _ t (e .1) in
     omega (arith, n .1, l .inv .4, l .inv .6)
-
-take-requires : tie.Need-take-requires Inv-loop μ-loop
-take-requires c κs = search needs
 
 put-text-requires : tie.Need-put-text-requires Inv-loop μ-loop
 put-text-requires c κs =
@@ -113,12 +92,6 @@ loop-again c =
       l .inv .6,
     )
 
-same-length : tie.Need-same-length Inv-loop μ-loop
-same-length c = search needs
-
-same-length-2 : tie.Need-same-length-2 Inv-loop μ-loop
-same-length-2 c = search needs
-
 same-length-3 : tie.Need-same-length-3 Inv-loop μ-loop
 same-length-3 c = put-length (c .before .loop .inv .0 .text-put)
 
@@ -136,22 +109,22 @@ list-portion-spec =
     (tie.spec
     Inv-loop
     μ-loop
-    slice-aggregate-unpack
-    unpack-requires
-    mul-n
+    (λ c. search needs)
+    (λ c κs. search needs)
+    (λ c. search needs)
     array-share-prefix-nibbles
     slice-aggregate-all
     loop-holds
     sub-run
-    part-run-start
-    part-run-end
-    run-requires
+    (λ c. search needs)
+    (λ c. search needs)
+    (λ c κs. search needs)
     add-i
-    take-requires
+    (λ c κs. search needs)
     put-text-requires
     loop-less
     loop-again
-    same-length
-    same-length-2
+    (λ c. search needs)
+    (λ c. search needs)
     same-length-3
     returns)

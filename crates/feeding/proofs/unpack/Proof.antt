@@ -19,38 +19,11 @@ Inv-loop bytes to₀ n i₀ to i = (i ≤ n) × (n ≤ length bytes) × (2 * n �
 abbrev μ-loop : tie.MeasureT-loop
 μ-loop bytes to₀ n i₀ to i = n - i
 
-fitting-requires : tie.Need-fitting-requires Inv-loop μ-loop
-fitting-requires c κs = search needs
-
 loop-holds : tie.Need-loop-holds Inv-loop μ-loop
 loop-holds c = let e = c .fitting .ensures in (omega arith, omega (arith, e), omega (arith, e), refl, refl, small-none)
 
-shared-slice-read-b : tie.Need-shared-slice-read-b Inv-loop μ-loop
-shared-slice-read-b c = search needs
-
-high-requires : tie.Need-high-requires Inv-loop μ-loop
-high-requires c κs = search needs
-
-mul-to : tie.Need-mul-to Inv-loop μ-loop
-mul-to c = search needs
-
-slice-write-to : tie.Need-slice-write-to Inv-loop μ-loop
-slice-write-to c = search needs
-
-mul-to-2 : tie.Need-mul-to-2 Inv-loop μ-loop
-mul-to-2 c = search needs
-
-add-to : tie.Need-add-to Inv-loop μ-loop
-add-to c = search needs
-
 slice-write-to-2 : tie.Need-slice-write-to-2 Inv-loop μ-loop
 slice-write-to-2 c = let l = c .before .before .before .loop in lt-length-set (l .to) (2 * l .i) _ (omega arith)
-
-add-i : tie.Need-add-i Inv-loop μ-loop
-add-i c = search needs
-
-loop-less : tie.Need-loop-less Inv-loop μ-loop
-loop-less c = search needs
 
 loop-again : tie.Need-loop-again Inv-loop μ-loop
 loop-again c =
@@ -85,17 +58,17 @@ unpack-spec =
     (tie.spec
     Inv-loop
     μ-loop
-    fitting-requires
+    (λ c κs. search needs)
     loop-holds
-    shared-slice-read-b
-    high-requires
-    mul-to
-    slice-write-to
-    mul-to-2
-    add-to
+    (λ c. search needs)
+    (λ c κs. search needs)
+    (λ c. search needs)
+    (λ c. search needs)
+    (λ c. search needs)
+    (λ c. search needs)
     slice-write-to-2
-    add-i
-    loop-less
+    (λ c. search needs)
+    (λ c. search needs)
     loop-again
     same-length
     returns)

@@ -2,12 +2,6 @@
 use borrow.Author.Needs.{needs}
 use Rattle.fluturenc.proofs.answer_number.Statement.{statement}
 use Rattle.fluturenc.proofs.answer_number.Tie as tie
-use Rattle.fluturenc.proofs.answer_number.Reads as reads
-use Rattle.fluturenc.proofs.answer_number.Lts as lts
-use Rattle.fluturenc.proofs.bit.Reads as bit-reads
-use Rattle.line_code.proofs.Kind.number.Reads as Kind-number-reads
-use Rattle.line_code.proofs.Repair.number.Reads as Repair-number-reads
-use Rattle.stream.proofs.LineFacts.is_repaired.Reads as is-repaired-reads
 
 returns-2 : tie.Need-returns-2
 returns-2 c = simp (c .before .before .before .before .before .before .before .answer .given .1, c .before .before .bit .ensures, c .before .before .before .is-repaired .ensures, c .before .before .before .before .number2 .ensures, c .before .before .before .before .before .number .ensures, c .before .number3 .ensures)

@@ -12,53 +12,17 @@ use borrow.Author.Needs.{needs}
 use Rattle.fluturenc.proofs.fluturenc_feed.Statement.{statement}
 use Rattle.fluturenc.proofs.fluturenc_feed.Tie as tie
 
-cast-result : tie.Need-cast-result
-cast-result c = search needs
-
 returns : tie.Need-returns
 unfolding feedCall holdsReader
 returns c =
     let short = lt-leb stateLength (length (now (c .before .before .before .before .args .state))) (omega (arith, c .if1 .taken)) in
     (simp short, simp short, simp short, simp short)
 
-slice-read-is-tagged : tie.Need-slice-read-is-tagged
-slice-read-is-tagged c = search needs
-
-slice-read-is-tagged-2 : tie.Need-slice-read-is-tagged-2
-slice-read-is-tagged-2 c = search needs
-
-slice-read-is-tagged-3 : tie.Need-slice-read-is-tagged-3
-slice-read-is-tagged-3 c = search needs
-
-is-tagged-requires : tie.Need-is-tagged-requires
-is-tagged-requires c κs = search needs
-
-head-in-requires : tie.Need-head-in-requires
-head-in-requires c κs = search needs
-
-sub-run : tie.Need-sub-run
-sub-run c = search needs
-
-part-run-start : tie.Need-part-run-start
-part-run-start c = search needs
-
-part-run-end : tie.Need-part-run-end
-part-run-end c = search needs
-
-run-requires : tie.Need-run-requires
-run-requires c κs = search needs
-
 store-head-requires : tie.Need-store-head-requires
 store-head-requires c κs = back-front (now (c .before .before .before .before .before .before .before .before .before .before .before .before .before .before .before .before .before .before .before .before .before .before .args .state)) (c .before .before .before .before .before .before .before .before .before .before .before .before .before .before .before .before .before .before .if1 .left) (c .before .before .before .before .before .before .before .before .run .last .1 .0)
 
-answer-number-requires : tie.Need-answer-number-requires
-answer-number-requires c κs = search needs
-
 same-length : tie.Need-same-length
 same-length c = ⊎-elim (λ w. ap length (w .5) ∙ w .2 .kept .1 .0 ∙ c .before .before .before .before .before .before .before .state .given .1) (λ w. ap length (w .1) ∙ c .before .before .before .before .before .before .before .state .given .1) (c .before .if3 .came)
-
-same-length-2 : tie.Need-same-length-2
-same-length-2 c = search needs
 
 returns-2 : tie.Need-returns-2
 returns-2 c =
@@ -75,9 +39,6 @@ returns-2 c =
     let left = ⊎-elim (λ b. b .5 ∙ b .2 .ensures ∙ left-stored s room w line h read (r .result .taken) (r .last .1 .0) (r .ensures .1) (r .ensures .3) (omega (arith, b .0 .taken)) (r .result .head) (r .ensures .0)) (λ b. b .1 ∙ left-same s room w line h read (r .result .taken) (r .last .1 .0) (r .ensures .1) (r .ensures .3) (omega (arith, b .0 .left))) (c .before .if3 .came) in
     (simp (e, c .answer-number .ensures, told), simp (e, r .ensures .1), simp e left, simp (e, r .ensures .4))
 
-cast-result-2 : tie.Need-cast-result-2
-cast-result-2 c = search needs
-
 returns-3 : tie.Need-returns-3
 unfolding feedCall holdsReader
 returns-3 c =
@@ -88,21 +49,21 @@ pub fluturenc-feed-spec : {M : Type 1} → statement M
 fluturenc-feed-spec =
     tie.close
     (tie.spec
-    cast-result
+    (λ c. search needs)
     returns
-    slice-read-is-tagged
-    slice-read-is-tagged-2
-    slice-read-is-tagged-3
-    is-tagged-requires
-    head-in-requires
-    sub-run
-    part-run-start
-    part-run-end
-    run-requires
+    (λ c. search needs)
+    (λ c. search needs)
+    (λ c. search needs)
+    (λ c κs. search needs)
+    (λ c κs. search needs)
+    (λ c. search needs)
+    (λ c. search needs)
+    (λ c. search needs)
+    (λ c κs. search needs)
     store-head-requires
-    answer-number-requires
+    (λ c κs. search needs)
     same-length
-    same-length-2
+    (λ c. search needs)
     returns-2
-    cast-result-2
+    (λ c. search needs)
     returns-3)

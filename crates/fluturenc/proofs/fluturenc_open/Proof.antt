@@ -8,15 +8,6 @@ use borrow.Author.Needs.{needs}
 use Rattle.fluturenc.proofs.fluturenc_open.Statement.{statement}
 use Rattle.fluturenc.proofs.fluturenc_open.Tie as tie
 
-numbered-requires : tie.Need-numbered-requires
-numbered-requires c κs = search needs
-
-enum-known-p : tie.Need-enum-known-p
-enum-known-p c = search needs
-
-enum-told : tie.Need-enum-told
-enum-told c = search needs
-
 returns : tie.Need-returns
 unfolding openCall
 returns c = (simp (← c .before .before .numbered .ensures, c .enum-told .given .1), simp (← c .before .before .numbered .ensures, c .enum-told .given .1))
@@ -26,15 +17,6 @@ unfolding openCall
 returns-2 c =
     let short = lt-leb stateLength (length (now (c .before .before .before .before .before .before .args .state))) (omega (arith, c .if1 .taken)) in
     (simp (← c .before .before .before .before .numbered .ensures, c .before .before .p .given .1, short), simp (← c .before .before .before .before .numbered .ensures, c .before .before .p .given .1, short))
-
-fresh-requires : tie.Need-fresh-requires
-fresh-requires c κs = search needs
-
-store-requires : tie.Need-store-requires
-store-requires c κs = search needs
-
-same-length : tie.Need-same-length
-same-length c = search needs
 
 returns-3 : tie.Need-returns-3
 unfolding openCall
@@ -46,12 +28,12 @@ pub fluturenc-open-spec : {M : Type 1} → statement M
 fluturenc-open-spec =
     tie.close
     (tie.spec
-    numbered-requires
-    enum-known-p
-    enum-told
+    (λ c κs. search needs)
+    (λ c. search needs)
+    (λ c. search needs)
     returns
     returns-2
-    fresh-requires
-    store-requires
-    same-length
+    (λ c κs. search needs)
+    (λ c κs. search needs)
+    (λ c. search needs)
     returns-3)

@@ -11,24 +11,6 @@ returns : tie.Need-returns
 unfolding holdsReader
 returns c = simp (lt-leb stateLength (length (now (c .before .before .args .state))) (omega (arith, c .if1 .taken)))
 
-shared-slice-read-is-tagged : tie.Need-shared-slice-read-is-tagged
-shared-slice-read-is-tagged c = search needs
-
-shared-slice-read-is-tagged-2 : tie.Need-shared-slice-read-is-tagged-2
-shared-slice-read-is-tagged-2 c = search needs
-
-shared-slice-read-is-tagged-3 : tie.Need-shared-slice-read-is-tagged-3
-shared-slice-read-is-tagged-3 c = search needs
-
-is-tagged-requires : tie.Need-is-tagged-requires
-is-tagged-requires c κs = search needs
-
-head-in-requires : tie.Need-head-in-requires
-head-in-requires c κs = search needs
-
-passes-requires : tie.Need-passes-requires
-passes-requires c κs = search needs
-
 returns-2 : tie.Need-returns-2
 unfolding holdsReader
 returns-2 c = simp (le-leb stateLength (length (now (c .before .before .before .before .before .before .before .before .before .args .state))) (omega (arith, c .before .before .before .before .before .before .before .if1 .left)), ← c .before .before .before .is-tagged .ensures, c .before .before .if2 .taken, c .passes .ensures, c .before .head-in .ensures)
@@ -42,11 +24,11 @@ holds-reader-spec =
     tie.close
     (tie.spec
     returns
-    shared-slice-read-is-tagged
-    shared-slice-read-is-tagged-2
-    shared-slice-read-is-tagged-3
-    is-tagged-requires
-    head-in-requires
-    passes-requires
+    (λ c. search needs)
+    (λ c. search needs)
+    (λ c. search needs)
+    (λ c κs. search needs)
+    (λ c κs. search needs)
+    (λ c κs. search needs)
     returns-2
     returns-3)

@@ -8,15 +8,9 @@ returns : tie.Need-returns
 unfolding judgeNumbered
 returns c = simp (eq-eqb _ _ (c .if1 .taken))
 
-cast-place : tie.Need-cast-place
-cast-place c = search needs
-
 returns-2 : tie.Need-returns-2
 unfolding judgeNumbered
 returns-2 c = simp (ne-eqb _ _ (c .before .if1 .left), lt-ltb _ _ (c .if2 .taken))
-
-mul-if3 : tie.Need-mul-if3
-mul-if3 c = search needs
 
 returns-3 : tie.Need-returns-3
 unfolding judgeNumbered
@@ -27,4 +21,4 @@ unfolding judgeNumbered
 returns-4 c = simp (ne-eqb _ _ (c .before .before .if1 .left), le-ltb _ _ (c .before .if2 .left), le-ltb _ _ (c .if3 .left))
 
 pub judge-numbered-spec : {M : Type 1} → statement M
-judge-numbered-spec = tie.close (tie.spec returns cast-place returns-2 mul-if3 returns-3 returns-4)
+judge-numbered-spec = tie.close (tie.spec returns (λ c. search needs) returns-2 (λ c. search needs) returns-3 returns-4)

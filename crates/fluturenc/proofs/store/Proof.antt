@@ -11,17 +11,11 @@ use borrow.Author.Needs.{needs}
 use Rattle.fluturenc.proofs.store.Statement.{statement}
 use Rattle.fluturenc.proofs.store.Tie as tie
 
-store-head-requires : tie.Need-store-head-requires
-store-head-requires c κs = search needs
-
 slice-aggregate-copy : tie.Need-slice-aggregate-copy
 slice-aggregate-copy c = search needs
 
 copy-requires : tie.Need-copy-requires
 copy-requires c κs = omega (arith, slice-aggregate-copy c)
-
-same-length : tie.Need-same-length
-same-length c = search needs
 
 returns : tie.Need-returns
 returns c =
@@ -30,4 +24,4 @@ returns c =
 
 pub store-spec : {M : Type 1} → statement M
 store-spec =
-    tie.close (tie.spec store-head-requires slice-aggregate-copy copy-requires same-length returns)
+    tie.close (tie.spec (λ c κs. search needs) slice-aggregate-copy copy-requires (λ c. search needs) returns)

@@ -9,17 +9,8 @@ use borrow.Author.Needs.{needs}
 use Rattle.fluturenc.proofs.store_head.Statement.{statement}
 use Rattle.fluturenc.proofs.store_head.Tie as tie
 
-head-bytes-requires : tie.Need-head-bytes-requires
-head-bytes-requires c κs = search needs
-
 slice-aggregate-copy : tie.Need-slice-aggregate-copy
 slice-aggregate-copy c = search needs
-
-copy-requires : tie.Need-copy-requires
-copy-requires c κs = search needs
-
-same-length : tie.Need-same-length
-same-length c = search needs
 
 returns : tie.Need-returns
 returns c =
@@ -28,4 +19,4 @@ returns c =
 
 pub store-head-spec : {M : Type 1} → statement M
 store-head-spec =
-    tie.close (tie.spec head-bytes-requires slice-aggregate-copy copy-requires same-length returns)
+    tie.close (tie.spec (λ c κs. search needs) slice-aggregate-copy (λ c κs. search needs) (λ c. search needs) returns)

@@ -2,9 +2,6 @@ use borrow.Author.Needs.{needs}
 use Rattle.frame.proofs.first.Statement.{statement}
 use Rattle.frame.proofs.first.Tie as tie
 
-opens-requires : tie.Need-opens-requires
-opens-requires c κs = search needs
-
 returns : tie.Need-returns
 returns c = simp (← c .before .opens .ensures, c .if1 .taken)
 
@@ -12,4 +9,4 @@ returns-2 : tie.Need-returns-2
 returns-2 c = simp (← c .before .opens .ensures, c .if1 .left)
 
 pub first-spec : {M : Type 1} → statement M
-first-spec = tie.close (tie.spec opens-requires returns returns-2)
+first-spec = tie.close (tie.spec (λ c κs. search needs) returns returns-2)

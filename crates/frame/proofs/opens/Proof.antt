@@ -3,9 +3,6 @@ use borrow.Author.Needs.{needs}
 use Rattle.frame.proofs.opens.Statement.{statement}
 use Rattle.frame.proofs.opens.Tie as tie
 
-number-requires : tie.Need-number-requires
-number-requires c κs = search needs
-
 returns : tie.Need-returns
 returns c = simp (← c .before .number .ensures, eq-eqb _ _ (c .if1 .taken))
 
@@ -13,4 +10,4 @@ returns-2 : tie.Need-returns-2
 returns-2 c = simp (← c .before .number .ensures, ne-eqb _ _ (c .if1 .left))
 
 pub opens-spec : {M : Type 1} → statement M
-opens-spec = tie.close (tie.spec number-requires returns returns-2)
+opens-spec = tie.close (tie.spec (λ c κs. search needs) returns returns-2)

@@ -6,15 +6,6 @@ use borrow.Author.Needs.{needs}
 use Rattle.frame_grabber.proofs.end_byte.Statement.{statement}
 use Rattle.frame_grabber.proofs.end_byte.Tie as tie
 
-slice-aggregate-run : tie.Need-slice-aggregate-run
-slice-aggregate-run c = search needs
-
-run-requires : tie.Need-run-requires
-run-requires c κs = search needs
-
-same-length : tie.Need-same-length
-same-length c = search needs
-
 returns : tie.Need-returns
 returns c =
     let a = c .before .before .before .before .before .before .before .before .before .args in
@@ -23,4 +14,4 @@ returns c =
     settled (a .head) (now (a .body)) (now (a .rest)) (p .0) (p .2) _ (lent-onward (a .head) (now (a .body)) (now (a .rest)) _ (p .0) (p .1) refl) (p .3) (e .0) (e .3)
 
 pub end-byte-spec : {M : Type 1} → statement M
-end-byte-spec = tie.close (tie.spec slice-aggregate-run run-requires same-length returns)
+end-byte-spec = tie.close (tie.spec (λ c. search needs) (λ c κs. search needs) (λ c. search needs) returns)

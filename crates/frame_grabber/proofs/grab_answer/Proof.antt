@@ -7,27 +7,6 @@ use borrow.Author.Needs.{needs}
 use Rattle.frame_grabber.proofs.grab_answer.Statement.{statement}
 use Rattle.frame_grabber.proofs.grab_answer.Tie as tie
 
-slice-aggregate-run : tie.Need-slice-aggregate-run
-slice-aggregate-run c = search needs
-
-run-requires : tie.Need-run-requires
-run-requires c κs = search needs
-
-slice-aggregate-take : tie.Need-slice-aggregate-take
-slice-aggregate-take c = search needs
-
-take-requires : tie.Need-take-requires
-take-requires c κs = search needs
-
-stepped-requires : tie.Need-stepped-requires
-stepped-requires c κs = search needs
-
-same-length : tie.Need-same-length
-same-length c = search needs
-
-same-length-2 : tie.Need-same-length-2
-same-length-2 c = search needs
-
 returns : tie.Need-returns
 unfolding blank
 returns c =
@@ -42,11 +21,11 @@ pub grab-answer-spec : {M : Type 1} → statement M
 grab-answer-spec =
     tie.close
     (tie.spec
-    slice-aggregate-run
-    run-requires
-    slice-aggregate-take
-    take-requires
-    stepped-requires
-    same-length
-    same-length-2
+    (λ c. search needs)
+    (λ c κs. search needs)
+    (λ c. search needs)
+    (λ c κs. search needs)
+    (λ c κs. search needs)
+    (λ c. search needs)
+    (λ c. search needs)
     returns)

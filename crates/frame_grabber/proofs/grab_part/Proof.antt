@@ -22,17 +22,8 @@ Inv-loop body₀ bytes rows₀ k n all head₀ gatherer₀ i₀ body rows head g
 abbrev μ-loop : tie.MeasureT-loop
 μ-loop body₀ bytes rows₀ k n all head₀ gatherer₀ i₀ body rows head gatherer i = 2 * k - i
 
-slice-aggregate-unpack : tie.Need-slice-aggregate-unpack Inv-loop μ-loop
-slice-aggregate-unpack c = search needs
-
-unpack-requires : tie.Need-unpack-requires Inv-loop μ-loop
-unpack-requires c κs = search needs
-
 mul-n : tie.Need-mul-n Inv-loop μ-loop
 mul-n c = omega (arith, c .before .unpack .ensures .0)
-
-array-share-prefix-nibbles : tie.Need-array-share-prefix-nibbles Inv-loop μ-loop
-array-share-prefix-nibbles c = search needs
 
 slice-aggregate-all : tie.Need-slice-aggregate-all Inv-loop μ-loop
 slice-aggregate-all c =
@@ -54,12 +45,6 @@ loop-holds c =
 sub-grab-answer : tie.Need-sub-grab-answer Inv-loop μ-loop
 sub-grab-answer c = c .before .before .loop .inv .0 .within
 
-part-grab-answer-start : tie.Need-part-grab-answer-start Inv-loop μ-loop
-part-grab-answer-start c = search needs
-
-part-grab-answer-end : tie.Need-part-grab-answer-end Inv-loop μ-loop
-part-grab-answer-end c = search needs
-
 grab-answer-requires : tie.Need-grab-answer-requires Inv-loop μ-loop
 grab-answer-requires c κs =
     let l = c .before .before .before .before .loop in
@@ -71,20 +56,11 @@ add-i c =
     let t = turn-within (l .inv .0) (c .before .before .before .before .before .before .before .grab-answer .ensures) in
     omega (arith, t, l .inv .3, l .inv .4)
 
-tells-requires : tie.Need-tells-requires Inv-loop μ-loop
-tells-requires c κs = search needs
-
 add-end : tie.Need-add-end Inv-loop μ-loop
 add-end c =
     let l = c .before .before .before .before .before .before .before .before .before .before .before .before .before .before .loop in
     let t = turn-within (l .inv .0) (c .before .before .before .before .before .before .before .before .before .grab-answer .ensures) in
     omega (arith, t, l .inv .3, l .inv .4)
-
-sub-end-byte : tie.Need-sub-end-byte Inv-loop μ-loop
-sub-end-byte c = search needs
-
-part-end-byte-start : tie.Need-part-end-byte-start Inv-loop μ-loop
-part-end-byte-start c = search needs
 
 part-end-byte-end : tie.Need-part-end-byte-end Inv-loop μ-loop
 part-end-byte-end c =
@@ -97,9 +73,6 @@ end-byte-requires c κs =
     let l = c .before .before .before .before .before .before .before .before .before .before .before .before .before .before .before .before .loop in
     let j = l .i + c .before .before .before .before .before .before .before .before .before .before .before .grab-answer .result .taken in
     (c .before .before .before .before .before .before .before .before .before .before .before .grab-answer .ensures .sound, search needs, small-take (small-drop (l .inv .2) j) (j + j % 2 - j), search needs)
-
-stepped-requires : tie.Need-stepped-requires Inv-loop μ-loop
-stepped-requires c κs = search needs
 
 same-length : tie.Need-same-length Inv-loop μ-loop
 same-length c = c .before .before .before .end-byte .kept .1 .0 ∙ c .before .before .before .before .before .before .before .before .before .before .before .before .before .before .before .grab-answer .kept .1 .0 ∙ c .before .before .before .before .before .before .before .before .before .before .before .before .before .before .before .before .before .before .before .before .loop .inv .1 ∙ sym (c .before .before .before .before .before .before .before .before .before .before .before .before .before .before .before .before .before .before .before .before .before .before .before .before .before .before .before .before .pre .1)
@@ -123,15 +96,6 @@ loop-again c =
     let l = c .before .before .before .before .before .before .before .before .before .before .before .before .before .before .loop in
     (along-next (l .inv .0) (c .before .before .before .before .before .before .before .before .before .grab-answer .ensures) (sym (c .before .tells .ensures) ∙ c .if1 .left), search needs, l .inv .2, l .inv .3, l .inv .4, l .inv .5, search needs)
 
-stepped-requires-2 : tie.Need-stepped-requires-2 Inv-loop μ-loop
-stepped-requires-2 c κs = search needs
-
-same-length-3 : tie.Need-same-length-3 Inv-loop μ-loop
-same-length-3 c = search needs
-
-same-length-4 : tie.Need-same-length-4 Inv-loop μ-loop
-same-length-4 c = search needs
-
 returns-2 : tie.Need-returns-2 Inv-loop μ-loop
 returns-2 c =
     let l = c .before .before .loop in
@@ -143,30 +107,30 @@ grab-part-spec =
     (tie.spec
     Inv-loop
     μ-loop
-    slice-aggregate-unpack
-    unpack-requires
+    (λ c. search needs)
+    (λ c κs. search needs)
     mul-n
-    array-share-prefix-nibbles
+    (λ c. search needs)
     slice-aggregate-all
     loop-holds
     sub-grab-answer
-    part-grab-answer-start
-    part-grab-answer-end
+    (λ c. search needs)
+    (λ c. search needs)
     grab-answer-requires
     add-i
-    tells-requires
+    (λ c κs. search needs)
     add-end
-    sub-end-byte
-    part-end-byte-start
+    (λ c. search needs)
+    (λ c. search needs)
     part-end-byte-end
     end-byte-requires
-    stepped-requires
+    (λ c κs. search needs)
     same-length
     same-length-2
     returns
     loop-less
     loop-again
-    stepped-requires-2
-    same-length-3
-    same-length-4
+    (λ c κs. search needs)
+    (λ c. search needs)
+    (λ c. search needs)
     returns-2)

@@ -10,48 +10,9 @@ use Rattle.frame_rows.proofs.Answering.{put-copied, put-used}
 use Rattle.frame_rows.proofs.put_row.Statement.{statement}
 use Rattle.frame_rows.proofs.put_row.Tie as tie
 
-enum-told : tie.Need-enum-told
-enum-told c = search needs
-
-sub-copy : tie.Need-sub-copy
-sub-copy c = search needs
-
-part-copy-start : tie.Need-part-copy-start
-part-copy-start c = search needs
-
-part-copy-end : tie.Need-part-copy-end
-part-copy-end c = search needs
-
-copy-requires : tie.Need-copy-requires
-copy-requires c κs = search needs
-
-enum-told-2 : tie.Need-enum-told-2
-enum-told-2 c = search needs
-
-number-requires : tie.Need-number-requires
-number-requires c κs = search needs
-
-sub-to-pixels : tie.Need-sub-to-pixels
-sub-to-pixels c = search needs
-
-part-to-pixels-start : tie.Need-part-to-pixels-start
-part-to-pixels-start c = search needs
-
-part-to-pixels-end : tie.Need-part-to-pixels-end
-part-to-pixels-end c = search needs
-
-to-pixels-requires : tie.Need-to-pixels-requires
-to-pixels-requires c κs = search needs
-
-same-length : tie.Need-same-length
-same-length c = search needs
-
 returns : tie.Need-returns
 returns c = let a = c .before .before .before .before .before .before .before .before .args in
     simp (c .before .before .before .before .enum-told .given .1) (put-copied (a .rows .now) _ (a .at) (a .body .now) longest (c .before .before .before .before .before .before .before .before .pre .0) (c .before .before .copy .ensures .1))
-
-same-length-2 : tie.Need-same-length-2
-same-length-2 c = search needs
 
 returns-2 : tie.Need-returns-2
 returns-2 c = let a = c .before .before .before .before .before .before .before .before .before .args in
@@ -63,18 +24,18 @@ pub put-row-spec : {M : Type 1} → statement M
 put-row-spec =
     tie.close
     (tie.spec
-    enum-told
-    sub-copy
-    part-copy-start
-    part-copy-end
-    copy-requires
-    enum-told-2
-    number-requires
-    sub-to-pixels
-    part-to-pixels-start
-    part-to-pixels-end
-    to-pixels-requires
-    same-length
+    (λ c. search needs)
+    (λ c. search needs)
+    (λ c. search needs)
+    (λ c. search needs)
+    (λ c κs. search needs)
+    (λ c. search needs)
+    (λ c κs. search needs)
+    (λ c. search needs)
+    (λ c. search needs)
+    (λ c. search needs)
+    (λ c κs. search needs)
+    (λ c. search needs)
     returns
-    same-length-2
+    (λ c. search needs)
     returns-2)

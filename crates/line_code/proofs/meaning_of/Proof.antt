@@ -8,18 +8,6 @@ returns : tie.Need-returns
 unfolding meaningOf
 returns c = simp (eq-eqb _ _ (c .if1 .taken))
 
-numbered-requires : tie.Need-numbered-requires
-numbered-requires c κs = search needs
-
-enum-known-k : tie.Need-enum-known-k
-enum-known-k c = search needs
-
-enum-told : tie.Need-enum-told
-enum-told c = search needs
-
-reserved-requires : tie.Need-reserved-requires
-reserved-requires c κs = search needs
-
 returns-2 : tie.Need-returns-2
 unfolding meaningOf
 returns-2 c = simp (ne-eqb _ _ (c .before .before .before .before .if1 .left), ← c .before .before .before .numbered .ensures, c .before .k .given .1)
@@ -33,9 +21,9 @@ meaning-of-spec =
     tie.close
     (tie.spec
     returns
-    numbered-requires
-    enum-known-k
-    enum-told
-    reserved-requires
+    (λ c κs. search needs)
+    (λ c. search needs)
+    (λ c. search needs)
+    (λ c κs. search needs)
     returns-2
     returns-3)

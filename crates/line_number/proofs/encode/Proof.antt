@@ -6,18 +6,6 @@ use Rattle.line_number.proofs.encode.Tie as tie
 returns : tie.Need-returns
 returns c = simp (lt-leb _ _ (c .if1 .taken))
 
-cast-number-byte : tie.Need-cast-number-byte
-cast-number-byte c = search needs
-
-number-byte-requires : tie.Need-number-byte-requires
-number-byte-requires c κs = search needs
-
-cast-number-byte-2 : tie.Need-cast-number-byte-2
-cast-number-byte-2 c = search needs
-
-number-byte-requires-2 : tie.Need-number-byte-requires-2
-number-byte-requires-2 c κs = search needs
-
 returns-2 : tie.Need-returns-2
 returns-2 c = simp (le-leb _ _ (c .before .before .if1 .left), c .number-byte2 .ensures, c .before .number-byte .ensures)
 
@@ -26,8 +14,8 @@ encode-spec =
     tie.close
     (tie.spec
     returns
-    cast-number-byte
-    number-byte-requires
-    cast-number-byte-2
-    number-byte-requires-2
+    (λ c. search needs)
+    (λ c κs. search needs)
+    (λ c. search needs)
+    (λ c κs. search needs)
     returns-2)

@@ -5,21 +5,12 @@ use Rattle.line_number.specs.LineNumber.{numberByte}
 use Rattle.line_number.proofs.number_byte.Statement.{statement}
 use Rattle.line_number.proofs.number_byte.Tie as tie
 
-mul-result : tie.Need-mul-result
-mul-result c = search needs
-
 add-result : tie.Need-add-result
 add-result c = omega (arith, ones-le 8 (c .args .v) (search needs))
-
-cast-result : tie.Need-cast-result
-cast-result c = search needs
-
-add-result-2 : tie.Need-add-result-2
-add-result-2 c = search needs
 
 returns : tie.Need-returns
 unfolding numberByte
 returns c = omega arith
 
 pub number-byte-spec : {M : Type 1} → statement M
-number-byte-spec = tie.close (tie.spec mul-result add-result cast-result add-result-2 returns)
+number-byte-spec = tie.close (tie.spec (λ c. search needs) add-result (λ c. search needs) (λ c. search needs) returns)

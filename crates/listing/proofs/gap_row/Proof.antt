@@ -5,21 +5,12 @@ use Rattle.listing.specs.RowLaws.{decimal-short}
 use Rattle.listing.proofs.gap_row.Statement.{statement}
 use Rattle.listing.proofs.gap_row.Tie as tie
 
-put-decimal-requires : tie.Need-put-decimal-requires
-put-decimal-requires c κs = search needs
-
-slice-aggregate-put : tie.Need-slice-aggregate-put
-slice-aggregate-put c = search needs
-
 put-requires : tie.Need-put-requires
 put-requires c κs = omega (arith, decimal-short (c .before .before .before .before .before .before .before .args .mark))
-
-same-length : tie.Need-same-length
-same-length c = search needs
 
 returns : tie.Need-returns
 returns c = joined (c .before .before .before .before .before .before .before .put-decimal .ensures) (c .before .before .put .ensures)
 
 pub gap-row-spec : {M : Type 1} → statement M
 gap-row-spec =
-    tie.close (tie.spec put-decimal-requires slice-aggregate-put put-requires same-length returns)
+    tie.close (tie.spec (λ c κs. search needs) (λ c. search needs) put-requires (λ c. search needs) returns)

@@ -6,35 +6,17 @@ use Rattle.listing.specs.RowLaws.{kind-short, decimal-short}
 use Rattle.listing.proofs.put_line.Statement.{statement}
 use Rattle.listing.proofs.put_line.Tie as tie
 
-put-kind-requires : tie.Need-put-kind-requires
-put-kind-requires c κs = search needs
-
-slice-aggregate-put : tie.Need-slice-aggregate-put
-slice-aggregate-put c = search needs
-
 put-requires : tie.Need-put-requires
 put-requires c κs = omega (arith, kind-short (c .before .before .before .before .before .before .before .args .facts .kind))
-
-cast-put-decimal : tie.Need-cast-put-decimal
-cast-put-decimal c = search needs
 
 put-decimal-requires : tie.Need-put-decimal-requires
 put-decimal-requires c κs = omega (arith, kind-short (c .before .before .before .before .before .before .before .before .before .before .before .before .args .facts .kind))
 
-slice-aggregate-put-2 : tie.Need-slice-aggregate-put-2
-slice-aggregate-put-2 c = search needs
-
 put-requires-2 : tie.Need-put-requires-2
 put-requires-2 c κs = omega (arith, kind-short (c .before .before .before .before .before .before .before .before .before .before .before .before .before .before .before .before .before .args .facts .kind), decimal-short (c .before .before .before .before .before .before .before .before .before .before .before .before .before .before .before .before .before .args .facts .number))
 
-is-repaired-requires : tie.Need-is-repaired-requires
-is-repaired-requires c κs = search needs
-
 put-note-requires : tie.Need-put-note-requires
 put-note-requires c κs = omega (arith, kind-short (c .before .before .before .before .before .before .before .before .before .before .before .before .before .before .before .before .before .before .before .before .before .before .args .facts .kind), decimal-short (c .before .before .before .before .before .before .before .before .before .before .before .before .before .before .before .before .before .before .before .before .before .before .args .facts .number))
-
-same-length : tie.Need-same-length
-same-length c = search needs
 
 returns : tie.Need-returns
 unfolding lineWords
@@ -46,14 +28,14 @@ pub put-line-spec : {M : Type 1} → statement M
 put-line-spec =
     tie.close
     (tie.spec
-    put-kind-requires
-    slice-aggregate-put
+    (λ c κs. search needs)
+    (λ c. search needs)
     put-requires
-    cast-put-decimal
+    (λ c. search needs)
     put-decimal-requires
-    slice-aggregate-put-2
+    (λ c. search needs)
     put-requires-2
-    is-repaired-requires
+    (λ c κs. search needs)
     put-note-requires
-    same-length
+    (λ c. search needs)
     returns)

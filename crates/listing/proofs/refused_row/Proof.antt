@@ -6,26 +6,14 @@ use Rattle.listing.specs.RowLaws.{decimal-short}
 use Rattle.listing.proofs.refused_row.Statement.{statement}
 use Rattle.listing.proofs.refused_row.Tie as tie
 
-put-decimal-requires : tie.Need-put-decimal-requires
-put-decimal-requires c κs = search needs
-
-slice-aggregate-put : tie.Need-slice-aggregate-put
-slice-aggregate-put c = search needs
-
 put-requires : tie.Need-put-requires
 put-requires c κs = omega (arith, decimal-short (c .before .before .before .before .before .before .before .args .mark))
 
 put-decimal-requires-2 : tie.Need-put-decimal-requires-2
 put-decimal-requires-2 c κs = omega (arith, decimal-short (c .before .before .before .before .before .before .before .before .before .before .before .args .mark))
 
-slice-aggregate-put-2 : tie.Need-slice-aggregate-put-2
-slice-aggregate-put-2 c = search needs
-
 put-requires-2 : tie.Need-put-requires-2
 put-requires-2 c κs = omega (arith, decimal-short (c .before .before .before .before .before .before .before .before .before .before .before .before .before .before .before .before .args .mark), decimal-short (c .before .before .before .before .before .before .before .before .before .before .before .before .before .before .before .before .args .number))
-
-same-length : tie.Need-same-length
-same-length c = search needs
 
 returns : tie.Need-returns
 unfolding refusedWords
@@ -36,11 +24,11 @@ pub refused-row-spec : {M : Type 1} → statement M
 refused-row-spec =
     tie.close
     (tie.spec
-    put-decimal-requires
-    slice-aggregate-put
+    (λ c κs. search needs)
+    (λ c. search needs)
     put-requires
     put-decimal-requires-2
-    slice-aggregate-put-2
+    (λ c. search needs)
     put-requires-2
-    same-length
+    (λ c. search needs)
     returns)

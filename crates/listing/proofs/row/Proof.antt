@@ -10,50 +10,17 @@ returns : tie.Need-returns
 unfolding ifRoom
 returns c = simp (lt-ltb _ _ (c .if1 .taken)) (refl, refl)
 
-enum-told : tie.Need-enum-told
-enum-told c = search needs
-
-enum-known-answer : tie.Need-enum-known-answer
-enum-known-answer c = search needs
-
-line-row-requires : tie.Need-line-row-requires
-line-row-requires c κs = search needs
-
-enum-told-2 : tie.Need-enum-told-2
-enum-told-2 c = search needs
-
-gap-row-requires : tie.Need-gap-row-requires
-gap-row-requires c κs = search needs
-
-enum-known-answer-2 : tie.Need-enum-known-answer-2
-enum-known-answer-2 c = search needs
-
-cast-refused-row : tie.Need-cast-refused-row
-cast-refused-row c = search needs
-
-refused-row-requires : tie.Need-refused-row-requires
-refused-row-requires c κs = search needs
-
 returns-2 : tie.Need-returns-2
 unfolding ifRoom rowOf
 returns-2 c = simp (le-ltb _ _ (c .before .before .if1 .left), c .enum-told .given .1) (refl, refl)
-
-same-length : tie.Need-same-length
-same-length c = search needs
 
 returns-3 : tie.Need-returns-3
 unfolding ifRoom rowOf
 returns-3 c = simp (le-ltb _ _ (c .before .before .before .before .before .before .before .if1 .left), c .before .before .before .before .before .answer .given .1) (on-front (c .before .before .line-row .ensures))
 
-same-length-2 : tie.Need-same-length-2
-same-length-2 c = search needs
-
 returns-4 : tie.Need-returns-4
 unfolding ifRoom rowOf
 returns-4 c = simp (le-ltb _ _ (c .before .before .before .before .before .before .if1 .left), c .before .before .before .before .enum-told2 .given .1) (on-front (c .before .before .gap-row .ensures))
-
-same-length-3 : tie.Need-same-length-3
-same-length-3 c = search needs
 
 returns-5 : tie.Need-returns-5
 unfolding ifRoom rowOf
@@ -64,18 +31,18 @@ row-spec =
     tie.close
     (tie.spec
     returns
-    enum-told
-    enum-known-answer
-    line-row-requires
-    enum-told-2
-    gap-row-requires
-    enum-known-answer-2
-    cast-refused-row
-    refused-row-requires
+    (λ c. search needs)
+    (λ c. search needs)
+    (λ c κs. search needs)
+    (λ c. search needs)
+    (λ c κs. search needs)
+    (λ c. search needs)
+    (λ c. search needs)
+    (λ c κs. search needs)
     returns-2
-    same-length
+    (λ c. search needs)
     returns-3
-    same-length-2
+    (λ c. search needs)
     returns-4
-    same-length-3
+    (λ c. search needs)
     returns-5)

@@ -6,24 +6,6 @@ use borrow.Author.Needs.{needs}
 use Rattle.mark_answer.proofs.at_mark.Statement.{statement}
 use Rattle.mark_answer.proofs.at_mark.Tie as tie
 
-enum-told : tie.Need-enum-told
-enum-told c = search needs
-
-enum-known-mark : tie.Need-enum-known-mark
-enum-known-mark c = search needs
-
-read-requires : tie.Need-read-requires
-read-requires c κs = search needs
-
-enum-known-reading : tie.Need-enum-known-reading
-enum-known-reading c = search needs
-
-meaning-answer-requires : tie.Need-meaning-answer-requires
-meaning-answer-requires c κs = search needs
-
-enum-told-2 : tie.Need-enum-told-2
-enum-told-2 c = search needs
-
 returns : tie.Need-returns
 unfolding judge
 returns c = simp (c .enum-told .given .1)
@@ -42,12 +24,12 @@ pub at-mark-spec : {M : Type 1} → statement M
 at-mark-spec =
     tie.close
     (tie.spec
-    enum-told
-    enum-known-mark
-    read-requires
-    enum-known-reading
-    meaning-answer-requires
-    enum-told-2
+    (λ c. search needs)
+    (λ c. search needs)
+    (λ c κs. search needs)
+    (λ c. search needs)
+    (λ c κs. search needs)
+    (λ c. search needs)
     returns
     returns-2
     returns-3)

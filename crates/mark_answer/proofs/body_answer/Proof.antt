@@ -24,9 +24,6 @@ short p k body h = go (fits (rules p k) (take (bodyLength p) body)) refl
     go false e = refl
     go true e = absurd (omega (arith, fits-length (rules p k) _ e ∙ rules-length p k, length-take (bodyLength p) body, h))
 
-body-length-requires : tie.Need-body-length-requires
-body-length-requires c κs = search needs
-
 returns : tie.Need-returns
 unfolding require
 returns c =
@@ -35,18 +32,6 @@ returns c =
 
 slice-aggregate-body-fits : tie.Need-slice-aggregate-body-fits
 slice-aggregate-body-fits c = sym (length-take-le _ _ (c .before .if1 .left))
-
-body-fits-requires : tie.Need-body-fits-requires
-body-fits-requires c κs = search needs
-
-read-requires : tie.Need-read-requires
-read-requires c κs = search needs
-
-is-end-requires : tie.Need-is-end-requires
-is-end-requires c κs = search needs
-
-repair-requires : tie.Need-repair-requires
-repair-requires c κs = search needs
 
 returns-2 : tie.Need-returns-2
 unfolding require
@@ -64,13 +49,13 @@ pub body-answer-spec : {M : Type 1} → statement M
 body-answer-spec =
     tie.close
     (tie.spec
-    body-length-requires
+    (λ c κs. search needs)
     returns
     slice-aggregate-body-fits
-    body-fits-requires
-    read-requires
-    is-end-requires
-    repair-requires
+    (λ c κs. search needs)
+    (λ c κs. search needs)
+    (λ c κs. search needs)
+    (λ c κs. search needs)
     returns-2
     returns-3
     returns-4)

@@ -4,18 +4,9 @@ use borrow.Author.Needs.{needs}
 use Rattle.mark_answer.proofs.byte_at.Statement.{statement}
 use Rattle.mark_answer.proofs.byte_at.Tie as tie
 
-mul-result : tie.Need-mul-result
-mul-result c = search needs
-
 returns : tie.Need-returns
 unfolding byteAt
 returns c = simp (eq-eqb _ _ (c .if1 .taken))
-
-add-if2 : tie.Need-add-if2
-add-if2 c = search needs
-
-with-low-requires : tie.Need-with-low-requires
-with-low-requires c κs = search needs
 
 returns-2 : tie.Need-returns-2
 unfolding byteAt
@@ -27,4 +18,4 @@ returns-3 c = simp (ne-eqb _ _ (c .before .if1 .left), ne-eqb _ _ (c .if2 .left)
 
 pub byte-at-spec : {M : Type 1} → statement M
 byte-at-spec =
-    tie.close (tie.spec mul-result returns add-if2 with-low-requires returns-2 returns-3)
+    tie.close (tie.spec (λ c. search needs) returns (λ c. search needs) (λ c κs. search needs) returns-2 returns-3)

@@ -22,18 +22,9 @@ stray-refused VV5300 k n len t h = simp h
 returns : tie.Need-returns
 returns c = simp (stray-refused (c .before .args .profile) (c .before .args .kind) (c .before .args .period .0) (c .before .args .length) (c .before .args .kept) (c .if1 .taken))
 
-enum-told : tie.Need-enum-told
-enum-told c = search needs
-
-enum-told-2 : tie.Need-enum-told-2
-enum-told-2 c = search needs
-
 returns-2 : tie.Need-returns-2
 unfolding require
 returns-2 c = simp (c .before .enum-told2 .given .1, c .before .before .before .if1 .left, lt-leb _ _ (c .if2 .taken))
-
-gap-fits-requires : tie.Need-gap-fits-requires
-gap-fits-requires c κs = search needs
 
 returns-3 : tie.Need-returns-3
 unfolding require goodGap
@@ -58,10 +49,10 @@ gap-answer-spec =
     tie.close
     (tie.spec
     returns
-    enum-told
-    enum-told-2
+    (λ c. search needs)
+    (λ c. search needs)
     returns-2
-    gap-fits-requires
+    (λ c κs. search needs)
     returns-3
     returns-4
     returns-5)

@@ -3,21 +3,6 @@ use Rattle.mark_answer.proofs.ByReading.{no-period}
 use Rattle.mark_answer.proofs.last_answer.Statement.{statement}
 use Rattle.mark_answer.proofs.last_answer.Tie as tie
 
-enum-told : tie.Need-enum-told
-enum-told c = search needs
-
-end-answer-requires : tie.Need-end-answer-requires
-end-answer-requires c κs = search needs
-
-enum-told-2 : tie.Need-enum-told-2
-enum-told-2 c = search needs
-
-enum-told-3 : tie.Need-enum-told-3
-enum-told-3 c = search needs
-
-enum-told-4 : tie.Need-enum-told-4
-enum-told-4 c = search needs
-
 returns : tie.Need-returns
 returns c = λ r.
     let a = c .before .before .before .args in
@@ -36,11 +21,11 @@ pub last-answer-spec : {M : Type 1} → statement M
 last-answer-spec =
     tie.close
     (tie.spec
-    enum-told
-    end-answer-requires
-    enum-told-2
-    enum-told-3
-    enum-told-4
+    (λ c. search needs)
+    (λ c κs. search needs)
+    (λ c. search needs)
+    (λ c. search needs)
+    (λ c. search needs)
     returns
     returns-2
     returns-3

@@ -26,29 +26,11 @@ unknown a b h = by (numberGood a && numberGood b) h
     by true h = cc
     by false h = refl
 
-body-length-requires : tie.Need-body-length-requires
-body-length-requires c κs = search needs
-
 mul-wanted : tie.Need-mul-wanted
 mul-wanted c = omega (arith, c .body-length .ensures, body-small (c .before .before .args .profile))
 
-cast-wanted : tie.Need-cast-wanted
-cast-wanted c = search needs
-
 add-wanted : tie.Need-add-wanted
 add-wanted c = omega (arith, c .body-length .ensures, body-small (c .before .before .args .profile))
-
-decode-requires : tie.Need-decode-requires
-decode-requires c κs = search needs
-
-enum-known-d : tie.Need-enum-known-d
-enum-known-d c = search needs
-
-body-answer-requires : tie.Need-body-answer-requires
-body-answer-requires c κs = search needs
-
-enum-told : tie.Need-enum-told
-enum-told c = search needs
 
 returns : tie.Need-returns
 unfolding require
@@ -72,14 +54,14 @@ pub line-answer-spec : {M : Type 1} → statement M
 line-answer-spec =
     tie.close
     (tie.spec
-    body-length-requires
+    (λ c κs. search needs)
     mul-wanted
-    cast-wanted
+    (λ c. search needs)
     add-wanted
-    decode-requires
-    enum-known-d
-    body-answer-requires
-    enum-told
+    (λ c κs. search needs)
+    (λ c. search needs)
+    (λ c κs. search needs)
+    (λ c. search needs)
     returns
     returns-2
     returns-3)

@@ -2,24 +2,6 @@ use borrow.Author.Needs.{needs}
 use Rattle.mark_answer.proofs.meaning_answer.Statement.{statement}
 use Rattle.mark_answer.proofs.meaning_answer.Tie as tie
 
-enum-told : tie.Need-enum-told
-enum-told c = search needs
-
-end-answer-requires : tie.Need-end-answer-requires
-end-answer-requires c κs = search needs
-
-enum-known-m : tie.Need-enum-known-m
-enum-known-m c = search needs
-
-line-answer-requires : tie.Need-line-answer-requires
-line-answer-requires c κs = search needs
-
-enum-told-2 : tie.Need-enum-told-2
-enum-told-2 c = search needs
-
-enum-told-3 : tie.Need-enum-told-3
-enum-told-3 c = search needs
-
 returns : tie.Need-returns
 returns c =
     let a = c .before .before .before .before .before .args in
@@ -38,13 +20,13 @@ pub meaning-answer-spec : {M : Type 1} → statement M
 meaning-answer-spec =
     tie.close
     (tie.spec
-    enum-told
+    (λ c. search needs)
     (λ c κs. search needs)
-    end-answer-requires
-    enum-known-m
-    line-answer-requires
-    enum-told-2
-    enum-told-3
+    (λ c κs. search needs)
+    (λ c. search needs)
+    (λ c κs. search needs)
+    (λ c. search needs)
+    (λ c. search needs)
     returns
     returns-2
     returns-3

@@ -1,13 +1,12 @@
 use lib.Seq.{set-out}
 use borrow.Author.Tests.{lt-ltb, le-ltb, le-leb, lt-leb, eq-eqb, ne-eqb}
 use Prim.Native.Nat.{ℕ, _-_, _/_, _%_}
-use mathlib.Core.Path.{_≡_, refl, sym}
+use mathlib.Core.Path.{_≡_, sym}
 use mathlib.Core.Bool.{Bool, true, false, cond}
 use mathlib.Core.List.{List}
 use denote.Ref.{now}
-use lib.ListN.{getD, set}
 use lib.Dec.{eqb}
-use Rattle.mark_answer.specs.Kept.{bodyAt, bodyPlace, topPlace}
+use Rattle.mark_answer.specs.Kept.{bodyAt, bodyPlace}
 use borrow.Author.Needs.{needs}
 use Rattle.mark_answer.proofs.store.Statement.{statement}
 use Rattle.mark_answer.proofs.store.Tie as tie
@@ -20,9 +19,6 @@ either-out false b x y e f = sym f
 returns : tie.Need-returns
 unfolding bodyAt
 returns c = simp (lt-leb _ _ (c .if1 .taken))
-
-cast-i : tie.Need-cast-i
-cast-i c = search needs
 
 returns-2 : tie.Need-returns-2
 unfolding bodyAt
@@ -38,33 +34,9 @@ returns-3 c =
     simp (le-leb _ _ (c .before .before .if1 .left), lt-ltb _ _ (c .before .if2 .left))
     (either-out (eqb (a .place % 2) 0) b _ _ (set-out b i _ out) (set-out b i _ out))
 
-top-requires : tie.Need-top-requires
-top-requires c κs = search needs
-
-mul-body : tie.Need-mul-body
-mul-body c = search needs
-
-slice-write-body : tie.Need-slice-write-body
-slice-write-body c = search needs
-
-slice-read-with-low : tie.Need-slice-read-with-low
-slice-read-with-low c = search needs
-
-with-low-requires : tie.Need-with-low-requires
-with-low-requires c κs = search needs
-
-slice-write-body-2 : tie.Need-slice-write-body-2
-slice-write-body-2 c = search needs
-
-same-length : tie.Need-same-length
-same-length c = search needs
-
 returns-4 : tie.Need-returns-4
 unfolding bodyAt
 returns-4 c = simp (le-leb _ _ (c .before .before .before .before .if1 .left), lt-ltb _ _ (c .before .before .before .if2 .left), eq-eqb _ _ (c .if4 .taken), c .before .top .ensures .0)
-
-same-length-2 : tie.Need-same-length-2
-same-length-2 c = search needs
 
 returns-5 : tie.Need-returns-5
 unfolding bodyAt
@@ -75,16 +47,16 @@ store-spec =
     tie.close
     (tie.spec
     returns
-    cast-i
+    (λ c. search needs)
     returns-2
     returns-3
-    top-requires
-    mul-body
-    slice-write-body
-    slice-read-with-low
-    with-low-requires
-    slice-write-body-2
-    same-length
+    (λ c κs. search needs)
+    (λ c. search needs)
+    (λ c. search needs)
+    (λ c. search needs)
+    (λ c κs. search needs)
+    (λ c. search needs)
+    (λ c. search needs)
     returns-4
-    same-length-2
+    (λ c. search needs)
     returns-5)

@@ -8,9 +8,6 @@ returns : tie.Need-returns
 unfolding strayAt
 returns c = simp (c .if1 .taken)
 
-gap-start-requires : tie.Need-gap-start-requires
-gap-start-requires c κs = search needs
-
 returns-2 : tie.Need-returns-2
 unfolding strayAt
 returns-2 c = simp (c .before .before .if1 .left, ← c .before .gap-start .ensures, le-leb _ _ (c .if2 .taken))
@@ -20,4 +17,4 @@ unfolding strayAt
 returns-3 c = simp (c .before .before .if1 .left, ← c .before .gap-start .ensures, lt-leb _ _ (c .if2 .left))
 
 pub stray-at-spec : {M : Type 1} → statement M
-stray-at-spec = tie.close (tie.spec returns gap-start-requires returns-2 returns-3)
+stray-at-spec = tie.close (tie.spec returns (λ c κs. search needs) returns-2 returns-3)

@@ -16,18 +16,6 @@ abbrev μ-loop : tie.MeasureT-loop
 loop-holds : tie.Need-loop-holds Inv-loop μ-loop
 loop-holds c = (search needs, refl)
 
-shared-slice-read-is-pixel : tie.Need-shared-slice-read-is-pixel Inv-loop μ-loop
-shared-slice-read-is-pixel c = search needs
-
-is-pixel-requires : tie.Need-is-pixel-requires Inv-loop μ-loop
-is-pixel-requires c κs = search needs
-
-add-i : tie.Need-add-i Inv-loop μ-loop
-add-i c = search needs
-
-loop-less : tie.Need-loop-less Inv-loop μ-loop
-loop-less c = search needs
-
 loop-again : tie.Need-loop-again Inv-loop μ-loop
 loop-again c =
     (search needs, c .before .before .before .before .loop .inv .1 ∙ pixels-step _ _ (c .before .before .before .loop-test .taken) ∙ simp (← c .before .is-pixel .ensures, c .if1 .taken))
@@ -45,10 +33,10 @@ all-pixels-spec =
     Inv-loop
     μ-loop
     loop-holds
-    shared-slice-read-is-pixel
-    is-pixel-requires
-    add-i
-    loop-less
+    (λ c. search needs)
+    (λ c κs. search needs)
+    (λ c. search needs)
+    (λ c. search needs)
     loop-again
     returns
     returns-2)

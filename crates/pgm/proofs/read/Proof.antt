@@ -9,37 +9,10 @@ use Rattle.pgm.proofs.read.Tie as tie
 returns : tie.Need-returns
 returns c = refuses _ _ _ (cut-header (c .before .before .before .args .file .now) _ (c .if1 .taken))
 
-sub-body : tie.Need-sub-body
-sub-body c = search needs
-
-part-body-start : tie.Need-part-body-start
-part-body-start c = search needs
-
-part-body-end : tie.Need-part-body-end
-part-body-end c = search needs
-
-heads-requires : tie.Need-heads-requires
-heads-requires c κs = search needs
-
-read-as-requires : tie.Need-read-as-requires
-read-as-requires c κs = search needs
-
-same-length : tie.Need-same-length
-same-length c = search needs
-
 returns-2 : tie.Need-returns-2
 unfolding readOf either
 returns-2 c =
     simp (← c .before .before .before .before .before .heads .ensures, c .before .before .before .before .if2 .taken) (rw (part-to-end (c .before .before .before .before .before .before .before .before .before .before .args .file .now) headerLength) at (c .before .before .read-as .ensures))
-
-heads-requires-2 : tie.Need-heads-requires-2
-heads-requires-2 c κs = search needs
-
-read-as-requires-2 : tie.Need-read-as-requires-2
-read-as-requires-2 c κs = search needs
-
-same-length-2 : tie.Need-same-length-2
-same-length-2 c = search needs
 
 returns-3 : tie.Need-returns-3
 unfolding readOf either
@@ -56,15 +29,15 @@ read-spec =
     tie.close
     (tie.spec
     returns
-    sub-body
-    part-body-start
-    part-body-end
-    heads-requires
-    read-as-requires
-    same-length
+    (λ c. search needs)
+    (λ c. search needs)
+    (λ c. search needs)
+    (λ c κs. search needs)
+    (λ c κs. search needs)
+    (λ c. search needs)
     returns-2
-    heads-requires-2
-    read-as-requires-2
-    same-length-2
+    (λ c κs. search needs)
+    (λ c κs. search needs)
+    (λ c. search needs)
     returns-3
     returns-4)

@@ -11,27 +11,15 @@ use borrow.Author.Needs.{needs}
 use Rattle.pgm.proofs.read_as.Statement.{statement}
 use Rattle.pgm.proofs.read_as.Tie as tie
 
-size-requires : tie.Need-size-requires
-size-requires c κs = search needs
-
 returns : tie.Need-returns
 unfolding require
 returns c = refuses _ _ _ (simp (ne-eqb _ (size (c .before .before .before .before .args .borders)) (λ e. c .if1 .taken (e ∙ sym (c .before .size .ensures)))))
-
-all-pixels-requires : tie.Need-all-pixels-requires
-all-pixels-requires c κs = search needs
 
 returns-2 : tie.Need-returns-2
 unfolding require
 returns-2 c =
     refuses _ _ _
     (simp (eq-eqb _ (size (c .before .before .before .before .before .before .before .args .borders)) (c .before .before .before .if1 .left ∙ c .before .before .before .before .size .ensures), ← c .before .before .all-pixels .ensures, c .before .if2 .taken, lt-leb _ _ (c .if3 .taken)))
-
-copy-requires : tie.Need-copy-requires
-copy-requires c κs = search needs
-
-same-length : tie.Need-same-length
-same-length c = search needs
 
 returns-3 : tie.Need-returns-3
 unfolding require
@@ -53,11 +41,11 @@ pub read-as-spec : {M : Type 1} → statement M
 read-as-spec =
     tie.close
     (tie.spec
-    size-requires
+    (λ c κs. search needs)
     returns
-    all-pixels-requires
+    (λ c κs. search needs)
     returns-2
-    copy-requires
-    same-length
+    (λ c κs. search needs)
+    (λ c. search needs)
     returns-3
     returns-4)

@@ -7,27 +7,9 @@ use borrow.Author.Needs.{needs}
 use Rattle.pgm.proofs.write.Statement.{statement}
 use Rattle.pgm.proofs.write.Tie as tie
 
-size-requires : tie.Need-size-requires
-size-requires c κs = search needs
-
-write-as-requires : tie.Need-write-as-requires
-write-as-requires c κs = search needs
-
-same-length : tie.Need-same-length
-same-length c = search needs
-
 returns : tie.Need-returns
 unfolding writeOf either
 returns c = simp (eq-eqb _ (size On) (c .before .before .before .before .if1 .taken ∙ c .before .before .before .before .before .size .ensures)) (c .before .before .write-as .ensures)
-
-size-requires-2 : tie.Need-size-requires-2
-size-requires-2 c κs = search needs
-
-write-as-requires-2 : tie.Need-write-as-requires-2
-write-as-requires-2 c κs = search needs
-
-same-length-2 : tie.Need-same-length-2
-same-length-2 c = search needs
 
 returns-2 : tie.Need-returns-2
 unfolding writeOf either
@@ -45,12 +27,12 @@ pub write-spec : {M : Type 1} → statement M
 write-spec =
     tie.close
     (tie.spec
-    size-requires
-    write-as-requires
-    same-length
+    (λ c κs. search needs)
+    (λ c κs. search needs)
+    (λ c. search needs)
     returns
-    size-requires-2
-    write-as-requires-2
-    same-length-2
+    (λ c κs. search needs)
+    (λ c κs. search needs)
+    (λ c. search needs)
     returns-2
     returns-3)

@@ -8,41 +8,11 @@ use borrow.Author.Needs.{needs}
 use Rattle.pgm.proofs.write_as.Statement.{statement}
 use Rattle.pgm.proofs.write_as.Tie as tie
 
-all-pixels-requires : tie.Need-all-pixels-requires
-all-pixels-requires c κs = search needs
-
-add-length : tie.Need-add-length
-add-length c = search needs
-
 returns : tie.Need-returns
 unfolding require
 returns c =
     let a = c .before .before .before .before .before .args in
     refuses _ _ _ (simp (← c .before .before .all-pixels .ensures, c .before .if1 .taken, image-length (a .borders) (a .rows .now), lt-leb _ _ (c .if2 .taken)))
-
-header-requires : tie.Need-header-requires
-header-requires c κs = search needs
-
-slice-aggregate-copy : tie.Need-slice-aggregate-copy
-slice-aggregate-copy c = search needs
-
-copy-requires : tie.Need-copy-requires
-copy-requires c κs = search needs
-
-sub-copy : tie.Need-sub-copy
-sub-copy c = search needs
-
-part-copy-start : tie.Need-part-copy-start
-part-copy-start c = search needs
-
-part-copy-end : tie.Need-part-copy-end
-part-copy-end c = search needs
-
-copy-requires-2 : tie.Need-copy-requires-2
-copy-requires-2 c κs = search needs
-
-same-length : tie.Need-same-length
-same-length c = search needs
 
 returns-2 : tie.Need-returns-2
 unfolding require
@@ -61,16 +31,16 @@ pub write-as-spec : {M : Type 1} → statement M
 write-as-spec =
     tie.close
     (tie.spec
-    all-pixels-requires
-    add-length
+    (λ c κs. search needs)
+    (λ c. search needs)
     returns
-    header-requires
-    slice-aggregate-copy
-    copy-requires
-    sub-copy
-    part-copy-start
-    part-copy-end
-    copy-requires-2
-    same-length
+    (λ c κs. search needs)
+    (λ c. search needs)
+    (λ c κs. search needs)
+    (λ c. search needs)
+    (λ c. search needs)
+    (λ c. search needs)
+    (λ c κs. search needs)
+    (λ c. search needs)
     returns-2
     returns-3)

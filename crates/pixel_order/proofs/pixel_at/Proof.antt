@@ -4,22 +4,13 @@ use borrow.Author.Needs.{needs}
 use Rattle.pixel_order.proofs.pixel_at.Statement.{statement}
 use Rattle.pixel_order.proofs.pixel_at.Tie as tie
 
-mul-result : tie.Need-mul-result
-mul-result c = search needs
-
-add-result : tie.Need-add-result
-add-result c = search needs
-
 returns : tie.Need-returns
 unfolding pixelAt
 returns c = simp (lt-ltb _ _ (c .if1 .taken))
-
-mul-result-2 : tie.Need-mul-result-2
-mul-result-2 c = search needs
 
 returns-2 : tie.Need-returns-2
 unfolding pixelAt
 returns-2 c = simp (le-ltb _ _ (c .if1 .left))
 
 pub pixel-at-spec : {M : Type 1} → statement M
-pixel-at-spec = tie.close (tie.spec mul-result add-result returns mul-result-2 returns-2)
+pixel-at-spec = tie.close (tie.spec (λ c. search needs) (λ c. search needs) returns (λ c. search needs) returns-2)

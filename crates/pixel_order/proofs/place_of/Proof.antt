@@ -4,19 +4,13 @@ use borrow.Author.Needs.{needs}
 use Rattle.pixel_order.proofs.place_of.Statement.{statement}
 use Rattle.pixel_order.proofs.place_of.Tie as tie
 
-sub-result : tie.Need-sub-result
-sub-result c = search needs
-
 returns : tie.Need-returns
 unfolding placeOf
 returns c = simp (eq-eqb _ 1 (c .if1 .taken))
-
-add-result : tie.Need-add-result
-add-result c = search needs
 
 returns-2 : tie.Need-returns-2
 unfolding placeOf
 returns-2 c = simp (ne-eqb _ 1 (c .if1 .left))
 
 pub place-of-spec : {M : Type 1} → statement M
-place-of-spec = tie.close (tie.spec sub-result returns add-result returns-2)
+place-of-spec = tie.close (tie.spec (λ c. search needs) returns (λ c. search needs) returns-2)

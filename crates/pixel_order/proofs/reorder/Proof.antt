@@ -11,9 +11,6 @@ use borrow.Author.Needs.{needs}
 use Rattle.pixel_order.proofs.reorder.Statement.{statement}
 use Rattle.pixel_order.proofs.reorder.Tie as tie
 
-number-requires : tie.Need-number-requires
-number-requires c κs = search needs
-
 returns : tie.Need-returns
 unfolding reorderOf require
 returns c = refuses _ _ _ (simp (ne-eqb _ (kindNumber VL) (λ e. c .if1 .taken (e ∙ sym (c .before .number .ensures)))))
@@ -29,12 +26,6 @@ returns-3 c =
     refuses _ _ _
     (simp (eq-eqb _ (kindNumber VL) (c .before .before .if1 .left ∙ c .before .before .before .number .ensures), eq-eqb _ longest (c .before .if2 .left), reordered-length (a .way) (a .from .now), lt-leb _ _ (c .if3 .taken)))
 
-put-requires : tie.Need-put-requires
-put-requires c κs = search needs
-
-same-length : tie.Need-same-length
-same-length c = search needs
-
 returns-4 : tie.Need-returns-4
 returns-4 c =
     let a = c .before .before .before .before .before .before .before .before .before .before .args in
@@ -46,4 +37,4 @@ returns-4 c =
 pub reorder-spec : {M : Type 1} → statement M
 reorder-spec =
     tie.close
-    (tie.spec number-requires returns returns-2 returns-3 put-requires same-length returns-4)
+    (tie.spec (λ c κs. search needs) returns returns-2 returns-3 (λ c κs. search needs) (λ c. search needs) returns-4)

@@ -5,12 +5,6 @@ use borrow.Author.Needs.{needs}
 use Rattle.reader.proofs.aged.Statement.{statement}
 use Rattle.reader.proofs.aged.Tie as tie
 
-mul-result : tie.Need-mul-result
-mul-result c = search needs
-
-shr-result : tie.Need-shr-result
-shr-result c = search needs
-
 returns : tie.Need-returns
 returns c = sym (aged-shift _ _)
 
@@ -18,4 +12,4 @@ returns-2 : tie.Need-returns-2
 returns-2 c = all-aged (c .before .args .k) (c .before .args .window) (omega arith) (omega arith)
 
 pub aged-spec : {M : Type 1} → statement M
-aged-spec = tie.close (tie.spec mul-result shr-result returns returns-2)
+aged-spec = tie.close (tie.spec (λ c. search needs) (λ c. search needs) returns returns-2)

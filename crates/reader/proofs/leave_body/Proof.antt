@@ -8,15 +8,9 @@ returns : tie.Need-returns
 unfolding leaveBody
 returns c = simp (lt-leb _ _ (c .if1 .taken))
 
-store-requires : tie.Need-store-requires
-store-requires c κs = search needs
-
-same-length : tie.Need-same-length
-same-length c = search needs
-
 returns-2 : tie.Need-returns-2
 unfolding leaveBody
 returns-2 c = simp (le-leb _ _ (c .before .before .before .before .before .if1 .left), c .before .before .store .ensures)
 
 pub leave-body-spec : {M : Type 1} → statement M
-leave-body-spec = tie.close (tie.spec returns store-requires same-length returns-2)
+leave-body-spec = tie.close (tie.spec returns (λ c κs. search needs) (λ c. search needs) returns-2)

@@ -8,12 +8,9 @@ returns : tie.Need-returns
 unfolding leaveKept
 returns c = simp (lt-leb _ _ (c .if1 .taken))
 
-commit-requires : tie.Need-commit-requires
-commit-requires c κs = search needs
-
 returns-2 : tie.Need-returns-2
 unfolding leaveKept
 returns-2 c = simp (le-leb _ _ (c .before .before .if1 .left), c .commit .ensures)
 
 pub leave-kept-spec : {M : Type 1} → statement M
-leave-kept-spec = tie.close (tie.spec returns commit-requires returns-2)
+leave-kept-spec = tie.close (tie.spec returns (λ c κs. search needs) returns-2)

@@ -6,20 +6,8 @@ use Rattle.reader.proofs.marked_fits.Tie as tie
 returns : tie.Need-returns
 returns c = λ b. simp (lt-leb _ _ (c .if1 .taken))
 
-aged-requires : tie.Need-aged-requires
-aged-requires c κs = search needs
-
 returns-2 : tie.Need-returns-2
 returns-2 c = λ b. simp (le-leb _ _ (c .before .before .if1 .left), le-leb _ _ (c .before .if2 .taken), c .aged .ensures)
-
-add-if3 : tie.Need-add-if3
-add-if3 c = search needs
-
-sub-aged : tie.Need-sub-aged
-sub-aged c = search needs
-
-aged-requires-2 : tie.Need-aged-requires-2
-aged-requires-2 c κs = search needs
 
 returns-3 : tie.Need-returns-3
 returns-3 c = λ b. simp (le-leb _ _ (c .before .before .before .if1 .left), lt-leb _ _ (c .before .before .if2 .left), eq-eqb _ _ (c .before .if3 .taken), c .aged2 .ensures)
@@ -30,4 +18,4 @@ returns-4 c = λ b. simp (le-leb _ _ (c .before .before .if1 .left), lt-leb _ _ 
 pub marked-fits-spec : {M : Type 1} → statement M
 marked-fits-spec =
     tie.close
-    (tie.spec returns aged-requires returns-2 add-if3 sub-aged aged-requires-2 returns-3 returns-4)
+    (tie.spec returns (λ c κs. search needs) returns-2 (λ c. search needs) (λ c. search needs) (λ c κs. search needs) returns-3 returns-4)

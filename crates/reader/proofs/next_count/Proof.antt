@@ -4,9 +4,6 @@ use borrow.Author.Needs.{needs}
 use Rattle.reader.proofs.next_count.Statement.{statement}
 use Rattle.reader.proofs.next_count.Tie as tie
 
-add-result : tie.Need-add-result
-add-result c = search needs
-
 returns : tie.Need-returns
 unfolding bump
 returns c = simp (lt-ltb _ _ (c .if1 .taken))
@@ -16,4 +13,4 @@ unfolding bump
 returns-2 c = simp (le-ltb _ _ (c .if1 .left))
 
 pub next-count-spec : {M : Type 1} → statement M
-next-count-spec = tie.close (tie.spec add-result returns returns-2)
+next-count-spec = tie.close (tie.spec (λ c. search needs) returns returns-2)

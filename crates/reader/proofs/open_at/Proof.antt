@@ -2,14 +2,8 @@ use borrow.Author.Needs.{needs}
 use Rattle.reader.proofs.open_at.Statement.{statement}
 use Rattle.reader.proofs.open_at.Tie as tie
 
-kind-requires : tie.Need-kind-requires
-kind-requires c κs = search needs
-
-nothing-requires : tie.Need-nothing-requires
-nothing-requires c κs = search needs
-
 returns : tie.Need-returns
 returns c = simp (c .nothing .ensures, c .before .of .ensures, c .before .before .kind .ensures)
 
 pub open-at-spec : {M : Type 1} → statement M
-open-at-spec = tie.close (tie.spec kind-requires (λ c κs. search needs) nothing-requires returns)
+open-at-spec = tie.close (tie.spec (λ c κs. search needs) (λ c κs. search needs) (λ c κs. search needs) returns)

@@ -6,11 +6,8 @@ use Rattle.reader.proofs.unmarked_fits.Tie as tie
 returns : tie.Need-returns
 returns c = simp (lt-leb _ _ (c .if1 .taken))
 
-aged-requires : tie.Need-aged-requires
-aged-requires c κs = search needs
-
 returns-2 : tie.Need-returns-2
 returns-2 c = simp (le-leb _ _ (c .before .if1 .left), c .aged .ensures)
 
 pub unmarked-fits-spec : {M : Type 1} → statement M
-unmarked-fits-spec = tie.close (tie.spec returns aged-requires returns-2)
+unmarked-fits-spec = tie.close (tie.spec returns (λ c κs. search needs) returns-2)

@@ -5,27 +5,18 @@ use borrow.Author.Needs.{needs}
 use Rattle.registers.proofs.answer.Statement.{statement}
 use Rattle.registers.proofs.answer.Tie as tie
 
-answer-requires : tie.Need-answer-requires
-answer-requires c κs = search needs
-
 array-share-prefix-out : tie.Need-array-share-prefix-out
 array-share-prefix-out c = told-within _ _ (c .before .before .before .args .line .now) _ _ _ refl (c .answer .ensures)
 
 slice-aggregate-write-all : tie.Need-slice-aggregate-write-all
 slice-aggregate-write-all c = sym (length-take-le _ _ (told-within _ _ (c .before .before .before .before .args .line .now) _ _ _ refl (c .before .answer .ensures)))
 
-write-all-requires : tie.Need-write-all-requires
-write-all-requires c κs = search needs
-
-returns : tie.Need-returns
-returns c = search needs
-
 pub answer-spec : {M : Type 1} → statement M
 answer-spec =
     tie.close
     (tie.spec
-    answer-requires
+    (λ c κs. search needs)
     array-share-prefix-out
     slice-aggregate-write-all
-    write-all-requires
-    returns)
+    (λ c κs. search needs)
+    (λ c. search needs))

@@ -12,26 +12,8 @@ Inv-loop text sensor₀ start₀ sensor start = start ≤ length text
 abbrev μ-loop : tie.MeasureT-loop
 μ-loop text sensor₀ start₀ sensor start = length text - start
 
-new-requires : tie.Need-new-requires Inv-loop μ-loop
-new-requires c κs = search needs
-
-loop-holds : tie.Need-loop-holds Inv-loop μ-loop
-loop-holds c = search needs
-
-line-end-requires : tie.Need-line-end-requires Inv-loop μ-loop
-line-end-requires c κs = search needs
-
-sub-answer : tie.Need-sub-answer Inv-loop μ-loop
-sub-answer c = search needs
-
-part-answer-start : tie.Need-part-answer-start Inv-loop μ-loop
-part-answer-start c = search needs
-
 part-answer-end : tie.Need-part-answer-end Inv-loop μ-loop
 part-answer-end c = omega (arith, line-within (c .before .before .before .before .before .args .text .now) (c .before .before .loop .start) (c .before .before .loop .inv))
-
-answer-requires : tie.Need-answer-requires Inv-loop μ-loop
-answer-requires c κs = search needs
 
 returns : tie.Need-returns Inv-loop μ-loop
 returns c = tt
@@ -54,13 +36,13 @@ answer-all-spec =
     (tie.spec
     Inv-loop
     μ-loop
-    new-requires
-    loop-holds
-    line-end-requires
-    sub-answer
-    part-answer-start
+    (λ c κs. search needs)
+    (λ c. search needs)
+    (λ c κs. search needs)
+    (λ c. search needs)
+    (λ c. search needs)
     part-answer-end
-    answer-requires
+    (λ c κs. search needs)
     returns
     add-start
     loop-less

@@ -45,41 +45,11 @@ taken-fits c =
     let w = taken-within (l .l) (length (l .out)) (rest c) in
     omega (arith, t, w, e, c .before .before .before .loop-test .taken)
 
-large-buffer-requires : tie.Need-large-buffer-requires Inv-loop μ-loop
-large-buffer-requires c κs = search needs
-
-loop-holds : tie.Need-loop-holds Inv-loop μ-loop
-loop-holds c = search needs
-
-sub-list : tie.Need-sub-list Inv-loop μ-loop
-sub-list c = search needs
-
-part-list-start : tie.Need-part-list-start Inv-loop μ-loop
-part-list-start c = search needs
-
-part-list-end : tie.Need-part-list-end Inv-loop μ-loop
-part-list-end c = search needs
-
-slice-aggregate-list : tie.Need-slice-aggregate-list Inv-loop μ-loop
-slice-aggregate-list c = search needs
-
-list-requires : tie.Need-list-requires Inv-loop μ-loop
-list-requires c κs = search needs
-
 array-share-prefix-out : tie.Need-array-share-prefix-out Inv-loop μ-loop
 array-share-prefix-out c = used-fits (c .before .before)
 
 slice-aggregate-write : tie.Need-slice-aggregate-write Inv-loop μ-loop
 slice-aggregate-write c = sym (length-take-le _ _ (used-fits (c .before .before .before)))
-
-write-requires : tie.Need-write-requires Inv-loop μ-loop
-write-requires c κs = search needs
-
-failed-requires : tie.Need-failed-requires Inv-loop μ-loop
-failed-requires c κs = search needs
-
-returns : tie.Need-returns Inv-loop μ-loop
-returns c = search needs
 
 add-at : tie.Need-add-at Inv-loop μ-loop
 add-at c = omega (arith, taken-fits (c .before .before .before .before .before .before .before .before), c .before .before .before .before .before .before .before .before .before .before .before .before .before .before .before .good .1 .0 .0)
@@ -90,36 +60,27 @@ loop-less c = omega (arith, c .before .if2 .left, taken-fits (c .before .before 
 loop-again : tie.Need-loop-again Inv-loop μ-loop
 loop-again c = (taken-fits (c .before .before .before .before .before .before .before .before), c .before .before .before .before .before .before .before .before .before .before .before .before .loop .inv .1 ∙ sym (c .before .before .before .before .before .before .before .before .list .kept .1 .1 .0))
 
-failed-requires-2 : tie.Need-failed-requires-2 Inv-loop μ-loop
-failed-requires-2 c κs = search needs
-
-returns-2 : tie.Need-returns-2 Inv-loop μ-loop
-returns-2 c = search needs
-
-returns-3 : tie.Need-returns-3 Inv-loop μ-loop
-returns-3 c = search needs
-
 pub list-piece-spec : {M : Type 1} → statement M
 list-piece-spec =
     tie.close
     (tie.spec
     Inv-loop
     μ-loop
-    large-buffer-requires
-    loop-holds
-    sub-list
-    part-list-start
-    part-list-end
-    slice-aggregate-list
-    list-requires
+    (λ c κs. search needs)
+    (λ c. search needs)
+    (λ c. search needs)
+    (λ c. search needs)
+    (λ c. search needs)
+    (λ c. search needs)
+    (λ c κs. search needs)
     array-share-prefix-out
     slice-aggregate-write
-    write-requires
-    failed-requires
-    returns
+    (λ c κs. search needs)
+    (λ c κs. search needs)
+    (λ c. search needs)
     add-at
     loop-less
     loop-again
-    failed-requires-2
-    returns-2
-    returns-3)
+    (λ c κs. search needs)
+    (λ c. search needs)
+    (λ c. search needs))

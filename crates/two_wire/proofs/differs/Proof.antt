@@ -4,9 +4,6 @@ use borrow.Author.Needs.{needs}
 use Rattle.two_wire.proofs.differs.Statement.{statement}
 use Rattle.two_wire.proofs.differs.Tie as tie
 
-element-copy-out-if2 : tie.Need-element-copy-out-if2
-element-copy-out-if2 c = search needs
-
 returns : tie.Need-returns
 unfolding differs
 returns c = simp (le-ltb _ _ (c .before .before .if1 .taken), le-ltb 127 (c .before .before .before .args .index) (c .before .before .before .pre), eq-eqb _ _ (c .if2 .taken))
@@ -20,4 +17,4 @@ unfolding differs
 returns-3 c = simp (lt-ltb _ _ (c .if1 .left))
 
 pub differs-spec : {M : Type 1} → statement M
-differs-spec = tie.close (tie.spec element-copy-out-if2 returns returns-2 returns-3)
+differs-spec = tie.close (tie.spec (λ c. search needs) returns returns-2 returns-3)

@@ -3,9 +3,6 @@ use borrow.Author.Needs.{needs}
 use Rattle.two_wire.proofs.next.Statement.{statement}
 use Rattle.two_wire.proofs.next.Tie as tie
 
-add-result : tie.Need-add-result
-add-result c = search needs
-
 returns : tie.Need-returns
 unfolding next
 returns c = simp (c .if1 .taken)
@@ -15,4 +12,4 @@ unfolding next
 returns-2 c = simp (c .if1 .left)
 
 pub next-spec : {M : Type 1} → statement M
-next-spec = tie.close (tie.spec add-result returns returns-2)
+next-spec = tie.close (tie.spec (λ c. search needs) returns returns-2)

@@ -4,12 +4,6 @@ use borrow.Author.Needs.{needs}
 use Rattle.two_wire.proofs.passes.Statement.{statement}
 use Rattle.two_wire.proofs.passes.Tie as tie
 
-sub-result : tie.Need-sub-result
-sub-result c = search needs
-
-cast-result : tie.Need-cast-result
-cast-result c = search needs
-
 returns : tie.Need-returns
 returns c = let a = c .before .args in
     simp (c .if1 .taken) (sym (passes-counts (a .index) (a .bytes .now) (search needs)))
@@ -19,4 +13,4 @@ returns-2 c = let a = c .before .args in
     simp (c .if1 .left) (sym (passes-still (a .index) (a .bytes .now) (c .before .pre)))
 
 pub passes-spec : {M : Type 1} → statement M
-passes-spec = tie.close (tie.spec sub-result cast-result returns returns-2)
+passes-spec = tie.close (tie.spec (λ c. search needs) (λ c. search needs) returns returns-2)

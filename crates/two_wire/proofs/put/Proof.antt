@@ -8,12 +8,9 @@ returns : tie.Need-returns
 unfolding put
 returns c = simp (lt-ltb _ _ (c .if1 .taken))
 
-element-write-registers : tie.Need-element-write-registers
-element-write-registers c = search needs
-
 returns-2 : tie.Need-returns-2
 unfolding put
 returns-2 c = simp (le-ltb _ _ (c .if1 .left))
 
 pub put-spec : {M : Type 1} → statement M
-put-spec = tie.close (tie.spec returns element-write-registers returns-2)
+put-spec = tie.close (tie.spec returns (λ c. search needs) returns-2)

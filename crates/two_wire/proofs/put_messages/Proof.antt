@@ -21,9 +21,6 @@ abbrev μ-loop : tie.MeasureT-loop
 loop-holds : tie.Need-loop-holds Inv-loop μ-loop
 loop-holds c = (search needs, c .before .before .pre .0, refl, search needs, refl)
 
-shared-slice-read-put-message : tie.Need-shared-slice-read-put-message Inv-loop μ-loop
-shared-slice-read-put-message c = search needs
-
 add-put-message : tie.Need-add-put-message Inv-loop μ-loop
 add-put-message c = omega (arith, pair-whole _ _ (c .before .loop-test .taken) (c .before .before .loop .inv .1))
 
@@ -44,9 +41,6 @@ loop-again c = let l = c .before .before .before .before .before .before .before
     let t = c .before .before .before .before .before .before .loop-test .taken in
     (omega (arith, pair-whole _ _ t (l .1)), ends-step _ _ t (l .1), search needs, omega (arith, step-length _ _ t (l .1)), simp (c .before .before .put-message .ensures .0, c .before .before .put-message .ensures .1) (step-sets _ _ t (l .1) _ _ ∙ l .4))
 
-same-length : tie.Need-same-length Inv-loop μ-loop
-same-length c = search needs
-
 returns : tie.Need-returns Inv-loop μ-loop
 returns c = let l = c .before .loop .inv in
     let e = drop-of-length-le (c .before .before .before .before .args .pairs .now) (c .loop-test .left) in
@@ -59,12 +53,12 @@ put-messages-spec =
     Inv-loop
     μ-loop
     loop-holds
-    shared-slice-read-put-message
+    (λ c. search needs)
     add-put-message
     shared-slice-read-put-message-2
     put-message-requires
     add-i
     loop-less
     loop-again
-    same-length
+    (λ c. search needs)
     returns)

@@ -21,23 +21,8 @@ returns c = let a = c .before .before .before .before .args in
     let l = c .before .before .loop in
     sym (l .inv .1 ∙ past-alike (a .increment) (l .at) (drop (l .i) (a .bytes .now)) (a .registers .now) (c .if1 .taken))
 
-shared-slice-read-differs : tie.Need-shared-slice-read-differs Inv-loop μ-loop
-shared-slice-read-differs c = search needs
-
-differs-requires : tie.Need-differs-requires Inv-loop μ-loop
-differs-requires c κs = search needs
-
 returns-2 : tie.Need-returns-2 Inv-loop μ-loop
 returns-2 c = sym (c .before .before .before .before .before .loop .inv .1 ∙ differs-step _ _ _ (c .before .before .before .before .loop-test .taken) _ _ ∙ simp (← c .before .differs .ensures, c .if2 .taken))
-
-next-requires : tie.Need-next-requires Inv-loop μ-loop
-next-requires c κs = search needs
-
-add-i : tie.Need-add-i Inv-loop μ-loop
-add-i c = search needs
-
-loop-less : tie.Need-loop-less Inv-loop μ-loop
-loop-less c = search needs
 
 loop-again : tie.Need-loop-again Inv-loop μ-loop
 loop-again c = (search needs, c .before .before .before .before .before .before .loop .inv .1 ∙ differs-step _ _ _ (c .before .before .before .before .before .loop-test .taken) _ _ ∙ simp (← c .before .before .differs .ensures, c .before .if2 .left, c .next .ensures))
@@ -53,11 +38,11 @@ some-differs-spec =
     μ-loop
     loop-holds
     returns
-    shared-slice-read-differs
-    differs-requires
+    (λ c. search needs)
+    (λ c κs. search needs)
     returns-2
-    next-requires
-    add-i
-    loop-less
+    (λ c κs. search needs)
+    (λ c. search needs)
+    (λ c. search needs)
     loop-again
     returns-3)

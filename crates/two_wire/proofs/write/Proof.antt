@@ -32,9 +32,6 @@ put-messages-requires : tie.Need-put-messages-requires
 put-messages-requires c κs = let pairs = c .before .before .before .before .before .before .before .args .pairs .now in
     (ends-odd pairs ∙ ne-eqb _ _ (c .before .before .before .before .if1 .left), omega (arith, messages-length pairs))
 
-same-length : tie.Need-same-length
-same-length c = search needs
-
 returns-4 : tie.Need-returns-4
 returns-4 c = let a = c .before .before .before .before .before .before .before .before .before .before .args in
     let even = ends-odd (a .pairs .now) ∙ ne-eqb _ _ (c .before .before .before .before .before .before .before .if1 .left) in
@@ -50,5 +47,5 @@ write-spec =
     returns-2
     returns-3
     put-messages-requires
-    same-length
+    (λ c. search needs)
     returns-4)

@@ -5,30 +5,6 @@ use borrow.Author.Needs.{needs}
 use Rattle.two_wire_text.proofs.answer.Statement.{statement}
 use Rattle.two_wire_text.proofs.answer.Tie as tie
 
-read-setting-requires : tie.Need-read-setting-requires
-read-setting-requires c κs = search needs
-
-enum-known-asked : tie.Need-enum-known-asked
-enum-known-asked c = search needs
-
-put-message-requires : tie.Need-put-message-requires
-put-message-requires c κs = search needs
-
-enum-known-asked-2 : tie.Need-enum-known-asked-2
-enum-known-asked-2 c = search needs
-
-put-message-requires-2 : tie.Need-put-message-requires-2
-put-message-requires-2 c κs = search needs
-
-put-message-requires-3 : tie.Need-put-message-requires-3
-put-message-requires-3 c κs = search needs
-
-enum-told : tie.Need-enum-told
-enum-told c = search needs
-
-explain-requires : tie.Need-explain-requires
-explain-requires c κs = search needs
-
 returns : tie.Need-returns
 unfolding textBy sensorBy
 returns c = let p = at-front (c .put-message .ensures) in
@@ -46,14 +22,14 @@ pub answer-spec : {M : Type 1} → statement M
 answer-spec =
     tie.close
     (tie.spec
-    read-setting-requires
-    enum-known-asked
-    put-message-requires
-    enum-known-asked-2
-    put-message-requires-2
-    put-message-requires-3
-    enum-told
-    explain-requires
+    (λ c κs. search needs)
+    (λ c. search needs)
+    (λ c κs. search needs)
+    (λ c. search needs)
+    (λ c κs. search needs)
+    (λ c κs. search needs)
+    (λ c. search needs)
+    (λ c κs. search needs)
     returns
     returns-2
     returns-3)

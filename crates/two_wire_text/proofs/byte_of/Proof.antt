@@ -3,27 +3,6 @@ use borrow.Author.Needs.{needs}
 use Rattle.two_wire_text.proofs.byte_of.Statement.{statement}
 use Rattle.two_wire_text.proofs.byte_of.Tie as tie
 
-digit-requires : tie.Need-digit-requires
-digit-requires c κs = search needs
-
-cast-high : tie.Need-cast-high
-cast-high c = search needs
-
-digit-requires-2 : tie.Need-digit-requires-2
-digit-requires-2 c κs = search needs
-
-cast-low : tie.Need-cast-low
-cast-low c = search needs
-
-mul-result : tie.Need-mul-result
-mul-result c = search needs
-
-add-result : tie.Need-add-result
-add-result c = search needs
-
-cast-result : tie.Need-cast-result
-cast-result c = search needs
-
 returns : tie.Need-returns
 unfolding byteOf
 returns c = simp (c .before .digit .ensures, c .digit2 .ensures)
@@ -32,11 +11,11 @@ pub byte-of-spec : {M : Type 1} → statement M
 byte-of-spec =
     tie.close
     (tie.spec
-    digit-requires
-    cast-high
-    digit-requires-2
-    cast-low
-    mul-result
-    add-result
-    cast-result
+    (λ c κs. search needs)
+    (λ c. search needs)
+    (λ c κs. search needs)
+    (λ c. search needs)
+    (λ c. search needs)
+    (λ c. search needs)
+    (λ c. search needs)
     returns)

@@ -9,12 +9,9 @@ returns : tie.Need-returns
 unfolding charFits
 returns c = simp (eq-eqb (c .before .args .place % 3) 2 (c .if1 .taken))
 
-digit-requires : tie.Need-digit-requires
-digit-requires c κs = search needs
-
 returns-2 : tie.Need-returns-2
 unfolding charFits
 returns-2 c = simp (ne-eqb (c .before .before .args .place % 3) 2 (c .before .if1 .left), c .digit .ensures)
 
 pub char-fits-spec : {M : Type 1} → statement M
-char-fits-spec = tie.close (tie.spec returns digit-requires returns-2)
+char-fits-spec = tie.close (tie.spec returns (λ c κs. search needs) returns-2)

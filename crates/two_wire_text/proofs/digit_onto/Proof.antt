@@ -16,15 +16,6 @@ returns-3 : tie.Need-returns-3
 unfolding digitOnto
 returns-3 c = simp (le-ltb _ _ (c .before .before .if1 .left), le-ltb _ _ (c .before .if2 .left), lt-ltb _ _ (c .if3 .taken))
 
-mul-more : tie.Need-mul-more
-mul-more c = search needs
-
-cast-more : tie.Need-cast-more
-cast-more c = search needs
-
-add-more : tie.Need-add-more
-add-more c = search needs
-
 returns-4 : tie.Need-returns-4
 unfolding digitOnto
 returns-4 c = simp (le-ltb _ _ (c .before .before .before .if1 .left), le-ltb _ _ (c .before .before .if2 .left), le-ltb _ _ (c .before .if3 .left), lt-ltb _ _ (c .if4 .taken))
@@ -36,4 +27,4 @@ returns-5 c = simp (le-ltb _ _ (c .before .before .before .if1 .left), le-ltb _ 
 pub digit-onto-spec : {M : Type 1} → statement M
 digit-onto-spec =
     tie.close
-    (tie.spec returns returns-2 returns-3 mul-more cast-more add-more returns-4 returns-5)
+    (tie.spec returns returns-2 returns-3 (λ c. search needs) (λ c. search needs) (λ c. search needs) returns-4 returns-5)

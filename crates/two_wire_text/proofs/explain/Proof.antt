@@ -5,21 +5,9 @@ use borrow.Author.Needs.{needs}
 use Rattle.two_wire_text.proofs.explain.Statement.{statement}
 use Rattle.two_wire_text.proofs.explain.Tie as tie
 
-is-message-requires : tie.Need-is-message-requires
-is-message-requires c κs = search needs
-
-explain-message-requires : tie.Need-explain-message-requires
-explain-message-requires c κs = search needs
-
 returns : tie.Need-returns
 unfolding textBy sensorBy
 returns c = simp (← c .before .before .before .is-message .ensures, c .before .before .if1 .taken) (c .explain-message .ensures)
-
-slice-aggregate-put : tie.Need-slice-aggregate-put
-slice-aggregate-put c = search needs
-
-put-requires : tie.Need-put-requires
-put-requires c κs = search needs
 
 returns-2 : tie.Need-returns-2
 unfolding textBy sensorBy
@@ -30,9 +18,9 @@ pub explain-spec : {M : Type 1} → statement M
 explain-spec =
     tie.close
     (tie.spec
-    is-message-requires
-    explain-message-requires
+    (λ c κs. search needs)
+    (λ c κs. search needs)
     returns
-    slice-aggregate-put
-    put-requires
+    (λ c. search needs)
+    (λ c κs. search needs)
     returns-2)

@@ -12,16 +12,10 @@ use borrow.Author.Needs.{needs}
 use Rattle.two_wire_text.proofs.explain_message.Statement.{statement}
 use Rattle.two_wire_text.proofs.explain_message.Tie as tie
 
-put-refused-requires : tie.Need-put-refused-requires
-put-refused-requires c κs = search needs
-
 returns : tie.Need-returns
 unfolding messageText messageSensor
 returns c = let p = at-front (c .put-refused .ensures) in
     simp (le-leb _ _ (c .before .before .if1 .taken)) (refl, p .0, p .1)
-
-decode-requires : tie.Need-decode-requires
-decode-requires c κs = search needs
 
 array-share-prefix-bytes : tie.Need-array-share-prefix-bytes
 array-share-prefix-bytes c = let room : length (bytesOf (c .before .before .before .before .args .line .now)) ≤ 256 = omega (arith, bytes-length (c .before .before .before .before .args .line .now)) in
@@ -44,9 +38,9 @@ pub explain-message-spec : {M : Type 1} → statement M
 explain-message-spec =
     tie.close
     (tie.spec
-    put-refused-requires
+    (λ c κs. search needs)
     returns
-    decode-requires
+    (λ c κs. search needs)
     array-share-prefix-bytes
     slice-aggregate-read-message
     read-message-requires

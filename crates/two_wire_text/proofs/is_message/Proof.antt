@@ -17,18 +17,6 @@ abbrev μ-loop : tie.MeasureT-loop
 loop-holds : tie.Need-loop-holds Inv-loop μ-loop
 loop-holds c = (search needs, refl)
 
-shared-slice-read-char-fits : tie.Need-shared-slice-read-char-fits Inv-loop μ-loop
-shared-slice-read-char-fits c = search needs
-
-char-fits-requires : tie.Need-char-fits-requires Inv-loop μ-loop
-char-fits-requires c κs = search needs
-
-add-i : tie.Need-add-i Inv-loop μ-loop
-add-i c = search needs
-
-loop-less : tie.Need-loop-less Inv-loop μ-loop
-loop-less c = search needs
-
 loop-again : tie.Need-loop-again Inv-loop μ-loop
 loop-again c = (search needs, c .before .before .before .before .loop .inv .1 ∙ chars-step _ _ (c .before .before .before .loop-test .taken) ∙ simp (← c .before .char-fits .ensures, c .if2 .taken))
 
@@ -51,10 +39,10 @@ is-message-spec =
     Inv-loop
     μ-loop
     loop-holds
-    shared-slice-read-char-fits
-    char-fits-requires
-    add-i
-    loop-less
+    (λ c. search needs)
+    (λ c κs. search needs)
+    (λ c. search needs)
+    (λ c. search needs)
     loop-again
     returns
     returns-2

@@ -19,18 +19,6 @@ returns c = rw (drop-of-length-le (c .before .before .args .line .now) (c .if1 .
 loop-holds : tie.Need-loop-holds Inv-loop μ-loop
 loop-holds c = (search needs, number-starts _ _ (c .if1 .left))
 
-shared-slice-read-digit-onto : tie.Need-shared-slice-read-digit-onto Inv-loop μ-loop
-shared-slice-read-digit-onto c = search needs
-
-digit-onto-requires : tie.Need-digit-onto-requires Inv-loop μ-loop
-digit-onto-requires c κs = search needs
-
-add-i : tie.Need-add-i Inv-loop μ-loop
-add-i c = search needs
-
-loop-less : tie.Need-loop-less Inv-loop μ-loop
-loop-less c = search needs
-
 loop-again : tie.Need-loop-again Inv-loop μ-loop
 loop-again c = (search needs, c .before .before .before .loop .inv .1 ∙ digits-step _ _ (c .before .before .loop-test .taken) _ ∙ simp (c .digit-onto .ensures))
 
@@ -45,9 +33,9 @@ number-spec =
     μ-loop
     returns
     loop-holds
-    shared-slice-read-digit-onto
-    digit-onto-requires
-    add-i
-    loop-less
+    (λ c. search needs)
+    (λ c κs. search needs)
+    (λ c. search needs)
+    (λ c. search needs)
     loop-again
     returns-2)

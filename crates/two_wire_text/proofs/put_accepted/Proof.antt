@@ -7,46 +7,19 @@ use borrow.Author.Needs.{needs}
 use Rattle.two_wire_text.proofs.put_accepted.Statement.{statement}
 use Rattle.two_wire_text.proofs.put_accepted.Tie as tie
 
-slice-aggregate-put : tie.Need-slice-aggregate-put
-slice-aggregate-put c = search needs
-
-put-requires : tie.Need-put-requires
-put-requires c κs = search needs
-
 returns : tie.Need-returns
 returns c = simp (accepted-short (c .before .before .before .before .before .args .bytes .now) (c .before .before .before .if1 .taken)) (c .put .ensures)
 
-shared-slice-read-put-direction : tie.Need-shared-slice-read-put-direction
-shared-slice-read-put-direction c = search needs
-
-put-direction-requires : tie.Need-put-direction-requires
-put-direction-requires c κs = search needs
-
-shared-slice-read-put-decimal : tie.Need-shared-slice-read-put-decimal
-shared-slice-read-put-decimal c = search needs
-
-cast-put-decimal : tie.Need-cast-put-decimal
-cast-put-decimal c = search needs
-
 put-decimal-requires : tie.Need-put-decimal-requires
 put-decimal-requires c κs = omega (arith, direction-short (getD (c .before .before .before .before .before .before .before .args .bytes .now) 0 0))
-
-slice-aggregate-put-2 : tie.Need-slice-aggregate-put-2
-slice-aggregate-put-2 c = search needs
 
 put-requires-2 : tie.Need-put-requires-2
 put-requires-2 c κs = let bytes = c .before .before .before .before .before .before .before .before .before .before .args .bytes .now in
     omega (arith, direction-short (getD bytes 0 0), decimal-short (getD bytes 1 0 % 128))
 
-sub-put-decimal : tie.Need-sub-put-decimal
-sub-put-decimal c = search needs
-
 put-decimal-requires-2 : tie.Need-put-decimal-requires-2
 put-decimal-requires-2 c κs = let bytes = c .before .before .before .before .before .before .before .before .before .before .before .before .args .bytes .now in
     omega (arith, direction-short (getD bytes 0 0), decimal-short (getD bytes 1 0 % 128))
-
-slice-aggregate-put-3 : tie.Need-slice-aggregate-put-3
-slice-aggregate-put-3 c = search needs
 
 put-requires-3 : tie.Need-put-requires-3
 put-requires-3 c κs = let bytes = c .before .before .before .before .before .before .before .before .before .before .before .before .before .before .before .args .bytes .now in
@@ -59,18 +32,18 @@ pub put-accepted-spec : {M : Type 1} → statement M
 put-accepted-spec =
     tie.close
     (tie.spec
-    slice-aggregate-put
-    put-requires
+    (λ c. search needs)
+    (λ c κs. search needs)
     returns
-    shared-slice-read-put-direction
-    put-direction-requires
-    shared-slice-read-put-decimal
-    cast-put-decimal
+    (λ c. search needs)
+    (λ c κs. search needs)
+    (λ c. search needs)
+    (λ c. search needs)
     put-decimal-requires
-    slice-aggregate-put-2
+    (λ c. search needs)
     put-requires-2
-    sub-put-decimal
+    (λ c. search needs)
     put-decimal-requires-2
-    slice-aggregate-put-3
+    (λ c. search needs)
     put-requires-3
     returns-2)

@@ -5,31 +5,13 @@ use Rattle.two_wire_text.specs.Put.{then}
 use Rattle.two_wire_text.proofs.put_decimal.Statement.{statement}
 use Rattle.two_wire_text.proofs.put_decimal.Tie as tie
 
-put-digit-requires : tie.Need-put-digit-requires
-put-digit-requires c κs = search needs
-
 returns : tie.Need-returns
 unfolding decimal
 returns c = simp (lt-ltb _ _ (c .before .before .if1 .taken)) (c .put-digit .ensures)
 
-put-digit-requires-2 : tie.Need-put-digit-requires-2
-put-digit-requires-2 c κs = search needs
-
-put-digit-requires-3 : tie.Need-put-digit-requires-3
-put-digit-requires-3 c κs = search needs
-
 returns-2 : tie.Need-returns-2
 unfolding decimal
 returns-2 c = simp (le-ltb _ _ (c .before .before .before .before .before .if1 .left), lt-ltb _ _ (c .before .before .before .before .if2 .taken)) (then (c .before .before .put-digit2 .ensures) (c .put-digit3 .ensures))
-
-put-digit-requires-4 : tie.Need-put-digit-requires-4
-put-digit-requires-4 c κs = search needs
-
-put-digit-requires-5 : tie.Need-put-digit-requires-5
-put-digit-requires-5 c κs = search needs
-
-put-digit-requires-6 : tie.Need-put-digit-requires-6
-put-digit-requires-6 c κs = search needs
 
 returns-3 : tie.Need-returns-3
 unfolding decimal
@@ -39,12 +21,12 @@ pub put-decimal-spec : {M : Type 1} → statement M
 put-decimal-spec =
     tie.close
     (tie.spec
-    put-digit-requires
+    (λ c κs. search needs)
     returns
-    put-digit-requires-2
-    put-digit-requires-3
+    (λ c κs. search needs)
+    (λ c κs. search needs)
     returns-2
-    put-digit-requires-4
-    put-digit-requires-5
-    put-digit-requires-6
+    (λ c κs. search needs)
+    (λ c κs. search needs)
+    (λ c κs. search needs)
     returns-3)

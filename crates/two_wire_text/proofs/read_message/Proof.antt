@@ -3,21 +3,6 @@ use borrow.Author.Needs.{needs}
 use Rattle.two_wire_text.proofs.read_message.Statement.{statement}
 use Rattle.two_wire_text.proofs.read_message.Tie as tie
 
-read-requires : tie.Need-read-requires
-read-requires c κs = search needs
-
-enum-told : tie.Need-enum-told
-enum-told c = search needs
-
-put-accepted-requires : tie.Need-put-accepted-requires
-put-accepted-requires c κs = search needs
-
-enum-known-answered : tie.Need-enum-known-answered
-enum-known-answered c = search needs
-
-put-refused-requires : tie.Need-put-refused-requires
-put-refused-requires c κs = search needs
-
 returns : tie.Need-returns
 returns c = let p = at-front (c .put-accepted .ensures) in
     let o = c .before .before .before .before .before .read .ensures in
@@ -34,10 +19,10 @@ pub read-message-spec : {M : Type 1} → statement M
 read-message-spec =
     tie.close
     (tie.spec
-    read-requires
-    enum-told
-    put-accepted-requires
-    enum-known-answered
-    put-refused-requires
+    (λ c κs. search needs)
+    (λ c. search needs)
+    (λ c κs. search needs)
+    (λ c. search needs)
+    (λ c κs. search needs)
     returns
     returns-2)

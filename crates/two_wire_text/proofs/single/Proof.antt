@@ -8,12 +8,9 @@ returns : tie.Need-returns
 unfolding single
 returns c = simp (lt-ltb _ _ (c .if1 .taken))
 
-cast-t4 : tie.Need-cast-t4
-cast-t4 c = search needs
-
 returns-2 : tie.Need-returns-2
 unfolding single
 returns-2 c = simp (le-ltb _ _ (c .if1 .left))
 
 pub single-spec : {M : Type 1} → statement M
-single-spec = tie.close (tie.spec returns cast-t4 returns-2)
+single-spec = tie.close (tie.spec returns (λ c. search needs) returns-2)

@@ -2,12 +2,6 @@ use borrow.Author.Needs.{needs}
 use Rattle.writer.proofs.has_bad_byte.Statement.{statement}
 use Rattle.writer.proofs.has_bad_byte.Tie as tie
 
-body-fits-requires : tie.Need-body-fits-requires
-body-fits-requires c κs = search needs
-
-gap-fits-requires : tie.Need-gap-fits-requires
-gap-fits-requires c κs = search needs
-
 returns : tie.Need-returns
 returns c = simp (← c .before .before .before .body-fits .ensures, c .before .before .if1 .taken, ← c .before .gap-fits .ensures, c .if2 .taken)
 
@@ -19,4 +13,4 @@ returns-3 c = simp (← c .before .body-fits .ensures, c .if1 .left)
 
 pub has-bad-byte-spec : {M : Type 1} → statement M
 has-bad-byte-spec =
-    tie.close (tie.spec body-fits-requires gap-fits-requires returns returns-2 returns-3)
+    tie.close (tie.spec (λ c κs. search needs) (λ c κs. search needs) returns returns-2 returns-3)

@@ -21,18 +21,9 @@ loop-holds c = (search needs, search needs, put-none _ _)
 put-byte-requires : tie.Need-put-byte-requires Inv-loop μ-loop
 put-byte-requires c κs = omega (arith, length-replicate (c .before .before .before .before .args .count) nullByte)
 
-add-done : tie.Need-add-done Inv-loop μ-loop
-add-done c = search needs
-
-loop-less : tie.Need-loop-less Inv-loop μ-loop
-loop-less c = search needs
-
 loop-again : tie.Need-loop-again Inv-loop μ-loop
 loop-again c =
     (search needs, search needs, put-again nullByte (c .before .before .before .before .before .loop .done) (c .before .before .before .before .before .loop .inv .2) (c .before .before .put-byte .ensures))
-
-same-length : tie.Need-same-length Inv-loop μ-loop
-same-length c = search needs
 
 returns : tie.Need-returns Inv-loop μ-loop
 returns c =
@@ -48,8 +39,8 @@ put-nulls-spec =
     μ-loop
     loop-holds
     put-byte-requires
-    add-done
-    loop-less
+    (λ c. search needs)
+    (λ c. search needs)
     loop-again
-    same-length
+    (λ c. search needs)
     returns)

@@ -59,26 +59,8 @@ bytes-fit c = not-false _ (sym (c .before .has-bad-byte .ensures) ∙ c .if2 .le
 may-be-written : (c : tie.Else3) → Writable (profileAt (c .before .before .before .before .before .before .before .before .before)) (sentAt (c .before .before .before .before .before .before .before .before .before))
 may-be-written c = writable _ _ (small (c .before .before .before .before .before)) (bytes-fit (c .before)) (c .if3 .left)
 
-numbered-requires : tie.Need-numbered-requires
-numbered-requires c κs = search needs
-
-enum-known-p : tie.Need-enum-known-p
-enum-known-p c = search needs
-
-enum-told : tie.Need-enum-told
-enum-told c = search needs
-
 returns : tie.Need-returns
 returns c = refuses _ _ _ (answer-only _ _ _ _ _ _ _ _ _ (bad-profile (sym (c .before .before .numbered .ensures) ∙ c .enum-told .given .1)))
-
-numbered-requires-2 : tie.Need-numbered-requires-2
-numbered-requires-2 c κs = search needs
-
-enum-known-k : tie.Need-enum-known-k
-enum-known-k c = search needs
-
-enum-told-2 : tie.Need-enum-told-2
-enum-told-2 c = search needs
 
 returns-2 : tie.Need-returns-2
 returns-2 c =
@@ -86,26 +68,11 @@ returns-2 c =
     (answer-only _ _ _ _ _ _ _ _ _
     (bad-kind (c .before .before .before .before .p .given .0 .0) (sym (c .before .before .before .before .before .before .numbered .ensures) ∙ c .before .before .before .before .p .given .1) (sym (c .before .before .numbered2 .ensures) ∙ c .enum-told2 .given .1)))
 
-encode-requires : tie.Need-encode-requires
-encode-requires c κs = search needs
-
-enum-known-high : tie.Need-enum-known-high
-enum-known-high c = search needs
-
-enum-told-3 : tie.Need-enum-told-3
-enum-told-3 c = search needs
-
 returns-3 : tie.Need-returns-3
 returns-3 c = refuses _ _ _ (answers (c .before .before .before) _ (number-too-large (encoded-not _ (sym (c .before .before .encode .ensures) ∙ c .enum-told3 .given .1))))
 
-body-length-requires : tie.Need-body-length-requires
-body-length-requires c κs = search needs
-
 returns-4 : tie.Need-returns-4
 returns-4 c = refuses _ _ _ (answers (c .before .before .before .before .before .before) _ (wrong-body-length (small (c .before .before)) (λ e. c .if1 .taken (e ∙ sym (c .before .body-length .ensures)))))
-
-has-bad-byte-requires : tie.Need-has-bad-byte-requires
-has-bad-byte-requires c κs = search needs
 
 returns-5 : tie.Need-returns-5
 returns-5 c =
@@ -118,14 +85,8 @@ returns-6 c =
     refuses _ _ _
     (answers (c .before .before .before .before .before .before .before .before .before) _ (too-many-nulls (small (c .before .before .before .before .before)) (length-right (c .before .before .before)) (bytes-fit (c .before)) (c .if3 .taken)))
 
-mul-if4 : tie.Need-mul-if4
-mul-if4 c = search needs
-
 add-if4 : tie.Need-add-if4
 add-if4 c = omega (arith, body-small (profileAt (c .before .before .before .before .before .before .before .before .before)))
-
-mul-if4-2 : tie.Need-mul-if4-2
-mul-if4-2 c = search needs
 
 add-if4-2 : tie.Need-add-if4-2
 add-if4-2 c = omega (arith, body-small (profileAt (c .before .before .before .before .before .before .before .before .before)))
@@ -134,12 +95,6 @@ returns-7 : tie.Need-returns-7
 returns-7 c =
     let r = length-right (c .before .before .before .before) in
     refuses _ _ _ (answers (c .before .before .before .before .before .before .before .before .before .before) _ (no-room (may-be-written (c .before)) (omega arith)))
-
-put-line-requires : tie.Need-put-line-requires
-put-line-requires c κs = search needs
-
-same-length : tie.Need-same-length
-same-length c = search needs
 
 returns-8 : tie.Need-returns-8
 returns-8 c =
@@ -151,28 +106,28 @@ pub write-spec : {M : Type 1} → statement M
 write-spec =
     tie.close
     (tie.spec
-    numbered-requires
-    enum-known-p
-    enum-told
+    (λ c κs. search needs)
+    (λ c. search needs)
+    (λ c. search needs)
     returns
-    numbered-requires-2
-    enum-known-k
-    enum-told-2
+    (λ c κs. search needs)
+    (λ c. search needs)
+    (λ c. search needs)
     returns-2
-    encode-requires
-    enum-known-high
-    enum-told-3
+    (λ c κs. search needs)
+    (λ c. search needs)
+    (λ c. search needs)
     returns-3
-    body-length-requires
+    (λ c κs. search needs)
     returns-4
-    has-bad-byte-requires
+    (λ c κs. search needs)
     returns-5
     returns-6
-    mul-if4
+    (λ c. search needs)
     add-if4
-    mul-if4-2
+    (λ c. search needs)
     add-if4-2
     returns-7
-    put-line-requires
-    same-length
+    (λ c κs. search needs)
+    (λ c. search needs)
     returns-8)

@@ -1,15 +1,15 @@
-use mathlib.Core.Path.{_≡_, refl, sym, ap, _∙_}
+use mathlib.Core.Path.{_≡_, sym, ap, _∙_}
 use mathlib.Core.List.{List}
-use Prim.Native.Nat.{ℕ, _+_, _-_, _*_, _≤_}
+use Prim.Native.Nat.{ℕ, _+_, _-_, _≤_}
 use native.Mathlib.Omega.{arith}
 use lib.ListN.{length, take, drop, length-take, length-drop}
 use denote.Ref.{now}
 use borrow.Author.Needs.{needs}
 use Rattle.profile.specs.Profile.{longest}
 use Rattle.stream.specs.Written.{nibbles}
-use Rattle.refinement.specs.Passes.{Ok, passed}
+use Rattle.refinement.specs.Passes.{passed}
 use Rattle.listing.specs.PutLaws.{put-length}
-use Rattle.capture.specs.Portions.{byteRoom, portionOf, lister}
+use Rattle.capture.specs.Portions.{portionOf, lister}
 use Rattle.capture.proofs.Runs.{lists-of}
 use Rattle.capture.proofs.Upto.{Upto, start, next-portion, no-portion, nothing-listed}
 use Rattle.capture.proofs.Lister.list.Statement.{statement}
@@ -30,12 +30,6 @@ part-is w i n = ap (λ (k : ℕ). take k (drop i w)) (let z : i + n - i ≡ n = 
 part-length : (w : List ℕ) (i n : ℕ) → i + n ≤ length w → length (take (i + n - i) (drop i w)) ≡ n
 part-length w i n h = ap length (part-is w i n) ∙ length-take n (drop i w) ∙ (let e = length-drop i w in omega arith)
 
-is-sound-requires : tie.Need-is-sound-requires Inv-loop μ-loop
-is-sound-requires c κs = search needs
-
-portion-requires : tie.Need-portion-requires Inv-loop μ-loop
-portion-requires c κs = search needs
-
 loop-holds : tie.Need-loop-holds Inv-loop μ-loop
 loop-holds c =
     let e = c .before .before .before .before .is-sound .ensures in
@@ -44,20 +38,8 @@ loop-holds c =
 add-end : tie.Need-add-end Inv-loop μ-loop
 add-end c = let l = c .before .loop in omega (arith, l .inv .1, l .inv .0 .within)
 
-slice-aggregate-list-portion : tie.Need-slice-aggregate-list-portion Inv-loop μ-loop
-slice-aggregate-list-portion c = search needs
-
-sub-list-portion : tie.Need-sub-list-portion Inv-loop μ-loop
-sub-list-portion c = search needs
-
-part-list-portion-start : tie.Need-part-list-portion-start Inv-loop μ-loop
-part-list-portion-start c = search needs
-
 part-list-portion-end : tie.Need-part-list-portion-end Inv-loop μ-loop
 part-list-portion-end c = let l = c .before .before .loop in omega (arith, l .inv .1, l .inv .0 .within)
-
-slice-aggregate-list-portion-2 : tie.Need-slice-aggregate-list-portion-2 Inv-loop μ-loop
-slice-aggregate-list-portion-2 c = search needs
 
 list-portion-requires : tie.Need-list-portion-requires Inv-loop μ-loop
 list-portion-requires c κs =
@@ -71,9 +53,6 @@ sub-portion c = let l = c .before .before .before .before .before .before .befor
 
 sub-portion-2 : tie.Need-sub-portion-2 Inv-loop μ-loop
 sub-portion-2 c = let q = c .before .before .before .before .before .before .list-portion .ensures .text-put in omega (arith, q .place, q .room, put-length q)
-
-portion-requires-2 : tie.Need-portion-requires-2 Inv-loop μ-loop
-portion-requires-2 c κs = search needs
 
 loop-less : tie.Need-loop-less Inv-loop μ-loop
 loop-less c = let l = c .before .before .before .before .before .before .before .before .before .before .before .before .before .loop in omega (arith, l .inv .1, l .inv .0 .within, c .before .before .before .before .before .before .before .before .before .before .before .before .loop-test .taken)
@@ -107,19 +86,19 @@ list-spec =
     (tie.spec
     Inv-loop
     μ-loop
-    is-sound-requires
-    portion-requires
+    (λ c κs. search needs)
+    (λ c κs. search needs)
     loop-holds
     add-end
-    slice-aggregate-list-portion
-    sub-list-portion
-    part-list-portion-start
+    (λ c. search needs)
+    (λ c. search needs)
+    (λ c. search needs)
     part-list-portion-end
-    slice-aggregate-list-portion-2
+    (λ c. search needs)
     list-portion-requires
     sub-portion
     sub-portion-2
-    portion-requires-2
+    (λ c κs. search needs)
     loop-less
     loop-again
     same-length

@@ -7,14 +7,5 @@ use Rattle.cases.proofs.text.say_front.Tie as tie
 slice-aggregate-say : tie.Need-slice-aggregate-say
 slice-aggregate-say c = simp length-take (omega arith)
 
-say-requires : tie.Need-say-requires
-say-requires c κs = search needs
-
-returns : tie.Need-returns
-returns c = search needs
-
-returns-2 : tie.Need-returns-2
-returns-2 c = search needs
-
 pub say-front-spec : {M : Type 1} → statement M
-say-front-spec = tie.close (tie.spec slice-aggregate-say say-requires returns returns-2)
+say-front-spec = tie.close (tie.spec slice-aggregate-say (λ c κs. search needs) (λ c. search needs) (λ c. search needs))

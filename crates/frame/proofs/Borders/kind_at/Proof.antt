@@ -5,24 +5,6 @@ use borrow.Author.Needs.{needs}
 use Rattle.frame.proofs.Borders.kind_at.Statement.{statement}
 use Rattle.frame.proofs.Borders.kind_at.Tie as tie
 
-enum-told : tie.Need-enum-told
-enum-told c = search needs
-
-kind-within-requires : tie.Need-kind-within-requires
-kind-within-requires c κs = search needs
-
-enum-told-2 : tie.Need-enum-told-2
-enum-told-2 c = search needs
-
-kind-within-requires-2 : tie.Need-kind-within-requires-2
-kind-within-requires-2 c κs = search needs
-
-enum-told-3 : tie.Need-enum-told-3
-enum-told-3 c = search needs
-
-kind-within-requires-3 : tie.Need-kind-within-requires-3
-kind-within-requires-3 c κs = search needs
-
 returns : tie.Need-returns
 unfolding kindAt
 returns c = simp (c .before .enum-told .given .1) (c .kind-within .ensures ∙ sym (places-on (c .before .before .before .args .place)))
@@ -39,12 +21,12 @@ pub kind-at-spec : {M : Type 1} → statement M
 kind-at-spec =
     tie.close
     (tie.spec
-    enum-told
-    kind-within-requires
-    enum-told-2
-    kind-within-requires-2
-    enum-told-3
-    kind-within-requires-3
+    (λ c. search needs)
+    (λ c κs. search needs)
+    (λ c. search needs)
+    (λ c κs. search needs)
+    (λ c. search needs)
+    (λ c κs. search needs)
     returns
     returns-2
     returns-3)

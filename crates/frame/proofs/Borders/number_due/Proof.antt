@@ -6,11 +6,8 @@ use Rattle.frame.proofs.Borders.number_due.Tie as tie
 returns : tie.Need-returns
 returns c = simp (eq-eqb _ _ (c .if1 .taken))
 
-end-place-requires : tie.Need-end-place-requires
-end-place-requires c κs = search needs
-
 returns-2 : tie.Need-returns-2
 returns-2 c = simp (ne-eqb _ _ (c .before .if1 .left), c .end-place .ensures)
 
 pub number-due-spec : {M : Type 1} → statement M
-number-due-spec = tie.close (tie.spec returns end-place-requires returns-2)
+number-due-spec = tie.close (tie.spec returns (λ c κs. search needs) returns-2)

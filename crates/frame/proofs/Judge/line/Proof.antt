@@ -4,42 +4,21 @@ use borrow.Author.Needs.{needs}
 use Rattle.frame.proofs.Judge.line.Statement.{statement}
 use Rattle.frame.proofs.Judge.line.Tie as tie
 
-passes-requires : tie.Need-passes-requires
-passes-requires c κs = search needs
-
-number-requires : tie.Need-number-requires
-number-requires c κs = search needs
-
-refused-requires : tie.Need-refused-requires
-refused-requires c κs = search needs
-
 returns : tie.Need-returns
 unfolding judgeOf
 returns c = simp (← c .before .before .before .before .passes .ensures, c .before .before .before .if1 .taken, ← c .before .before .number .ensures, lt-leb _ _ (c .before .if2 .taken), c .refused .ensures)
-
-broken-requires : tie.Need-broken-requires
-broken-requires c κs = search needs
 
 returns-2 : tie.Need-returns-2
 unfolding judgeOf
 returns-2 c = simp (← c .before .before .before .before .before .passes .ensures, c .before .before .before .before .if1 .taken, ← c .before .before .before .number .ensures, le-leb _ _ (c .before .before .if2 .left), eq-eqb _ _ (c .before .if3 .taken), c .broken .ensures)
 
-refused-requires-2 : tie.Need-refused-requires-2
-refused-requires-2 c κs = search needs
-
 returns-3 : tie.Need-returns-3
 unfolding judgeOf
 returns-3 c = simp (← c .before .before .before .before .before .before .passes .ensures, c .before .before .before .before .before .if1 .taken, ← c .before .before .before .before .number .ensures, le-leb _ _ (c .before .before .before .if2 .left), ne-eqb _ _ (c .before .before .if3 .left), lt-leb _ _ (c .before .if4 .taken), c .refused2 .ensures)
 
-whole-requires : tie.Need-whole-requires
-whole-requires c κs = search needs
-
 returns-4 : tie.Need-returns-4
 unfolding judgeOf
 returns-4 c = simp (← c .before .before .before .before .before .before .passes .ensures, c .before .before .before .before .before .if1 .taken, ← c .before .before .before .before .number .ensures, le-leb _ _ (c .before .before .before .if2 .left), ne-eqb _ _ (c .before .before .if3 .left), le-leb _ _ (c .before .if4 .left), c .whole .ensures)
-
-refused-requires-3 : tie.Need-refused-requires-3
-refused-requires-3 c κs = search needs
 
 returns-5 : tie.Need-returns-5
 unfolding judgeOf
@@ -49,15 +28,15 @@ pub line-spec : {M : Type 1} → statement M
 line-spec =
     tie.close
     (tie.spec
-    passes-requires
-    number-requires
-    refused-requires
+    (λ c κs. search needs)
+    (λ c κs. search needs)
+    (λ c κs. search needs)
     returns
-    broken-requires
+    (λ c κs. search needs)
     returns-2
-    refused-requires-2
+    (λ c κs. search needs)
     returns-3
-    whole-requires
+    (λ c κs. search needs)
     returns-4
-    refused-requires-3
+    (λ c κs. search needs)
     returns-5)

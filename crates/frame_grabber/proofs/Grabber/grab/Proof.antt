@@ -16,25 +16,10 @@ Inv-loop input rows₀ head₀ body₀ gatherer₀ i₀ rows head body gatherer 
 abbrev μ-loop : tie.MeasureT-loop
 μ-loop input rows₀ head₀ body₀ gatherer₀ i₀ rows head body gatherer i = length input - i
 
-is-sound-requires : tie.Need-is-sound-requires Inv-loop μ-loop
-is-sound-requires c κs = search needs
-
 loop-holds : tie.Need-loop-holds Inv-loop μ-loop
 loop-holds c =
     let e = c .before .before .before .is-sound .ensures in
     (upto-start _ _ _ _ _ (record { byte = e .1; test = passed _ (sym (e .0) ∙ c .before .before .if1 .taken) }), search needs, refl)
-
-slice-aggregate-grab-part : tie.Need-slice-aggregate-grab-part Inv-loop μ-loop
-slice-aggregate-grab-part c = search needs
-
-sub-grab-part : tie.Need-sub-grab-part Inv-loop μ-loop
-sub-grab-part c = search needs
-
-part-grab-part-start : tie.Need-part-grab-part-start Inv-loop μ-loop
-part-grab-part-start c = search needs
-
-part-grab-part-end : tie.Need-part-grab-part-end Inv-loop μ-loop
-part-grab-part-end c = search needs
 
 grab-part-requires : tie.Need-grab-part-requires Inv-loop μ-loop
 grab-part-requires c κs = (c .before .before .before .before .loop .inv .0 .sound, c .before .before .before .before .loop .inv .1)
@@ -43,12 +28,6 @@ add-i : tie.Need-add-i Inv-loop μ-loop
 add-i c =
     let l = c .before .before .before .before .before .before .before .before .before .before .before .loop in
     omega (arith, taken-within (l .inv .0) (c .before .before .before .before .before .before .grab-part .ensures), c .before .before .before .before .before .before .before .before .before .before .before .before .before .before .before .before .before .before .before .before .good .1 .0 .0)
-
-tells-requires : tie.Need-tells-requires Inv-loop μ-loop
-tells-requires c κs = search needs
-
-hand-back-requires : tie.Need-hand-back-requires Inv-loop μ-loop
-hand-back-requires c κs = search needs
 
 same-length : tie.Need-same-length Inv-loop μ-loop
 same-length c = c .before .before .before .before .before .before .before .before .before .grab-part .kept .1 .1 .1 .1 .0 ∙ c .before .before .before .before .before .before .before .before .before .before .before .before .before .before .loop .inv .2
@@ -70,12 +49,6 @@ loop-again c =
     let l = c .before .before .before .before .before .before .before .before .before .before .before .before .before .loop in
     (upto-next (l .inv .0) (c .before .before .before .before .before .before .before .before .grab-part .ensures) (sym (c .before .tells .ensures) ∙ c .if2 .left), search needs, search needs)
 
-hand-back-requires-2 : tie.Need-hand-back-requires-2 Inv-loop μ-loop
-hand-back-requires-2 c κs = search needs
-
-same-length-2 : tie.Need-same-length-2 Inv-loop μ-loop
-same-length-2 c = search needs
-
 returns-2 : tie.Need-returns-2 Inv-loop μ-loop
 returns-2 c =
     let l = c .before .before .loop in
@@ -91,21 +64,21 @@ grab-spec =
     (tie.spec
     Inv-loop
     μ-loop
-    is-sound-requires
+    (λ c κs. search needs)
     loop-holds
-    slice-aggregate-grab-part
-    sub-grab-part
-    part-grab-part-start
-    part-grab-part-end
+    (λ c. search needs)
+    (λ c. search needs)
+    (λ c. search needs)
+    (λ c. search needs)
     grab-part-requires
     add-i
-    tells-requires
-    hand-back-requires
+    (λ c κs. search needs)
+    (λ c κs. search needs)
     same-length
     returns
     loop-less
     loop-again
-    hand-back-requires-2
-    same-length-2
+    (λ c κs. search needs)
+    (λ c. search needs)
     returns-2
     returns-3)

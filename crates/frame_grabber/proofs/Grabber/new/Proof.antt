@@ -2,14 +2,8 @@ use borrow.Author.Needs.{needs}
 use Rattle.frame_grabber.proofs.Grabber.new.Statement.{statement}
 use Rattle.frame_grabber.proofs.Grabber.new.Tie as tie
 
-fresh-requires : tie.Need-fresh-requires
-fresh-requires c κs = search needs
-
-new-requires : tie.Need-new-requires
-new-requires c κs = search needs
-
 returns : tie.Need-returns
 returns c = simp (c .before .fresh .ensures, c .new .ensures)
 
 pub new-spec : {M : Type 1} → statement M
-new-spec = tie.close (tie.spec fresh-requires new-requires returns)
+new-spec = tie.close (tie.spec (λ c κs. search needs) (λ c κs. search needs) returns)

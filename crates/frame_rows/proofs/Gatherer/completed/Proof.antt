@@ -8,19 +8,13 @@ use Rattle.frame_rows.proofs.Answering.{gives}
 use Rattle.frame_rows.proofs.Gatherer.completed.Statement.{statement}
 use Rattle.frame_rows.proofs.Gatherer.completed.Tie as tie
 
-refused-requires : tie.Need-refused-requires
-refused-requires c κs = search needs
-
 returns : tie.Need-returns
 unfolding completed
 returns c = gives _ _ _ _ _ (c .refused .ensures) (simp (lt-leb _ _ (c .before .if1 .taken)))
-
-moved-requires : tie.Need-moved-requires
-moved-requires c κs = search needs
 
 returns-2 : tie.Need-returns-2
 unfolding completed
 returns-2 c = gives _ _ (progress.Complete (c .before .before .before .before .args .self .kept)) _ _ (ap (λ (s : Gatherer). saying s (progress.Complete (c .before .before .before .before .args .self .kept))) (c .moved .ensures)) (simp (le-leb _ _ (c .before .if1 .left)))
 
 pub completed-spec : {M : Type 1} → statement M
-completed-spec = tie.close (tie.spec refused-requires returns moved-requires returns-2)
+completed-spec = tie.close (tie.spec (λ c κs. search needs) returns (λ c κs. search needs) returns-2)

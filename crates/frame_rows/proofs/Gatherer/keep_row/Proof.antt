@@ -11,15 +11,9 @@ use Rattle.frame_rows.proofs.Answering.{gives, quietly}
 use Rattle.frame_rows.proofs.Gatherer.keep_row.Statement.{statement}
 use Rattle.frame_rows.proofs.Gatherer.keep_row.Tie as tie
 
-refused-requires : tie.Need-refused-requires
-refused-requires c κs = search needs
-
 returns : tie.Need-returns
 unfolding keepRow
 returns c = let l = c .before .before .before .before .args .line .now in gives _ _ _ _ _ (c .refused .ensures) (simp (ne-eqb (length (take longest l)) longest (λ e. omega (arith, e, length-take longest l))))
-
-has-row-requires : tie.Need-has-row-requires
-has-row-requires c κs = search needs
 
 slice-aggregate-put-row : tie.Need-slice-aggregate-put-row
 slice-aggregate-put-row c = sym (length-take-le longest (c .before .before .before .before .before .before .args .line .now) (c .before .before .before .if1 .left))
@@ -30,23 +24,11 @@ put-row-requires c κs = (length-take-le longest (c .before .before .before .bef
 add-moved : tie.Need-add-moved
 add-moved c = omega (arith, leb-true (c .before .before .before .before .before .before .before .before .before .before .before .args .self .kept + longest) (length (c .before .before .before .before .before .before .before .before .before .before .before .args .rows .now)) (sym (c .before .before .before .before .before .before .before .has-row .ensures) ∙ c .before .before .before .before .before .before .if2 .taken))
 
-moved-requires : tie.Need-moved-requires
-moved-requires c κs = search needs
-
-quiet-requires : tie.Need-quiet-requires
-quiet-requires c κs = search needs
-
-same-length : tie.Need-same-length
-same-length c = search needs
-
 returns-2 : tie.Need-returns-2
 unfolding keepRow
 returns-2 c = let l = c .before .before .before .before .before .before .before .before .before .before .before .before .before .args .line .now in
     gives _ _ _ _ _ (quietly (c .quiet .ensures) (c .before .moved .ensures))
     (simp (eq-eqb (length (take longest l)) longest (length-take-le longest l (c .before .before .before .before .before .before .before .before .before .before .if1 .left)), ← c .before .before .before .before .before .before .before .before .before .has-row .ensures, c .before .before .before .before .before .before .before .before .if2 .taken, c .before .before .before .before .before .put-row .ensures))
-
-refused-requires-2 : tie.Need-refused-requires-2
-refused-requires-2 c κs = search needs
 
 returns-3 : tie.Need-returns-3
 unfolding keepRow
@@ -56,15 +38,15 @@ pub keep-row-spec : {M : Type 1} → statement M
 keep-row-spec =
     tie.close
     (tie.spec
-    refused-requires
+    (λ c κs. search needs)
     returns
-    has-row-requires
+    (λ c κs. search needs)
     slice-aggregate-put-row
     put-row-requires
     add-moved
-    moved-requires
-    quiet-requires
-    same-length
+    (λ c κs. search needs)
+    (λ c κs. search needs)
+    (λ c. search needs)
     returns-2
-    refused-requires-2
+    (λ c κs. search needs)
     returns-3)

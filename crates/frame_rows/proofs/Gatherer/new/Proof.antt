@@ -4,11 +4,8 @@ use Rattle.frame.specs.declared.Judge.{Judge}
 use Rattle.frame_rows.proofs.Gatherer.new.Statement.{statement}
 use Rattle.frame_rows.proofs.Gatherer.new.Tie as tie
 
-new-requires : tie.Need-new-requires
-new-requires c κs = search needs
-
 returns : tie.Need-returns
 returns c = ap (λ (j : Judge). record { judge = j; kept = 0; order = c .before .args .order }) (c .new .ensures)
 
 pub new-spec : {M : Type 1} → statement M
-new-spec = tie.close (tie.spec new-requires returns)
+new-spec = tie.close (tie.spec (λ c κs. search needs) returns)

@@ -8,24 +8,9 @@ use Rattle.frame_rows.proofs.Answering.{gives, quietly}
 use Rattle.frame_rows.proofs.Gatherer.onward.Statement.{statement}
 use Rattle.frame_rows.proofs.Gatherer.onward.Tie as tie
 
-number-requires : tie.Need-number-requires
-number-requires c κs = search needs
-
-keep-row-requires : tie.Need-keep-row-requires
-keep-row-requires c κs = search needs
-
-same-length : tie.Need-same-length
-same-length c = search needs
-
 returns : tie.Need-returns
 unfolding onward
 returns c = simp (eq-eqb _ (kindNumber VL) (c .before .before .before .before .if1 .taken ∙ c .before .before .before .before .before .number .ensures)) (c .before .before .keep-row .ensures)
-
-moved-requires : tie.Need-moved-requires
-moved-requires c κs = search needs
-
-quiet-requires : tie.Need-quiet-requires
-quiet-requires c κs = search needs
 
 returns-2 : tie.Need-returns-2
 unfolding onward
@@ -35,10 +20,10 @@ pub onward-spec : {M : Type 1} → statement M
 onward-spec =
     tie.close
     (tie.spec
-    number-requires
-    keep-row-requires
-    same-length
+    (λ c κs. search needs)
+    (λ c κs. search needs)
+    (λ c. search needs)
     returns
-    moved-requires
-    quiet-requires
+    (λ c κs. search needs)
+    (λ c κs. search needs)
     returns-2)

@@ -3,21 +3,6 @@ use borrow.Author.Needs.{needs}
 use Rattle.line_code.proofs.Meaning.clean_byte.Statement.{statement}
 use Rattle.line_code.proofs.Meaning.clean_byte.Tie as tie
 
-enum-told : tie.Need-enum-told
-enum-told c = search needs
-
-enum-known-self : tie.Need-enum-known-self
-enum-known-self c = search needs
-
-clean-byte-requires : tie.Need-clean-byte-requires
-clean-byte-requires c κs = search needs
-
-enum-told-2 : tie.Need-enum-told-2
-enum-told-2 c = search needs
-
-enum-told-3 : tie.Need-enum-told-3
-enum-told-3 c = search needs
-
 returns : tie.Need-returns
 unfolding cleanByte
 returns c = simp (c .enum-told .given .1)
@@ -37,11 +22,11 @@ pub clean-byte-spec : {M : Type 1} → statement M
 clean-byte-spec =
     tie.close
     (tie.spec
-    enum-told
-    enum-known-self
-    clean-byte-requires
-    enum-told-2
-    enum-told-3
+    (λ c. search needs)
+    (λ c. search needs)
+    (λ c κs. search needs)
+    (λ c. search needs)
+    (λ c. search needs)
     returns
     returns-2
     returns-3

@@ -6,20 +6,11 @@ use borrow.Author.Needs.{needs}
 use Rattle.listing.proofs.frames.put_broken.Statement.{statement}
 use Rattle.listing.proofs.frames.put_broken.Tie as tie
 
-put-frame-requires : tie.Need-put-frame-requires
-put-frame-requires c κs = search needs
-
-slice-aggregate-put : tie.Need-slice-aggregate-put
-slice-aggregate-put c = search needs
-
 put-requires : tie.Need-put-requires
 put-requires c κs = omega (arith, decimal-short (c .before .before .before .before .before .before .before .args .frame))
 
 put-decimal-requires : tie.Need-put-decimal-requires
 put-decimal-requires c κs = omega (arith, decimal-short (c .before .before .before .before .before .before .before .before .before .before .before .args .frame))
-
-slice-aggregate-put-2 : tie.Need-slice-aggregate-put-2
-slice-aggregate-put-2 c = search needs
 
 put-requires-2 : tie.Need-put-requires-2
 put-requires-2 c κs = omega (arith, decimal-short (c .before .before .before .before .before .before .before .before .before .before .before .before .before .before .before .before .args .frame), decimal-short (c .before .before .before .before .before .before .before .before .before .before .before .before .before .before .before .before .args .mark))
@@ -30,9 +21,6 @@ put-decimal-requires-2 c κs = omega (arith, decimal-short (c .before .before .b
 put-reason-requires : tie.Need-put-reason-requires
 put-reason-requires c κs = omega (arith, decimal-short (c .before .before .before .before .before .before .before .before .before .before .before .before .before .before .before .before .before .before .before .before .before .before .before .before .args .frame), decimal-short (c .before .before .before .before .before .before .before .before .before .before .before .before .before .before .before .before .before .before .before .before .before .before .before .before .args .mark), decimal-short (c .before .before .before .before .before .before .before .before .before .before .before .before .before .before .before .before .before .before .before .before .before .before .before .before .args .refusal))
 
-same-length : tie.Need-same-length
-same-length c = search needs
-
 returns : tie.Need-returns
 unfolding brokenLineOf
 returns c = joined (c .before .before .before .before .before .before .before .before .before .before .before .before .before .before .before .before .before .before .before .before .before .before .before .before .put-frame .ensures) (joined (c .before .before .before .before .before .before .before .before .before .before .before .before .before .before .before .before .before .before .before .put .ensures) (joined (c .before .before .before .before .before .before .before .before .before .before .before .before .before .before .before .put-decimal .ensures) (joined (c .before .before .before .before .before .before .before .before .before .before .put2 .ensures) (joined (c .before .before .before .before .before .before .put-decimal2 .ensures) (c .before .before .put-reason .ensures)))))
@@ -41,13 +29,13 @@ pub put-broken-spec : {M : Type 1} → statement M
 put-broken-spec =
     tie.close
     (tie.spec
-    put-frame-requires
-    slice-aggregate-put
+    (λ c κs. search needs)
+    (λ c. search needs)
     put-requires
     put-decimal-requires
-    slice-aggregate-put-2
+    (λ c. search needs)
     put-requires-2
     put-decimal-requires-2
     put-reason-requires
-    same-length
+    (λ c. search needs)
     returns)

@@ -13,29 +13,17 @@ returns : tie.Need-returns
 unfolding ifRoom
 returns c = simp (lt-ltb _ _ (c .if1 .taken)) (refl, refl)
 
-put-decimal-requires : tie.Need-put-decimal-requires
-put-decimal-requires c κs = search needs
-
-slice-aggregate-put : tie.Need-slice-aggregate-put
-slice-aggregate-put c = search needs
-
 put-requires : tie.Need-put-requires
 put-requires c κs = omega (arith, decimal-short (c .before .before .before .before .before .before .before .before .args .complete))
 
 put-decimal-requires-2 : tie.Need-put-decimal-requires-2
 put-decimal-requires-2 c κs = omega (arith, decimal-short (c .before .before .before .before .before .before .before .before .before .before .before .before .args .complete))
 
-slice-aggregate-put-2 : tie.Need-slice-aggregate-put-2
-slice-aggregate-put-2 c = search needs
-
 put-requires-2 : tie.Need-put-requires-2
 put-requires-2 c κs = omega (arith, decimal-short (c .before .before .before .before .before .before .before .before .before .before .before .before .before .before .before .before .before .args .complete), decimal-short (c .before .before .before .before .before .before .before .before .before .before .before .before .before .before .before .before .before .args .broken))
 
 put-good-requires : tie.Need-put-good-requires
 put-good-requires c κs = omega (arith, decimal-short (c .before .before .before .before .before .before .before .before .before .before .before .before .before .before .before .before .before .before .before .before .before .args .complete), decimal-short (c .before .before .before .before .before .before .before .before .before .before .before .before .before .before .before .before .before .before .before .before .before .args .broken))
-
-same-length : tie.Need-same-length
-same-length c = search needs
 
 returns-2 : tie.Need-returns-2
 unfolding ifRoom summaryLines
@@ -46,12 +34,12 @@ summary-spec =
     tie.close
     (tie.spec
     returns
-    put-decimal-requires
-    slice-aggregate-put
+    (λ c κs. search needs)
+    (λ c. search needs)
     put-requires
     put-decimal-requires-2
-    slice-aggregate-put-2
+    (λ c. search needs)
     put-requires-2
     put-good-requires
-    same-length
+    (λ c. search needs)
     returns-2)

@@ -16,23 +16,8 @@ Inv-loop file text i₀ i = (i ≤ headerLength) × (starts text file ≡ starts
 abbrev μ-loop : tie.MeasureT-loop
 μ-loop file text i₀ i = headerLength - i
 
-header-requires : tie.Need-header-requires Inv-loop μ-loop
-header-requires c κs = search needs
-
 loop-holds : tie.Need-loop-holds Inv-loop μ-loop
 loop-holds c = (search needs, refl)
-
-shared-slice-read-if1 : tie.Need-shared-slice-read-if1 Inv-loop μ-loop
-shared-slice-read-if1 c = search needs
-
-array-read-if1 : tie.Need-array-read-if1 Inv-loop μ-loop
-array-read-if1 c = search needs
-
-add-i : tie.Need-add-i Inv-loop μ-loop
-add-i c = search needs
-
-loop-less : tie.Need-loop-less Inv-loop μ-loop
-loop-less c = search needs
 
 loop-again : tie.Need-loop-again Inv-loop μ-loop
 loop-again c =
@@ -56,12 +41,12 @@ heads-spec =
     (tie.spec
     Inv-loop
     μ-loop
-    header-requires
+    (λ c κs. search needs)
     loop-holds
-    shared-slice-read-if1
-    array-read-if1
-    add-i
-    loop-less
+    (λ c. search needs)
+    (λ c. search needs)
+    (λ c. search needs)
+    (λ c. search needs)
     loop-again
     returns
     returns-2)

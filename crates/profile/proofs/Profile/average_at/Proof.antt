@@ -6,22 +6,10 @@ use Rattle.profile.proofs.PlaceLaws.{averages-inside, average-places}
 use Rattle.profile.proofs.Profile.average_at.Statement.{statement}
 use Rattle.profile.proofs.Profile.average_at.Tie as tie
 
-image-start-requires : tie.Need-image-start-requires
-image-start-requires c κs = search needs
-
-averages-requires : tie.Need-averages-requires
-averages-requires c κs = search needs
-
 add-within : tie.Need-add-within
 add-within c =
     let p = c .before .before .args .self in
     omega (arith, image-centred p, body-small p, averages-inside p)
-
-within-requires : tie.Need-within-requires
-within-requires c κs = search needs
-
-at-even-requires : tie.Need-at-even-requires
-at-even-requires c κs = search needs
 
 returns : tie.Need-returns
 returns c =
@@ -33,9 +21,9 @@ pub average-at-spec : {M : Type 1} → statement M
 average-at-spec =
     tie.close
     (tie.spec
-    image-start-requires
-    averages-requires
+    (λ c κs. search needs)
+    (λ c κs. search needs)
     add-within
-    within-requires
-    at-even-requires
+    (λ c κs. search needs)
+    (λ c κs. search needs)
     returns)

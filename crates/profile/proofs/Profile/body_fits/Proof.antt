@@ -15,9 +15,6 @@ Inv-loop self kind body i₀ i =
 abbrev μ-loop : tie.MeasureT-loop
 μ-loop self kind body i₀ i = length body - i
 
-body-length-requires : tie.Need-body-length-requires Inv-loop μ-loop
-body-length-requires c κs = search needs
-
 returns : tie.Need-returns Inv-loop μ-loop
 returns c =
     let a = c .before .before .before .args in
@@ -28,21 +25,6 @@ loop-holds : tie.Need-loop-holds Inv-loop μ-loop
 loop-holds c =
     let a = c .before .before .before .args in
     (search needs, c .if1 .left ∙ c .before .body-length .ensures ∙ sym (rules-length (a .self) (a .kind)), refl)
-
-rule-at-requires : tie.Need-rule-at-requires Inv-loop μ-loop
-rule-at-requires c κs = search needs
-
-shared-slice-read-allows : tie.Need-shared-slice-read-allows Inv-loop μ-loop
-shared-slice-read-allows c = search needs
-
-allows-requires : tie.Need-allows-requires Inv-loop μ-loop
-allows-requires c κs = search needs
-
-add-i : tie.Need-add-i Inv-loop μ-loop
-add-i c = search needs
-
-loop-less : tie.Need-loop-less Inv-loop μ-loop
-loop-less c = search needs
 
 loop-again : tie.Need-loop-again Inv-loop μ-loop
 loop-again c =
@@ -65,14 +47,14 @@ body-fits-spec =
     (tie.spec
     Inv-loop
     μ-loop
-    body-length-requires
+    (λ c κs. search needs)
     returns
     loop-holds
-    rule-at-requires
-    shared-slice-read-allows
-    allows-requires
-    add-i
-    loop-less
+    (λ c κs. search needs)
+    (λ c. search needs)
+    (λ c κs. search needs)
+    (λ c. search needs)
+    (λ c. search needs)
     loop-again
     returns-2
     returns-3)

@@ -2,45 +2,6 @@ use borrow.Author.Needs.{needs}
 use Rattle.profile.proofs.Profile.gap_fits.Statement.{statement}
 use Rattle.profile.proofs.Profile.gap_fits.Tie as tie
 
-enum-told : tie.Need-enum-told
-enum-told c = search needs
-
-both-are-requires : tie.Need-both-are-requires
-both-are-requires c κs = search needs
-
-enum-told-2 : tie.Need-enum-told-2
-enum-told-2 c = search needs
-
-enum-told-3 : tie.Need-enum-told-3
-enum-told-3 c = search needs
-
-both-are-requires-2 : tie.Need-both-are-requires-2
-both-are-requires-2 c κs = search needs
-
-enum-told-4 : tie.Need-enum-told-4
-enum-told-4 c = search needs
-
-both-are-requires-3 : tie.Need-both-are-requires-3
-both-are-requires-3 c κs = search needs
-
-enum-told-5 : tie.Need-enum-told-5
-enum-told-5 c = search needs
-
-both-pixels-requires : tie.Need-both-pixels-requires
-both-pixels-requires c κs = search needs
-
-enum-told-6 : tie.Need-enum-told-6
-enum-told-6 c = search needs
-
-both-are-requires-4 : tie.Need-both-are-requires-4
-both-are-requires-4 c κs = search needs
-
-enum-told-7 : tie.Need-enum-told-7
-enum-told-7 c = search needs
-
-both-are-requires-5 : tie.Need-both-are-requires-5
-both-are-requires-5 c κs = search needs
-
 returns : tie.Need-returns
 returns c = simp (c .before .enum-told .given .1, c .both-are .ensures)
 
@@ -63,19 +24,19 @@ pub gap-fits-spec : {M : Type 1} → statement M
 gap-fits-spec =
     tie.close
     (tie.spec
-    enum-told
-    both-are-requires
-    enum-told-2
-    enum-told-3
-    both-are-requires-2
-    enum-told-4
-    both-are-requires-3
-    enum-told-5
-    both-pixels-requires
-    enum-told-6
-    both-are-requires-4
-    enum-told-7
-    both-are-requires-5
+    (λ c. search needs)
+    (λ c κs. search needs)
+    (λ c. search needs)
+    (λ c. search needs)
+    (λ c κs. search needs)
+    (λ c. search needs)
+    (λ c κs. search needs)
+    (λ c. search needs)
+    (λ c κs. search needs)
+    (λ c. search needs)
+    (λ c κs. search needs)
+    (λ c. search needs)
+    (λ c κs. search needs)
     returns
     returns-2
     returns-3

@@ -5,9 +5,6 @@ use Rattle.profile.proofs.PlaceLaws.{border-outside, pixel-places}
 use Rattle.profile.proofs.Profile.pixel_at.Statement.{statement}
 use Rattle.profile.proofs.Profile.pixel_at.Tie as tie
 
-border-requires : tie.Need-border-requires
-border-requires c κs = search needs
-
 image-at-requires : tie.Need-image-at-requires
 image-at-requires c κs = omega (arith, border-outside (c .before .args .self))
 
@@ -15,4 +12,4 @@ returns : tie.Need-returns
 returns c = simp (c .image-at .ensures, c .before .border .ensures) (sym (pixel-places (c .before .before .args .self) (c .before .before .args .place)))
 
 pub pixel-at-spec : {M : Type 1} → statement M
-pixel-at-spec = tie.close (tie.spec border-requires image-at-requires returns)
+pixel-at-spec = tie.close (tie.spec (λ c κs. search needs) image-at-requires returns)

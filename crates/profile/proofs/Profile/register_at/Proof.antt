@@ -4,14 +4,8 @@ use Rattle.profile.proofs.PlaceLaws.{register-places}
 use Rattle.profile.proofs.Profile.register_at.Statement.{statement}
 use Rattle.profile.proofs.Profile.register_at.Tie as tie
 
-image-at-requires : tie.Need-image-at-requires
-image-at-requires c κs = search needs
-
-at-even-requires : tie.Need-at-even-requires
-at-even-requires c κs = search needs
-
 returns : tie.Need-returns
 returns c = simp (c .at-even .ensures, c .before .image-at .ensures) (sym (register-places (c .before .before .args .self) (c .before .before .args .place)))
 
 pub register-at-spec : {M : Type 1} → statement M
-register-at-spec = tie.close (tie.spec image-at-requires at-even-requires returns)
+register-at-spec = tie.close (tie.spec (λ c κs. search needs) (λ c κs. search needs) returns)

@@ -4,33 +4,6 @@ use Rattle.profile.proofs.PlaceLaws.{filler-places}
 use Rattle.profile.proofs.Profile.rule_at.Statement.{statement}
 use Rattle.profile.proofs.Profile.rule_at.Tie as tie
 
-enum-told : tie.Need-enum-told
-enum-told c = search needs
-
-enum-told-2 : tie.Need-enum-told-2
-enum-told-2 c = search needs
-
-pixel-at-requires : tie.Need-pixel-at-requires
-pixel-at-requires c κs = search needs
-
-enum-told-3 : tie.Need-enum-told-3
-enum-told-3 c = search needs
-
-pixel-at-requires-2 : tie.Need-pixel-at-requires-2
-pixel-at-requires-2 c κs = search needs
-
-enum-told-4 : tie.Need-enum-told-4
-enum-told-4 c = search needs
-
-register-at-requires : tie.Need-register-at-requires
-register-at-requires c κs = search needs
-
-enum-told-5 : tie.Need-enum-told-5
-enum-told-5 c = search needs
-
-average-at-requires : tie.Need-average-at-requires
-average-at-requires c κs = search needs
-
 returns : tie.Need-returns
 returns c = simp (c .enum-told .given .1) (sym (filler-places (c .before .before .args .self) (c .before .before .args .place)))
 
@@ -50,15 +23,15 @@ pub rule-at-spec : {M : Type 1} → statement M
 rule-at-spec =
     tie.close
     (tie.spec
-    enum-told
-    enum-told-2
-    pixel-at-requires
-    enum-told-3
-    pixel-at-requires-2
-    enum-told-4
-    register-at-requires
-    enum-told-5
-    average-at-requires
+    (λ c. search needs)
+    (λ c. search needs)
+    (λ c κs. search needs)
+    (λ c. search needs)
+    (λ c κs. search needs)
+    (λ c. search needs)
+    (λ c κs. search needs)
+    (λ c. search needs)
+    (λ c κs. search needs)
     returns
     returns-2
     returns-3

@@ -1,19 +1,14 @@
-use mathlib.Core.Path.{refl, sym, subst, _∙_}
+use mathlib.Core.Path.{sym, _∙_}
 use native.Mathlib.Omega.{arith}
 use lib.ListN.{length}
 use denote.Ref.{now}
 use borrow.Author.Needs.{needs}
 use Rattle.refusal.specs.Refusal.{badState, noRoom}
-use Rattle.stream.specs.Answers.{outcomeOf, answerFor, bufferAfter}
-use Rattle.reader.specs.Run.{Ran}
 use Rattle.reader.specs.Parts.{reader, ranFrom}
 use Rattle.reader.proofs.Told.{told-run}
 use Rattle.reader.proofs.Running.{lent-wrong, lent-right, run-fails, run-short, run-goes, tells, refuses}
 use Rattle.reader.proofs.Head.run.Statement.{statement}
 use Rattle.reader.proofs.Head.run.Tie as tie
-
-refuse-requires : tie.Need-refuse-requires
-refuse-requires c κs = search needs
 
 returns : tie.Need-returns
 returns c =
@@ -22,15 +17,6 @@ returns c =
     let s = now (a .nibbles) in
     let b = now (a .buffer) in
     refuses (a .self .profile) _ badState b (lent-wrong (a .self) B s (length b) (c .before .if1 .taken)) (c .refuse .ensures)
-
-passes-requires : tie.Need-passes-requires
-passes-requires c κs = search needs
-
-body-length-requires : tie.Need-body-length-requires
-body-length-requires c κs = search needs
-
-refuse-requires-2 : tie.Need-refuse-requires-2
-refuse-requires-2 c κs = search needs
 
 returns-2 : tie.Need-returns-2
 returns-2 c =
@@ -42,15 +28,6 @@ returns-2 c =
     ∙ run-short (a .self) B s (length b) (sym (c .before .before .before .before .passes .ensures) ∙ c .before .before .before .if2 .taken) (omega (arith, c .before .if3 .taken, c .before .before .body-length .ensures)) in
     refuses (a .self .profile) _ noRoom b q (c .refuse2 .ensures)
 
-up-to-stop-requires : tie.Need-up-to-stop-requires
-up-to-stop-requires c κs = search needs
-
-same-length : tie.Need-same-length
-same-length c = search needs
-
-same-length-2 : tie.Need-same-length-2
-same-length-2 c = search needs
-
 returns-3 : tie.Need-returns-3
 returns-3 c =
     let a = c .before .before .before .before .before .before .before .before .before .before .before .before .before .before .before .args in
@@ -61,9 +38,6 @@ returns-3 c =
     ∙ run-goes (a .self) B s (length b) (sym (c .before .before .before .before .before .before .before .before .before .before .passes .ensures) ∙ c .before .before .before .before .before .before .before .before .before .if2 .taken) (omega (arith, c .before .before .before .before .before .before .before .if3 .left, c .before .before .before .before .before .before .before .before .body-length .ensures)) in
     let e = c .before .before .before .before .up-to-stop .ensures in
     simp q (tells (a .self .profile) (ranFrom (a .self) B s) b e (told-run (reader (a .self) B) s b))
-
-refuse-requires-3 : tie.Need-refuse-requires-3
-refuse-requires-3 c κs = search needs
 
 returns-4 : tie.Need-returns-4
 returns-4 c =
@@ -78,15 +52,15 @@ pub run-spec : {M : Type 1} → statement M
 run-spec =
     tie.close
     (tie.spec
-    refuse-requires
+    (λ c κs. search needs)
     returns
-    passes-requires
-    body-length-requires
-    refuse-requires-2
+    (λ c κs. search needs)
+    (λ c κs. search needs)
+    (λ c κs. search needs)
     returns-2
-    up-to-stop-requires
-    same-length
-    same-length-2
+    (λ c κs. search needs)
+    (λ c. search needs)
+    (λ c. search needs)
     returns-3
-    refuse-requires-3
+    (λ c κs. search needs)
     returns-4)

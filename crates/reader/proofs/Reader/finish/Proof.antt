@@ -3,18 +3,6 @@ use borrow.Author.Needs.{needs}
 use Rattle.reader.proofs.Reader.finish.Statement.{statement}
 use Rattle.reader.proofs.Reader.finish.Tie as tie
 
-passes-requires : tie.Need-passes-requires
-passes-requires c κs = search needs
-
-flush-requires : tie.Need-flush-requires
-flush-requires c κs = search needs
-
-at-finish-requires : tie.Need-at-finish-requires
-at-finish-requires c κs = search needs
-
-fresh-requires : tie.Need-fresh-requires
-fresh-requires c κs = search needs
-
 returns : tie.Need-returns
 unfolding finishOf
 returns c = (simp (← c .before .before .before .before .before .passes .ensures, c .before .before .before .before .if1 .taken, c .fresh .ensures), simp (← c .before .before .before .before .before .passes .ensures, c .before .before .before .before .if1 .taken, c .before .at-finish .ensures, c .before .before .before .flush .ensures))
@@ -26,4 +14,4 @@ returns-2 c = (simp (← c .before .passes .ensures, c .if1 .left), simp (← c 
 pub finish-spec : {M : Type 1} → statement M
 finish-spec =
     tie.close
-    (tie.spec passes-requires flush-requires at-finish-requires fresh-requires returns returns-2)
+    (tie.spec (λ c κs. search needs) (λ c κs. search needs) (λ c κs. search needs) (λ c κs. search needs) returns returns-2)

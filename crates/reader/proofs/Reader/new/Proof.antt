@@ -2,21 +2,6 @@ use borrow.Author.Needs.{needs}
 use Rattle.reader.proofs.Reader.new.Statement.{statement}
 use Rattle.reader.proofs.Reader.new.Tie as tie
 
-numbered-requires : tie.Need-numbered-requires
-numbered-requires c κs = search needs
-
-enum-known-found : tie.Need-enum-known-found
-enum-known-found c = search needs
-
-fresh-requires : tie.Need-fresh-requires
-fresh-requires c κs = search needs
-
-enum-told : tie.Need-enum-told
-enum-told c = search needs
-
-fresh-requires-2 : tie.Need-fresh-requires-2
-fresh-requires-2 c κs = search needs
-
 returns : tie.Need-returns
 returns c = (simp (← c .before .before .before .before .numbered .ensures, c .before .before .found .given .1, c .fresh .ensures), simp (← c .before .before .before .before .numbered .ensures, c .before .before .found .given .1))
 
@@ -27,10 +12,10 @@ pub new-spec : {M : Type 1} → statement M
 new-spec =
     tie.close
     (tie.spec
-    numbered-requires
-    enum-known-found
-    fresh-requires
-    enum-told
-    fresh-requires-2
+    (λ c κs. search needs)
+    (λ c. search needs)
+    (λ c κs. search needs)
+    (λ c. search needs)
+    (λ c κs. search needs)
     returns
     returns-2)

@@ -9,18 +9,6 @@ use Rattle.reader.proofs.run.ahead.Tie as tie
 returns : tie.Need-returns
 returns c = let a = c .before .before .before .before .args in (leads-here (now (a .s)) (a .h) _ (a .from), refl, search needs, search needs)
 
-before-body-requires : tie.Need-before-body-requires
-before-body-requires c κs = search needs
-
-in-body-requires : tie.Need-in-body-requires
-in-body-requires c κs = search needs
-
-past-body-requires : tie.Need-past-body-requires
-past-body-requires c κs = search needs
-
-same-length : tie.Need-same-length
-same-length c = search needs
-
 returns-2 : tie.Need-returns-2
 returns-2 c =
     let a = c .before .before .before .before .before .before .before .before .before .before .args in
@@ -38,8 +26,8 @@ ahead-spec =
     tie.close
     (tie.spec
     returns
-    before-body-requires
-    in-body-requires
-    past-body-requires
-    same-length
+    (λ c κs. search needs)
+    (λ c κs. search needs)
+    (λ c κs. search needs)
+    (λ c. search needs)
     returns-2)

@@ -1,4 +1,4 @@
-use mathlib.Core.Path.{_≡_, refl, sym, _∙_}
+use mathlib.Core.Path.{_≡_, refl}
 use mathlib.Core.List.{List}
 use Prim.Native.Nat.{ℕ, _+_, _-_, _%_, _≤_, _<_}
 use native.Mathlib.Omega.{arith}
@@ -21,28 +21,10 @@ abbrev μ-loop : tie.MeasureT-loop
 returns : tie.Need-returns Inv-loop μ-loop
 returns c = let a = c .before .before .before .args in (λ B. leads-here (now (a .s)) (a .h) B (a .from), refl, search needs, search needs, search needs)
 
-sub-sooner : tie.Need-sub-sooner Inv-loop μ-loop
-sub-sooner c = search needs
-
-cast-sooner : tie.Need-cast-sooner Inv-loop μ-loop
-cast-sooner c = search needs
-
-sooner-requires : tie.Need-sooner-requires Inv-loop μ-loop
-sooner-requires c κs = search needs
-
 loop-holds : tie.Need-loop-holds Inv-loop μ-loop
 loop-holds c =
     let a = c .before .before .before .before .before .before .args in
     (λ B. leads-here (now (a .s)) (a .h) B (a .from), search needs, search needs, omega arith, search needs, search needs, search needs)
-
-is-pair-requires : tie.Need-is-pair-requires Inv-loop μ-loop
-is-pair-requires c κs = search needs
-
-top-byte-requires : tie.Need-top-byte-requires Inv-loop μ-loop
-top-byte-requires c κs = search needs
-
-keep-byte-requires : tie.Need-keep-byte-requires Inv-loop μ-loop
-keep-byte-requires c κs = search needs
 
 shared-slice-read-slide-byte : tie.Need-shared-slice-read-slide-byte Inv-loop μ-loop
 shared-slice-read-slide-byte c =
@@ -67,9 +49,6 @@ slide-byte-requires c κs =
     let l = c .before .before .before .before .before .before .loop in
     let q = is-pair (l .inv .5) (c .before .before .before .before .before .is-pair .ensures) (c .before .before .before .before .if2 .taken) in
     (q .high-small, q .low-small)
-
-add-count : tie.Need-add-count Inv-loop μ-loop
-add-count c = search needs
 
 add-i : tie.Need-add-i Inv-loop μ-loop
 add-i c =
@@ -110,18 +89,18 @@ before-body-spec =
     Inv-loop
     μ-loop
     returns
-    sub-sooner
-    cast-sooner
-    sooner-requires
+    (λ c. search needs)
+    (λ c. search needs)
+    (λ c κs. search needs)
     loop-holds
-    is-pair-requires
-    top-byte-requires
-    keep-byte-requires
+    (λ c κs. search needs)
+    (λ c κs. search needs)
+    (λ c κs. search needs)
     shared-slice-read-slide-byte
     add-slide-byte
     shared-slice-read-slide-byte-2
     slide-byte-requires
-    add-count
+    (λ c. search needs)
     add-i
     loop-less
     loop-again

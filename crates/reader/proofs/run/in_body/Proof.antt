@@ -1,4 +1,4 @@
-use mathlib.Core.Path.{_≡_, refl, sym, subst}
+use mathlib.Core.Path.{_≡_, refl, subst}
 use Prim.Native.Nat.{ℕ, _+_, _-_, _*_, _/_, _≤_, _<_}
 use native.Mathlib.Omega.{arith}
 use lib.ListN.{length, length-set}
@@ -25,37 +25,16 @@ returns c = let a = c .before .before .before .before .args in (leads-here (now 
 returns-2 : tie.Need-returns-2 Inv-loop μ-loop
 returns-2 c = let a = c .before .before .before .before .before .before .args in (leads-here (now (a .s)) (a .h) _ (a .from), refl, search needs, search needs)
 
-cast-place : tie.Need-cast-place Inv-loop μ-loop
-cast-place c = search needs
-
-sub-sooner : tie.Need-sub-sooner Inv-loop μ-loop
-sub-sooner c = search needs
-
-mul-sooner : tie.Need-mul-sooner Inv-loop μ-loop
-mul-sooner c = search needs
-
-sooner-requires : tie.Need-sooner-requires Inv-loop μ-loop
-sooner-requires c κs = search needs
-
 loop-holds : tie.Need-loop-holds Inv-loop μ-loop
 loop-holds c =
     let a = c .before .before .before .before .before .before .before .before .before .args in
     (leads-here (now (a .s)) _ _ (a .from), search needs, search needs, search needs, omega arith, search needs, search needs, omega arith, omega arith)
-
-is-pair-requires : tie.Need-is-pair-requires Inv-loop μ-loop
-is-pair-requires c κs = search needs
-
-top-byte-requires : tie.Need-top-byte-requires Inv-loop μ-loop
-top-byte-requires c κs = search needs
 
 slice-write-body : tie.Need-slice-write-body Inv-loop μ-loop
 slice-write-body c =
     let l = c .before .before .before .loop in
     let q = is-pair (l .inv .5) (c .before .before .is-pair .ensures) (c .before .if3 .taken) in
     omega (arith, q .fits, l .inv .2, l .inv .4, l .inv .7)
-
-stray-after-requires : tie.Need-stray-after-requires Inv-loop μ-loop
-stray-after-requires c κs = search needs
 
 shared-slice-read-slide-byte : tie.Need-shared-slice-read-slide-byte Inv-loop μ-loop
 shared-slice-read-slide-byte c =
@@ -150,15 +129,15 @@ in-body-spec =
     μ-loop
     returns
     returns-2
-    cast-place
-    sub-sooner
-    mul-sooner
-    sooner-requires
+    (λ c. search needs)
+    (λ c. search needs)
+    (λ c. search needs)
+    (λ c κs. search needs)
     loop-holds
-    is-pair-requires
-    top-byte-requires
+    (λ c κs. search needs)
+    (λ c κs. search needs)
     slice-write-body
-    stray-after-requires
+    (λ c κs. search needs)
     shared-slice-read-slide-byte
     add-slide-byte
     shared-slice-read-slide-byte-2

@@ -4,32 +4,17 @@ use Rattle.reader.specs.Parts.{isPair}
 use Rattle.reader.proofs.run.is_pair.Statement.{statement}
 use Rattle.reader.proofs.run.is_pair.Tie as tie
 
-sub-if1 : tie.Need-sub-if1
-sub-if1 c = search needs
-
 returns : tie.Need-returns
 unfolding isPair
 returns c = simp (lt-leb _ _ (c .if1 .taken))
-
-is-near-requires : tie.Need-is-near-requires
-is-near-requires c κs = search needs
 
 returns-2 : tie.Need-returns-2
 unfolding isPair
 returns-2 c = simp (le-leb _ _ (c .before .before .if1 .left), ← c .before .is-near .ensures, c .if2 .taken)
 
-shared-slice-read-if3 : tie.Need-shared-slice-read-if3
-shared-slice-read-if3 c = search needs
-
 returns-3 : tie.Need-returns-3
 unfolding isPair
 returns-3 c = simp (le-leb _ _ (c .before .before .before .before .if1 .left), ← c .before .before .before .is-near .ensures, c .before .before .if2 .left, lt-leb _ _ (c .if3 .taken))
-
-add-if4 : tie.Need-add-if4
-add-if4 c = search needs
-
-shared-slice-read-if4 : tie.Need-shared-slice-read-if4
-shared-slice-read-if4 c = search needs
 
 returns-4 : tie.Need-returns-4
 unfolding isPair
@@ -43,13 +28,13 @@ pub is-pair-spec : {M : Type 1} → statement M
 is-pair-spec =
     tie.close
     (tie.spec
-    sub-if1
+    (λ c. search needs)
     returns
-    is-near-requires
+    (λ c κs. search needs)
     returns-2
-    shared-slice-read-if3
+    (λ c. search needs)
     returns-3
-    add-if4
-    shared-slice-read-if4
+    (λ c. search needs)
+    (λ c. search needs)
     returns-4
     returns-5)

@@ -8,9 +8,6 @@ returns : tie.Need-returns
 unfolding byteKept
 returns c = simp (lt-ltb _ _ (c .if1 .taken))
 
-stray-kept-requires : tie.Need-stray-kept-requires
-stray-kept-requires c κs = search needs
-
 returns-2 : tie.Need-returns-2
 unfolding byteKept
 returns-2 c = simp (le-ltb _ _ (c .before .before .if1 .left), eq-eqb _ _ (c .if2 .taken), c .before .stray-kept .ensures)
@@ -20,4 +17,4 @@ unfolding byteKept
 returns-3 c = simp (le-ltb _ _ (c .before .before .if1 .left), ne-eqb _ _ (c .if2 .left), c .before .stray-kept .ensures)
 
 pub keep-byte-spec : {M : Type 1} → statement M
-keep-byte-spec = tie.close (tie.spec returns stray-kept-requires returns-2 returns-3)
+keep-byte-spec = tie.close (tie.spec returns (λ c κs. search needs) returns-2 returns-3)

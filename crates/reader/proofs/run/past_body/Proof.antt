@@ -1,4 +1,4 @@
-use mathlib.Core.Path.{_≡_, refl}
+use mathlib.Core.Path.{refl}
 use mathlib.Core.List.{List}
 use Prim.Native.Nat.{ℕ, _-_, _≤_, _<_}
 use native.Mathlib.Omega.{arith}
@@ -26,15 +26,6 @@ loop-holds c =
     let a = c .before .before .before .before .args in
     (λ B. leads-here (now (a .s)) (a .h) B (a .from), search needs, search needs, search needs, search needs, search needs)
 
-is-pair-requires : tie.Need-is-pair-requires Inv-loop μ-loop
-is-pair-requires c κs = search needs
-
-top-byte-requires : tie.Need-top-byte-requires Inv-loop μ-loop
-top-byte-requires c κs = search needs
-
-stray-after-requires : tie.Need-stray-after-requires Inv-loop μ-loop
-stray-after-requires c κs = search needs
-
 shared-slice-read-slide-byte : tie.Need-shared-slice-read-slide-byte Inv-loop μ-loop
 shared-slice-read-slide-byte c =
     let l = c .before .before .before .before .before .loop in
@@ -58,12 +49,6 @@ slide-byte-requires c κs =
     let l = c .before .before .before .before .before .before .loop in
     let q = is-pair (l .inv .4) (c .before .before .before .before .before .is-pair .ensures) (c .before .before .before .before .if2 .taken) in
     (q .high-small, q .low-small)
-
-next-count-requires : tie.Need-next-count-requires Inv-loop μ-loop
-next-count-requires c κs = search needs
-
-next-count-requires-2 : tie.Need-next-count-requires-2 Inv-loop μ-loop
-next-count-requires-2 c κs = search needs
 
 add-i : tie.Need-add-i Inv-loop μ-loop
 add-i c =
@@ -105,15 +90,15 @@ past-body-spec =
     μ-loop
     returns
     loop-holds
-    is-pair-requires
-    top-byte-requires
-    stray-after-requires
+    (λ c κs. search needs)
+    (λ c κs. search needs)
+    (λ c κs. search needs)
     shared-slice-read-slide-byte
     add-slide-byte
     shared-slice-read-slide-byte-2
     slide-byte-requires
-    next-count-requires
-    next-count-requires-2
+    (λ c κs. search needs)
+    (λ c κs. search needs)
     add-i
     loop-less
     loop-again

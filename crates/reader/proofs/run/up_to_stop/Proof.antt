@@ -22,20 +22,8 @@ Inv-loop body₀ nibbles buffer₀ h₀ i₀ body buffer h i =
 abbrev μ-loop : tie.MeasureT-loop
 μ-loop body₀ nibbles buffer₀ h₀ i₀ body buffer h i = length nibbles - i
 
-ahead-requires : tie.Need-ahead-requires Inv-loop μ-loop
-ahead-requires c κs = search needs
-
 loop-holds : tie.Need-loop-holds Inv-loop μ-loop
 loop-holds c = (leads-here _ _ _ _, search needs, refl, search needs, refl)
-
-shared-slice-read-x : tie.Need-shared-slice-read-x Inv-loop μ-loop
-shared-slice-read-x c = search needs
-
-refuse-requires : tie.Need-refuse-requires Inv-loop μ-loop
-refuse-requires c κs = search needs
-
-same-length : tie.Need-same-length Inv-loop μ-loop
-same-length c = search needs
 
 same-length-2 : tie.Need-same-length-2 Inv-loop μ-loop
 same-length-2 c = ap length (c .before .before .before .before .loop .inv .2)
@@ -59,12 +47,6 @@ take-requires c κs =
 add-i : tie.Need-add-i Inv-loop μ-loop
 add-i c = omega (arith, c .before .before .before .before .before .before .before .before .before .before .loop-test .taken, c .before .before .before .before .before .before .before .before .before .before .before .before .before .before .before .before .before .before .before .before .good)
 
-is-answer-requires : tie.Need-is-answer-requires Inv-loop μ-loop
-is-answer-requires c κs = search needs
-
-same-length-3 : tie.Need-same-length-3 Inv-loop μ-loop
-same-length-3 c = search needs
-
 same-length-4 : tie.Need-same-length-4 Inv-loop μ-loop
 same-length-4 c = c .before .before .before .before .before .before .before .take .kept .1 .1 .1 .0 ∙ ap length (c .before .before .before .before .before .before .before .before .before .before .before .before .before .loop .inv .2)
 
@@ -78,9 +60,6 @@ returns-2 c =
     let told = sym (answered (takeOutcome (l .h) (l .body) (getD s (l .i) 0)) (c .before .is-answer .ensures) (e .1)) ∙ c .if2 .taken in
     let g = gives (ranFrom (a .start) (now (a .body)) s) (now (a .buffer)) (stops-answered s _ _ _ _ _ led (c .before .before .before .before .before .before .before .before .before .before .before .before .loop-test .taken) (omega arith) told) (e .1) (e .3 ∙ ap (bufferAfter (takeOutcome (l .h) (l .body) (getD s (l .i) 0))) (l .inv .2)) in
     (e .0 ∙ g .0, g .1, g .2, e .2 ∙ g .3, g .4)
-
-ahead-requires-2 : tie.Need-ahead-requires-2 Inv-loop μ-loop
-ahead-requires-2 c κs = search needs
 
 loop-less : tie.Need-loop-less Inv-loop μ-loop
 loop-less c = omega (arith, c .before .before .before .before .before .before .before .before .before .before .before .before .before .before .before .before .before .loop-test .taken, c .before .before .before .ahead2 .ensures .2, c .before .before .before .ahead2 .ensures .3)
@@ -101,9 +80,6 @@ loop-again c =
       f .1 ∙ ap (λ (h : Head). h .profile) (e .0) ∙ take-profile (l .h) _ _ ∙ l .inv .4,
     )
 
-same-length-5 : tie.Need-same-length-5 Inv-loop μ-loop
-same-length-5 c = search needs
-
 same-length-6 : tie.Need-same-length-6 Inv-loop μ-loop
 same-length-6 c = ap length (c .before .loop .inv .2)
 
@@ -121,22 +97,22 @@ up-to-stop-spec =
     (tie.spec
     Inv-loop
     μ-loop
-    ahead-requires
+    (λ c κs. search needs)
     loop-holds
-    shared-slice-read-x
-    refuse-requires
-    same-length
+    (λ c. search needs)
+    (λ c κs. search needs)
+    (λ c. search needs)
     same-length-2
     returns
     take-requires
     add-i
-    is-answer-requires
-    same-length-3
+    (λ c κs. search needs)
+    (λ c. search needs)
     same-length-4
     returns-2
-    ahead-requires-2
+    (λ c κs. search needs)
     loop-less
     loop-again
-    same-length-5
+    (λ c. search needs)
     same-length-6
     returns-3)

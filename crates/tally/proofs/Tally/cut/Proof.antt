@@ -3,18 +3,6 @@ use borrow.Author.Needs.{needs}
 use Rattle.tally.proofs.Tally.cut.Statement.{statement}
 use Rattle.tally.proofs.Tally.cut.Tie as tie
 
-enum-told : tie.Need-enum-told
-enum-told c = search needs
-
-quiet-requires : tie.Need-quiet-requires
-quiet-requires c κs = search needs
-
-enum-told-2 : tie.Need-enum-told-2
-enum-told-2 c = search needs
-
-moved-requires : tie.Need-moved-requires
-moved-requires c κs = search needs
-
 returns : tie.Need-returns
 unfolding cutOf
 returns c = simp (c .before .enum-told .given .1, c .quiet .ensures)
@@ -25,4 +13,4 @@ returns-2 c = simp (c .before .enum-told2 .given .1, c .moved .ensures)
 
 pub cut-spec : {M : Type 1} → statement M
 cut-spec =
-    tie.close (tie.spec enum-told quiet-requires enum-told-2 moved-requires returns returns-2)
+    tie.close (tie.spec (λ c. search needs) (λ c κs. search needs) (λ c. search needs) (λ c κs. search needs) returns returns-2)

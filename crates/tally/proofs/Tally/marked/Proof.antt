@@ -2,11 +2,8 @@ use borrow.Author.Needs.{needs}
 use Rattle.tally.proofs.Tally.marked.Statement.{statement}
 use Rattle.tally.proofs.Tally.marked.Tie as tie
 
-one-more-requires : tie.Need-one-more-requires
-one-more-requires c κs = search needs
-
 returns : tie.Need-returns
 returns c = simp (c .one-more .ensures)
 
 pub marked-spec : {M : Type 1} → statement M
-marked-spec = tie.close (tie.spec one-more-requires returns)
+marked-spec = tie.close (tie.spec (λ c κs. search needs) returns)

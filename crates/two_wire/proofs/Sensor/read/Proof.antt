@@ -5,54 +5,24 @@ use borrow.Author.Needs.{needs}
 use Rattle.two_wire.proofs.Sensor.read.Statement.{statement}
 use Rattle.two_wire.proofs.Sensor.read.Tie as tie
 
-refused-requires : tie.Need-refused-requires
-refused-requires c κs = search needs
-
 returns : tie.Need-returns
 unfolding messageOn refuseIf
 returns c = simp (lt-leb _ _ (c .before .if1 .taken)) (c .refused .ensures)
-
-refused-requires-2 : tie.Need-refused-requires-2
-refused-requires-2 c κs = search needs
 
 returns-2 : tie.Need-returns-2
 unfolding messageOn refuseIf
 returns-2 c = let a = c .before .before .before .before .args in
     simp (le-leb _ _ (c .before .before .if1 .left), too-short (a .self) (a .message .now) (c .before .if2 .taken)) (c .refused2 .ensures)
 
-shared-slice-read-address : tie.Need-shared-slice-read-address
-shared-slice-read-address c = search needs
-
-shared-slice-read-second : tie.Need-shared-slice-read-second
-shared-slice-read-second c = search needs
-
-sub-bytes : tie.Need-sub-bytes
-sub-bytes c = search needs
-
-part-bytes-start : tie.Need-part-bytes-start
-part-bytes-start c = search needs
-
-part-bytes-end : tie.Need-part-bytes-end
-part-bytes-end c = search needs
-
-write-data-requires : tie.Need-write-data-requires
-write-data-requires c κs = search needs
-
 returns-3 : tie.Need-returns-3
 unfolding messageOn refuseIf addressed
 returns-3 c = let a = c .before .before .before .before .before .before .before .before .args in
     simp (le-leb _ _ (c .before .before .before .before .before .before .if1 .left), three-parts (a .self) (a .message .now) (c .before .before .before .before .before .if2 .left), eq-eqb _ _ (c .before .if3 .taken)) (rw (rest (a .message .now)) at (c .write-data .ensures))
 
-read-back-requires : tie.Need-read-back-requires
-read-back-requires c κs = search needs
-
 returns-4 : tie.Need-returns-4
 unfolding messageOn refuseIf addressed
 returns-4 c = let a = c .before .before .before .before .before .before .before .before .before .args in
     simp (le-leb _ _ (c .before .before .before .before .before .before .before .if1 .left), three-parts (a .self) (a .message .now) (c .before .before .before .before .before .before .if2 .left), ne-eqb _ _ (c .before .before .if3 .left), eq-eqb _ _ (c .before .if4 .taken)) (rw (rest (a .message .now)) at (c .read-back .ensures))
-
-refused-requires-3 : tie.Need-refused-requires-3
-refused-requires-3 c κs = search needs
 
 returns-5 : tie.Need-returns-5
 unfolding messageOn refuseIf addressed
@@ -63,18 +33,18 @@ pub read-spec : {M : Type 1} → statement M
 read-spec =
     tie.close
     (tie.spec
-    refused-requires
+    (λ c κs. search needs)
     returns
-    refused-requires-2
+    (λ c κs. search needs)
     returns-2
-    shared-slice-read-address
-    shared-slice-read-second
-    sub-bytes
-    part-bytes-start
-    part-bytes-end
-    write-data-requires
+    (λ c. search needs)
+    (λ c. search needs)
+    (λ c. search needs)
+    (λ c. search needs)
+    (λ c. search needs)
+    (λ c κs. search needs)
     returns-3
-    read-back-requires
+    (λ c κs. search needs)
     returns-4
-    refused-requires-3
+    (λ c κs. search needs)
     returns-5)

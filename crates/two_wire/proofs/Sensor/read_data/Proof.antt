@@ -4,21 +4,9 @@ use borrow.Author.Needs.{needs}
 use Rattle.two_wire.proofs.Sensor.read_data.Statement.{statement}
 use Rattle.two_wire.proofs.Sensor.read_data.Tie as tie
 
-some-differs-requires : tie.Need-some-differs-requires
-some-differs-requires c κs = search needs
-
-passes-requires : tie.Need-passes-requires
-passes-requires c κs = search needs
-
-refused-requires : tie.Need-refused-requires
-refused-requires c κs = search needs
-
 returns : tie.Need-returns
 unfolding readData refuseIf
 returns c = simp (← c .before .before .before .some-differs .ensures, c .before .if1 .taken) (c .refused .ensures)
-
-refused-requires-2 : tie.Need-refused-requires-2
-refused-requires-2 c κs = search needs
 
 returns-2 : tie.Need-returns-2
 unfolding readData refuseIf
@@ -26,9 +14,6 @@ returns-2 c = simp (← c .before .before .before .before .some-differs .ensures
 
 left-requires : tie.Need-left-requires
 left-requires c κs = (search needs, sym (c .before .before .passes .ensures) ∙ c .if2 .left)
-
-accepted-requires : tie.Need-accepted-requires
-accepted-requires c κs = search needs
 
 returns-3 : tie.Need-returns-3
 unfolding readData refuseIf
@@ -38,12 +23,12 @@ pub read-data-spec : {M : Type 1} → statement M
 read-data-spec =
     tie.close
     (tie.spec
-    some-differs-requires
-    passes-requires
-    refused-requires
+    (λ c κs. search needs)
+    (λ c κs. search needs)
+    (λ c κs. search needs)
     returns
-    refused-requires-2
+    (λ c κs. search needs)
     returns-2
     left-requires
-    accepted-requires
+    (λ c κs. search needs)
     returns-3)

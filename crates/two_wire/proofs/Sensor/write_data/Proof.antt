@@ -4,20 +4,11 @@ use borrow.Author.Needs.{needs}
 use Rattle.two_wire.proofs.Sensor.write_data.Statement.{statement}
 use Rattle.two_wire.proofs.Sensor.write_data.Tie as tie
 
-passes-requires : tie.Need-passes-requires
-passes-requires c κs = search needs
-
-refused-requires : tie.Need-refused-requires
-refused-requires c κs = search needs
-
 store-requires : tie.Need-store-requires
 store-requires c κs = sym (c .before .before .before .passes .ensures) ∙ c .before .before .if1 .left
 
 left-requires : tie.Need-left-requires
 left-requires c κs = (search needs, sym (c .before .before .before .before .passes .ensures) ∙ c .before .before .before .if1 .left)
-
-accepted-requires : tie.Need-accepted-requires
-accepted-requires c κs = search needs
 
 returns : tie.Need-returns
 unfolding writeData refuseIf
@@ -31,10 +22,10 @@ pub write-data-spec : {M : Type 1} → statement M
 write-data-spec =
     tie.close
     (tie.spec
-    passes-requires
-    refused-requires
+    (λ c κs. search needs)
+    (λ c κs. search needs)
     store-requires
     left-requires
-    accepted-requires
+    (λ c κs. search needs)
     returns
     returns-2)
