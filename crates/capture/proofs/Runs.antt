@@ -12,8 +12,7 @@ use Rattle.stream.specs.declared.Answer.the-variants as answers
 use Rattle.stream.specs.Answers.{answerFor}
 use Rattle.reader.specs.declared.Head.{Head}
 use Rattle.reader.specs.declared.Reader.{Reader}
-use Rattle.reader.specs.Run.{Ran, lentRunOf}
-use Rattle.reader.specs.RunLaws.{onward}
+use Rattle.run.specs.Run.{Ran, lentRunOf, onward}
 use Rattle.refinement.specs.Window.{Small}
 use Rattle.refinement.specs.Passes.{Ok}
 use Rattle.refinement.specs.ByRuns.{ByNibbles, run-on, lent-onward, small-drop}

@@ -210,7 +210,7 @@ fn list_portion(
     let mut used = at;
     let mut i: usize = 0;
     while i < n {
-        let t = head.run(body, &all[i..], line);
+        let t = run::run_lent(head, body, &all[i..], line);
         head = t.head;
         let answer = t.answer;
         i += t.taken;

@@ -12,7 +12,7 @@ use line_code::Repair;
 use mark_answer::Kept;
 use period::Nibbles;
 use period::Rate;
-use period::Whole;
+use period::WholePeriods;
 use profile::Profile;
 use reader::Fed;
 use reader::Head;
@@ -230,12 +230,12 @@ fn show_period(period: Nibbles) {
     say_number(period.0 as u64);
     let whole = period.whole();
     match whole {
-        Whole::Of(periods) => {
+        WholePeriods::Of(periods) => {
             say(b" nibbles, ");
             say_number(periods.0 as u64);
             say(b" pixel periods");
         }
-        Whole::Odd => say(b" nibbles, no whole pixel period"),
+        WholePeriods::Odd => say(b" nibbles, no whole pixel period"),
     }
     let rate = period.rate();
     match rate {

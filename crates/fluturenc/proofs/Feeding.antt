@@ -13,8 +13,8 @@ use Rattle.stream.specs.Answers.{refused}
 use Rattle.reader.specs.declared.Head.{Head}
 use Rattle.reader.specs.declared.Reader.{Reader}
 use Rattle.reader.specs.Reader.{passes}
-use Rattle.reader.specs.Run.{Ran, ran, runOf, lentRunOf}
-use Rattle.reader.specs.RunLaws.{none-taken}
+use Rattle.run.specs.Run.{Ran, ran, runOf, lentRunOf}
+use Rattle.run.specs.RunLaws.{none-taken}
 use Rattle.fluturenc.specs.State.{headLength, stateLength, headBytes, stored, headIn, bodyIn, readerIn, tagged, holdsReader}
 use Rattle.fluturenc.specs.Calls.{stateAfter, feedRan, feedCall}
 

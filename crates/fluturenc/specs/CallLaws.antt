@@ -23,8 +23,8 @@ use Rattle.stream.specs.Answers.{eitherRepaired, refused, answerFor}
 use Rattle.mark_answer.specs.Kept.{topPlace, bodyAt}
 use Rattle.reader.specs.declared.Reader.{Reader}
 use Rattle.reader.specs.Reader.{Took, passes, freshReader, taking, finishOf, leaveBody}
-use Rattle.reader.specs.Run.{Ran, ran, isAnswer, upToStop, runOf}
-use Rattle.reader.specs.RunLaws.{onward, up-to-stop, none-taken}
+use Rattle.run.specs.Run.{Ran, ran, isAnswer, runOf, onward}
+use Rattle.run.specs.RunLaws.{none-taken}
 use Rattle.refinement.specs.Passes.{passes-test, Finishing, finish-state, finish-taken, finishing, Ok, fresh-ok, take-ok, finish-ok}
 use Rattle.refinement.specs.Stored.{length-body}
 use Rattle.frame.specs.declared.Borders.the-variants.{Unsettled, On, Off}
@@ -74,10 +74,10 @@ run-whole : (r : Reader) (w : List ℕ) (room : ℕ) → Whole r → Whole (runO
 unfolding runOf
 run-whole r w room h = go (passes (r .head)) (leb (bodyLength (r .head .profile)) room)
   where
-    go : (a b : Bool) → Whole (cond a (cond b (upToStop r w) (ran r (refused noRoom) 0)) (ran r (refused badState) 0) .reader)
+    go : (a b : Bool) → Whole (cond a (cond b (onward r w 0) (ran r (refused noRoom) 0)) (ran r (refused badState) 0) .reader)
     go false b = h
     go true false = h
-    go true true = subst (λ (t : Ran). Whole (t .reader)) (sym (up-to-stop r w)) (onward-whole w r 0 h)
+    go true true = onward-whole w r 0 h
 
 finish-whole : (r : Reader) → Whole r → Whole (finishOf r .reader)
 finish-whole r h = record { ok = finish-ok r (h .ok); full = go (finishing r) }

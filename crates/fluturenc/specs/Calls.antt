@@ -13,7 +13,7 @@ use Rattle.stream.specs.declared.Answer.{Answer}
 use Rattle.stream.specs.declared.Answer.the-variants as answers
 use Rattle.stream.specs.Answers.{eitherRepaired, refused, answerFor, bufferAfter}
 use Rattle.reader.specs.Reader.{freshReader, finishOf}
-use Rattle.reader.specs.Run.{Ran, ran, runOf}
+use Rattle.run.specs.Run.{Ran, ran, runOf}
 use Rattle.writer.specs.Writer as writer
 use Rattle.writer.specs.Writer.{Output}
 use Rattle.frame.specs.declared.Borders.{Borders}

@@ -39,8 +39,8 @@ beforeNumber (RefusedLine k) = kindNumber k
 beforeNumber (HandedOut k) = noMark + kindNumber k
 
 -- the greatest of these
-abbrev pub lastMark : ℕ
-lastMark = 11
+abbrev pub greatestMark : ℕ
+greatestMark = 11
 
 abbrev pub markNumber : Mark → ℕ
 markNumber NoMark = noMark
@@ -102,7 +102,7 @@ readerIn s = record { head = headIn s; body = bodyIn s }
 
 -- these are numbers of a profile, of an open mark and of a bool
 unfoldable pub tagged : ℕ → ℕ → ℕ → Bool
-tagged profile mark stray = leb profile 1 && (leb mark lastMark && leb stray 1)
+tagged profile mark stray = leb profile 1 && (leb mark greatestMark && leb stray 1)
 
 -- the bytes hold a reader, and it passes its own test
 unfoldable pub holdsReader : List ℕ → Bool

@@ -21,7 +21,7 @@ use Rattle.stream.specs.declared.Mark.the-variants.{NoMark, Open}
 use Rattle.reader.specs.declared.Head.{Head}
 use Rattle.reader.specs.declared.Reader.{Reader}
 use Rattle.reader.specs.Reader.{passes}
-use Rattle.fluturenc.specs.State.{stateLength, beforeNumber, beforeNumbered, lastMark, markNumber, codeOf, bitOf, headBytes, stored, profileOf, markNumbered, numberOf, headIn, readerIn, tagged, holdsReader}
+use Rattle.fluturenc.specs.State.{stateLength, beforeNumber, beforeNumbered, greatestMark, markNumber, codeOf, bitOf, headBytes, stored, profileOf, markNumbered, numberOf, headIn, readerIn, tagged, holdsReader}
 
 pub holds-length : (s : List ℕ) → holdsReader s ≡ true → stateLength ≤ length s
 unfolding holdsReader
@@ -76,7 +76,7 @@ unfolding headIn headBytes
 head-back h w =
     simp (profile-back (h .profile), mark-back (h .at), number-back (h .count), number-back (h .window), bit-back (h .kept .stray))
 
-mark-tag : (m : Mark) → leb (markNumber m) lastMark ≡ true
+mark-tag : (m : Mark) → leb (markNumber m) greatestMark ≡ true
 mark-tag NoMark = refl
 mark-tag (Open NoLine code) = refl
 mark-tag (Open (RefusedLine BL) code) = refl

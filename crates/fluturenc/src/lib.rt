@@ -88,7 +88,7 @@ pub extern "C" fn fluturenc_feed(
     }
     if is_tagged(state[0], state[1], state[13]) {
         let h = head_in(state);
-        let t = h.run(&mut state[HEAD..STATE], nibbles, line);
+        let t = run::run_lent(h, &mut state[HEAD..STATE], nibbles, line);
         let head = t.head;
         if 0 < t.taken {
             store_head(head, state);
@@ -206,7 +206,7 @@ const PERIOD: u64 = 0x1_0000_0000;
 const NO_MARK: u8 = 6;
 
 // The greatest number of an open mark: 6 more than the greatest kind number.
-const LAST_MARK: u8 = 11;
+const GREATEST_MARK: u8 = 11;
 
 // Whether the bytes hold a reader that passes its own test.
 fn holds_reader(state: &[u8]) -> bool
@@ -228,7 +228,7 @@ fn is_tagged(profile: u8, mark: u8, stray: u8) -> bool
     if 1 < profile {
         return false;
     }
-    if LAST_MARK < mark {
+    if GREATEST_MARK < mark {
         return false;
     }
     stray <= 1

@@ -15,8 +15,7 @@ use Rattle.stream.specs.Written.{nibbles}
 use Rattle.reader.specs.declared.Head.{Head}
 use Rattle.reader.specs.declared.Reader.{Reader}
 use Rattle.reader.specs.Reader.{passes}
-use Rattle.reader.specs.Run.{Ran}
-use Rattle.reader.specs.RunLaws.{onward}
+use Rattle.run.specs.Run.{Ran, onward}
 use Rattle.refinement.specs.Window.{Small}
 use Rattle.refinement.specs.Passes.{Ok}
 use Rattle.refinement.specs.ByRuns.{ByNibbles, RunOn, run-on}

@@ -161,7 +161,7 @@ fn grab_answer(
     ensures { λ r. ⌜ Turns (reader head (now (body .entry))) gatherer (now (rows .entry)) (now (nibbles .entry)) r (now (body .exit)) (now (rows .exit)) ⌝ }
 {
     let mut line = [0u8; Profile::LONGEST];
-    let t = head.run(body, nibbles, &mut line);
+    let t = run::run_lent(head, body, nibbles, &mut line);
     let answer = t.answer;
     let g = gatherer.take(answer, &line, rows);
     let head = t.head;
@@ -176,6 +176,6 @@ fn end_byte(head: Head, body: &mut [u8], rest: &[u8]) -> Head
     ensures { λ r. ⌜ reader r (now (body .exit)) ≡ fedAll (reader head (now (body .entry))) (now (rest .entry)) ⌝ }
 {
     let mut line = [0u8; Profile::LONGEST];
-    let t = head.run(body, rest, &mut line);
+    let t = run::run_lent(head, body, rest, &mut line);
     t.head
 }

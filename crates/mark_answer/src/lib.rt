@@ -237,11 +237,15 @@ fn line_period(profile: Profile, before: Before, length: u32) -> Nibbles
     }
 }
 
+// The nibbles of a line's period around its body and before the end mark's text: F F F F 0 0, code and number of the line, and F F F F 0 0 of the
+// end mark.
+const AROUND_BODY: usize = 18;
+
 // Where it was: F F F F 0 0 and text of the line, F F F F 0 0 and text of the end mark.
 fn handed_period(profile: Profile, length: u32) -> Nibbles
     ensures { λ r. ⌜ r .0 ≡ min mostNibbles (groupNibbles + lineNibbles profile + groupNibbles + length) ⌝ }
 {
-    let line = 2 * profile.body_length() + 18;
+    let line = 2 * profile.body_length() + AROUND_BODY;
     let most = Nibbles::MOST as usize;
     if most - line < length as usize {
         return Nibbles(Nibbles::MOST);

@@ -4,8 +4,8 @@ use mathlib.Core.Option.{Option, none, some}
 use Prim.Native.Nat.{ℕ, _/_, _%_}
 use lib.Dec.{eqb}
 use Rattle.period.specs.declared.Nibbles.{Nibbles}
-use Rattle.period.specs.declared.Whole.{Whole}
-use Rattle.period.specs.declared.Whole.the-variants.{Of, Odd}
+use Rattle.period.specs.declared.WholePeriods.{WholePeriods}
+use Rattle.period.specs.declared.WholePeriods.the-variants.{Of, Odd}
 use Rattle.period.specs.declared.Rate.{Rate}
 use Rattle.period.specs.declared.Rate.the-variants.{Thirty, TwentyFive, Unnamed}
 
@@ -15,7 +15,7 @@ mostNibbles = 65535
 
 -- the paper's values of the program's answers: how many periods, none where that is not whole; how many frames a second, none where a period
 -- is unnamed
-abbrev pub periodsIn : Whole → Option ℕ
+abbrev pub periodsIn : WholePeriods → Option ℕ
 periodsIn (Of p) = some (p .0)
 periodsIn Odd = none
 

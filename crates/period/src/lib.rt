@@ -10,7 +10,7 @@ pub struct Nibbles(pub u16);
 pub struct Periods(pub u16);
 
 // A count of nibbles in periods: an odd one is none.
-pub enum Whole {
+pub enum WholePeriods {
     Of(Periods),
     Odd,
 }
@@ -27,15 +27,15 @@ impl Nibbles {
     pub const MOST: u16 = 65535;
 
     // In whole periods.
-    pub fn whole(self) -> Whole
+    pub fn whole(self) -> WholePeriods
         ensures { λ r. ⌜ periodsIn r ≡ wholeOf self ⌝ }
     {
         let n = self.0;
         if n % 2 == 0 {
             let periods = Periods(n / 2);
-            return Whole::Of(periods);
+            return WholePeriods::Of(periods);
         }
-        Whole::Odd
+        WholePeriods::Odd
     }
 
     // Its name as a line period.

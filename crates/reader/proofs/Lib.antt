@@ -1,5 +1,4 @@
 pub mod Window
 pub mod Copy
 pub mod Told
-pub mod Pairs
-pub mod Running
+pub mod Taking

@@ -1,10 +1,10 @@
 -- An answer and a list tell the outcome: before a line is handed out the reader's body, after it the lent buffer, whose front is then
 -- the line's body. That body fits its rules, so it has the profile's length.
-use mathlib.Core.Path.{_≡_, refl, _∙_, sym, subst}
+use mathlib.Core.Path.{_≡_, refl, _∙_}
 use mathlib.Core.Bool.{Bool, true, false, cond}
-use mathlib.Core.List.{List, [], _∷_}
+use mathlib.Core.List.{List}
 use mathlib.Core.Option.{Option, none, some}
-use Prim.Native.Nat.{ℕ, _+_, _-_, _%_}
+use Prim.Native.Nat.{ℕ, _-_, _%_}
 use lib.Dec.{leb}
 use lib.ListN.{length, take, drop}
 use lib.Seq.{take-at}
@@ -32,9 +32,7 @@ use Rattle.mark_answer.specs.declared.Kept.{Kept}
 use Rattle.mark_answer.specs.Judge.{judge, judgeReading, judgeMeaning, judgeEnd, judgeGap, judgeLine}
 use Rattle.reader.specs.declared.Head.{Head}
 use Rattle.reader.specs.declared.Reader.{Reader}
-use Rattle.reader.specs.Reader.{Took, isMark, slide, leaveKept, leaveBody, shifted, opened, passes, taking, refusing, takeHead, takeOutcome, feedOf}
-use Rattle.reader.specs.Run.{ran, isAnswer, upToStop}
-use Rattle.reader.specs.RunLaws.{onward, up-to-stop}
+use Rattle.reader.specs.Reader.{isMark, slide, leaveKept, leaveBody, shifted, opened, passes, taking, refusing, takeHead, takeOutcome, feedOf}
 use Rattle.reader.specs.Parts.{completeOutcome}
 
 -- what holds of nothing, of refusals, of gaps and of lines whose body fits holds of every answer of a mark
@@ -92,7 +90,7 @@ told-by-body p m len t body next =
     judged (λ o. outcomeOf p (answerFor o) body ≡ o) p body refl (λ n. refl) (λ g. refl) (λ f h. refl) m len t next
 
 -- an outcome that an answer and the buffer after the call tell
-abbrev Told : Profile → List ℕ → Outcome → Type 0
+abbrev pub Told : Profile → List ℕ → Outcome → Type 0
 Told p buffer o = outcomeOf p (answerFor o) (bufferAfter o buffer) ≡ o
 
 told-line : (p : Profile) (buffer : List ℕ) (f : LineFacts) (body : List ℕ) → fits (rules p (f .kind)) body ≡ true → Told p buffer (line f body)
@@ -106,7 +104,7 @@ told-if : (p : Profile) (buffer : List ℕ) (t : Bool) (o : Outcome) → Told p 
 told-if p buffer true o h = h
 told-if p buffer false o h = refl
 
-told-take : (h : Head) (body : List ℕ) (n : ℕ) (buffer : List ℕ) → Told (h .profile) buffer (takeOutcome h body n)
+pub told-take : (h : Head) (body : List ℕ) (n : ℕ) (buffer : List ℕ) → Told (h .profile) buffer (takeOutcome h body n)
 unfolding takeOutcome
 told-take h body n buffer =
     let w : ℕ = slide (h .window) n in
@@ -124,8 +122,6 @@ told r n room buffer = go (passes (r .head)) (leb n 15) (leb (bodyLength (r .hea
     go true false c = refl
     go false b c = refl
 
--- A run.
-
 pub take-profile : (h : Head) (d : Bool) (n : ℕ) → takeHead h d n .profile ≡ h .profile
 unfolding takeHead
 take-profile h d n = go (isMark (slide (h .window) n)) (slide (h .window) n % 256)
@@ -133,22 +129,3 @@ take-profile h d n = go (isMark (slide (h .window) n)) (slide (h .window) n % 25
     go : (b : Bool) (c : ℕ) → cond b (opened h c d) (shifted h n) .profile ≡ h .profile
     go true c = refl
     go false c = refl
-
-told-onward : (w : List ℕ) (r : Reader) (i : ℕ) (buffer : List ℕ) → Told (r .head .profile) buffer (onward r w i .outcome)
-told-onward [] r i buffer = refl
-told-onward (n ∷ w) r i buffer =
-    go (leb n 15) (isAnswer (t .outcome))
-    (subst (λ p. Told p buffer (onward (t .reader) w (i + 1) .outcome)) (take-profile (r .head) _ n) (told-onward w (t .reader) (i + 1) buffer))
-  where
-    t : Took
-    t = taking r n
-
-    go : (a b : Bool) → Told (r .head .profile) buffer (onward (t .reader) w (i + 1) .outcome)
-        → Told (r .head .profile) buffer
-        (cond a (cond b (ran (t .reader) (t .outcome) (i + 1)) (onward (t .reader) w (i + 1))) (ran r (refused notANibble) i) .outcome)
-    go true true h = told-take (r .head) (r .body) n buffer
-    go true false h = h
-    go false b h = refl
-
-pub told-run : (r : Reader) (w buffer : List ℕ) → Told (r .head .profile) buffer (upToStop r w .outcome)
-told-run r w buffer = subst (λ t. Told (r .head .profile) buffer (t .outcome)) (sym (up-to-stop r w)) (told-onward w r 0 buffer)

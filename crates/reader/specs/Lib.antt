@@ -1,4 +1,3 @@
 pub mod Reader
+pub mod Gives
 pub mod Parts
-pub mod Run
-pub mod RunLaws

@@ -4,7 +4,7 @@ use mathlib.Core.List.{List, []}
 use mathlib.Core.Option.{none, some}
 use Prim.Native.Nat.{ℕ, zero, suc, _+_, _-_, _*_, _/_, _%_}
 use lib.Dec.{eqb, leb, ltb}
-use lib.ListN.{replicate}
+use lib.ListN.{length, replicate}
 use Rattle.refusal.specs.Refusal.{notANibble, badState, noRoom}
 use Rattle.line_code.specs.LineCode.{readingOf, isEnd}
 use Rattle.period.specs.Period.{mostNibbles}
@@ -129,6 +129,14 @@ taking r n =
       reader = record { head = takeHead (r .head) (isLine (takeOutcome (r .head) (r .body) n)) n; body = leaveBody (r .head) (r .body) };
       outcome = takeOutcome (r .head) (r .body) n;
     }
+
+-- one nibble, with a buffer of so many bytes, and no look at the reader's own test: 11 where the body is not as long as the longest, 10, 12, or
+-- the nibble is taken
+unfoldable pub takeOf : Reader → ℕ → ℕ → Took
+takeOf r n room =
+    cond (eqb (length (r .body)) longest)
+    (cond (leb n 15) (cond (leb (bodyLength (r .head .profile)) room) (taking r n) (refusing r noRoom)) (refusing r notANibble))
+    (refusing r badState)
 
 -- feeding one nibble, with a buffer of so many bytes: 11, 10, 12, or the nibble is taken
 unfoldable pub feedOf : Reader → ℕ → ℕ → Took

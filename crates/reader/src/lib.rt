@@ -11,12 +11,9 @@ ghost use Rattle.profile.specs.Profile.{bodyLength, longest};
 ghost use Rattle.stream.specs.declared.Before.{Before};
 ghost use Rattle.stream.specs.declared.Mark.the-variants.{NoMark, Open};
 ghost use Rattle.stream.specs.Answers.{outcomeOf, answerFor, bufferAfter, refused, isLine};
-ghost use Rattle.reader.specs.Reader.{isMark, slide, bump, leaveKept, leaveBody, shifted, opened, aged, windowFits, handedFits, passes, freshReader, newOf, takeHead, takeOutcome, feedOf, flushed, finishOf};
-ghost use Rattle.reader.specs.Parts.{fedOf, completeOutcome, copied};
-ghost use Rattle.reader.specs.Run.{runOf, lentRunOf};
-
-mod run;
-
+ghost use Rattle.reader.specs.Reader.{isMark, slide, bump, leaveKept, leaveBody, shifted, opened, aged, windowFits, handedFits, passes, freshReader, newOf, takeHead, takeOutcome, takeOf, feedOf, flushed, finishOf};
+ghost use Rattle.reader.specs.Gives.{CallGives, FeedGives, TakeGives};
+ghost use Rattle.reader.specs.Parts.{readerOf, completeOutcome, copied};
 use mark_answer::Kept;
 use profile::Numbered;
 use profile::Profile;
@@ -29,8 +26,8 @@ pub struct Head {
     pub profile: Profile,
     // The open mark.
     pub at: Mark,
-    // The nibbles of its text so far, its code's two among them; held at 65,543, which is longer than any text
-    // that is right, and gives a period past 65,535.
+    // The nibbles of its text so far, its code's two among them; held at 65,543, which is longer than any
+    // line's text, and gives a period of 65,535.
     pub count: u32,
     // The text's eight newest nibbles, the newest lowest.
     pub window: u32,
@@ -50,24 +47,16 @@ pub struct Fed {
     pub answer: Answer,
 }
 
-// A reader after a run of nibbles, the run's answer, and how many nibbles it took.
-pub struct Ran {
-    pub reader: Reader,
-    pub answer: Answer,
-    pub taken: usize,
-}
-
-// The same of a reader whose body is lent.
-pub struct LentRan {
+// A reader's state after a nibble, but for the body, and the answer.
+pub struct Stepped {
     pub head: Head,
     pub answer: Answer,
-    pub taken: usize,
 }
 
 impl Reader {
     // A reader of the profile with this number. Refused: 11 if there is none, and then a fresh profile 0 reader comes back.
     pub fn new(profile: u8) -> Fed
-        ensures { λ r. ⌜ (r .reader ≡ newOf profile .reader) × (r .answer ≡ answerFor (newOf profile .outcome)) ⌝ }
+        ensures { λ r. ⌜ CallGives (newOf profile) r ⌝ }
     {
         let found = Profile::numbered(profile);
         match found {
@@ -111,39 +100,27 @@ impl Reader {
 
     // Takes one nibble. Refused: 11, 10, 12, in this order.
     pub fn feed(self, nibble: u8, buffer: &mut [u8]) -> Fed
-        ensures { λ r. ⌜ (r .reader ≡ feedOf self nibble (length (now (buffer .entry))) .reader) × (outcomeOf (self .head .profile) (r .answer) (now (buffer .exit)) ≡ feedOf self nibble (length (now (buffer .entry))) .outcome) × (now (buffer .exit) ≡ bufferAfter (feedOf self nibble (length (now (buffer .entry))) .outcome) (now (buffer .entry))) ⌝ }
+        ensures { λ r. ⌜ FeedGives (self .head .profile) (feedOf self nibble (length (now (buffer .entry)))) r (now (buffer .entry)) (now (buffer .exit)) ⌝ }
     {
         let h = self.head;
-        let mut body = self.body;
-        let t = step(h, &mut body, nibble, buffer);
-        let head = t.head;
-        let answer = t.answer;
-        let reader = Reader { head, body };
-        Fed { reader, answer }
-    }
-
-    // Takes a run of nibbles up to the first answer. Refused: 11, 12, in this order, before anything is taken; then 10, where an input
-    // above 15 stops the run: what stands before it is taken.
-    pub fn run(self, nibbles: &[u8], buffer: &mut [u8]) -> Ran
-        ensures { λ r. ⌜ (r .reader ≡ runOf self (now (nibbles .entry)) (length (now (buffer .entry))) .reader) × (r .taken ≡ runOf self (now (nibbles .entry)) (length (now (buffer .entry))) .taken) × (outcomeOf (self .head .profile) (r .answer) (now (buffer .exit)) ≡ runOf self (now (nibbles .entry)) (length (now (buffer .entry))) .outcome) × (now (buffer .exit) ≡ bufferAfter (runOf self (now (nibbles .entry)) (length (now (buffer .entry))) .outcome) (now (buffer .entry))) ⌝ }
-    {
-        let h = self.head;
-        let mut body = self.body;
-        let t = h.run(&mut body, nibbles, buffer);
-        let head = t.head;
-        let answer = t.answer;
-        let taken = t.taken;
-        let reader = Reader { head, body };
-        Ran {
-            reader,
+        if h.passes() {
+            let mut body = self.body;
+            let t = h.take(&mut body, nibble, buffer);
+            let head = t.head;
+            let answer = t.answer;
+            let reader = Reader { head, body };
+            return Fed { reader, answer };
+        }
+        let answer = Answer::Refused(refusal::BAD_STATE);
+        Fed {
+            reader: self,
             answer,
-            taken,
         }
     }
 
     // Answers the last mark, if there is one, and leaves a fresh reader. Refused: 11, and then the reader stays as it was.
     pub fn finish(self) -> Fed
-        ensures { λ r. ⌜ (r .reader ≡ finishOf self .reader) × (r .answer ≡ answerFor (finishOf self .outcome)) ⌝ }
+        ensures { λ r. ⌜ CallGives (finishOf self) r ⌝ }
     {
         let h = self.head;
         if h.passes() {
@@ -164,22 +141,22 @@ impl Reader {
 }
 
 impl Head {
-    // A run of nibbles of the reader whose body is lent, so that calls in a row copy no body. Refused as Reader::run is, and 11 also where
-    // the lent body is not as long as the longest.
-    pub fn run(self, body: &mut [u8], nibbles: &[u8], buffer: &mut [u8]) -> LentRan
-        ensures { λ r. ⌜ (r .head ≡ lentRunOf self (now (body .entry)) (now (nibbles .entry)) (length (now (buffer .entry))) .reader .head) × (r .taken ≡ lentRunOf self (now (body .entry)) (now (nibbles .entry)) (length (now (buffer .entry))) .taken) × (outcomeOf (self .profile) (r .answer) (now (buffer .exit)) ≡ lentRunOf self (now (body .entry)) (now (nibbles .entry)) (length (now (buffer .entry))) .outcome) × (now (body .exit) ≡ lentRunOf self (now (body .entry)) (now (nibbles .entry)) (length (now (buffer .entry))) .reader .body) × (now (buffer .exit) ≡ bufferAfter (lentRunOf self (now (body .entry)) (now (nibbles .entry)) (length (now (buffer .entry))) .outcome) (now (buffer .entry))) ⌝ }
+    // Takes one nibble of a reader whose body is lent, and does not ask whether the reader passes its own test. Refused: 11 where the body
+    // is not as long as the longest, 10, 12, in this order.
+    pub fn take(self, body: &mut [u8], nibble: u8, buffer: &mut [u8]) -> Stepped
+        ensures { λ r. ⌜ TakeGives (takeOf (readerOf self (now (body .entry))) nibble (length (now (buffer .entry)))) r (now (body .exit)) (now (buffer .entry)) (now (buffer .exit)) ⌝ }
     {
         if body.len() != Profile::LONGEST {
-            return run::refuse(self, refusal::BAD_STATE, 0);
+            return refuse(self, refusal::BAD_STATE);
         }
-        if self.passes() {
-            let p = self.profile;
-            if buffer.len() < p.body_length() {
-                return run::refuse(self, refusal::NO_ROOM, 0);
-            }
-            return run::up_to_stop(self, body, nibbles, buffer);
+        if 15 < nibble {
+            return refuse(self, refusal::NOT_A_NIBBLE);
         }
-        run::refuse(self, refusal::BAD_STATE, 0)
+        let p = self.profile;
+        if buffer.len() < p.body_length() {
+            return refuse(self, refusal::NO_ROOM);
+        }
+        taken(self, body, nibble, buffer)
     }
 
     // The reader's own test: constant time, and no look at the body.
@@ -210,7 +187,7 @@ impl Head {
     }
 }
 
-// Where the count of a text's nibbles stops.
+// Where the count of a text's nibbles stops: the next mark's eight nibbles above Nibbles::MOST.
 const COUNT_STOP: u32 = 65543;
 
 // The nibbles of a full window: a mark's F F F F 0 0 and its code.
@@ -218,30 +195,6 @@ const WINDOW: u32 = 8;
 
 // F F F F 0 0 as a number, newest nibble lowest.
 const GROUP: u32 = 0xFFFF00;
-
-// A state after a nibble, but for the body, and the answer.
-struct Stepped {
-    head: Head,
-    answer: Answer,
-}
-
-// Feeding, with the body beside the rest of the state.
-fn step(h: Head, body: &mut [u8], nibble: u8, buffer: &mut [u8]) -> Stepped
-    requires { ⌜ length (now body) ≡ longest ⌝ }
-    ensures { λ r. ⌜ (r .head ≡ fedOf h (now (body .entry)) nibble (now (buffer .entry)) .reader .head) × (r .answer ≡ answerFor (fedOf h (now (body .entry)) nibble (now (buffer .entry)) .outcome)) × (now (body .exit) ≡ fedOf h (now (body .entry)) nibble (now (buffer .entry)) .reader .body) × (now (buffer .exit) ≡ bufferAfter (fedOf h (now (body .entry)) nibble (now (buffer .entry)) .outcome) (now (buffer .entry))) ⌝ }
-{
-    if h.passes() {
-        if 15 < nibble {
-            return refuse(h, refusal::NOT_A_NIBBLE);
-        }
-        let p = h.profile;
-        if buffer.len() < p.body_length() {
-            return refuse(h, refusal::NO_ROOM);
-        }
-        return take(h, body, nibble, buffer);
-    }
-    refuse(h, refusal::BAD_STATE)
-}
 
 fn refuse(h: Head, number: u8) -> Stepped
     ensures { λ r. ⌜ (r .head ≡ h) × (r .answer ≡ answerFor (refused number)) ⌝ }
@@ -251,7 +204,7 @@ fn refuse(h: Head, number: u8) -> Stepped
 }
 
 // Takes a nibble: the oldest of a full window leaves it, and a mark is complete or not.
-fn take(h: Head, body: &mut [u8], nibble: u8, buffer: &mut [u8]) -> Stepped
+fn taken(h: Head, body: &mut [u8], nibble: u8, buffer: &mut [u8]) -> Stepped
     requires { ⌜ (nibble < 16) × (bodyLength (h .profile) ≤ length (now buffer)) × (length (now body) ≡ longest) ⌝ }
     ensures { λ r. ⌜ (r .head ≡ takeHead h (isLine (takeOutcome h (now (body .entry)) nibble)) nibble) × (r .answer ≡ answerFor (takeOutcome h (now (body .entry)) nibble)) × (now (body .exit) ≡ leaveBody h (now (body .entry))) × (now (buffer .exit) ≡ bufferAfter (takeOutcome h (now (body .entry)) nibble) (now (buffer .entry))) ⌝ }
 {
@@ -353,7 +306,8 @@ fn leave_body(h: Head, body: &mut [u8])
     mark_answer::store(body, h.count - WINDOW, h.window);
 }
 
-fn next_count(count: u32) -> u32
+// The count of a text's nibbles with one more, held at its stop.
+pub fn next_count(count: u32) -> u32
     ensures { λ r. ⌜ r ≡ bump count ⌝ }
 {
     if count < COUNT_STOP {

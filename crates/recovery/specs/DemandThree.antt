@@ -23,7 +23,7 @@ use Rattle.stream.specs.Written.{Sent, AllWritable, stream}
 use Rattle.recovery.specs.Calls.{Call, feed, done, FinishLast, no-call, done-last, feed-first, Gives, takes, takenBy, changed, startAfter, linesFrom, gapAsSent, closed, markNibbles, Collector, collects, lineCollector, gapCollector, onCollected, onRun, onTaken, onLines, onGaps, MeetsDemandThree, fed, meaningCall}
 use Rattle.recovery.specs.AnswerLaws.{step-cases}
 use Rattle.recovery.specs.Collected.{collected}
-use Rattle.recovery.specs.Resync.{lines, NoLine, no-line}
+use Rattle.recovery.specs.Resync.{lines, BringsNoLine, no-line}
 use Rattle.recovery.specs.Damage.{by-test, places-within, drop-changed, writable-from, recovers}
 use Rattle.recovery.specs.Gaps.{gaps, gaps-before, gaps-from}
 
@@ -75,7 +75,7 @@ module _ (p : Profile) {A : Type 0} (k : Collector A) (of-nothing : k .fed nothi
   calls-collected done-last s = ap (λ (xs : List A). xs ++ []) (of-finish s)
   calls-collected (feed-first {n} {buffer} {cs} h) s = feed-agrees s n buffer cs (calls-collected h)
 
-no-line-said : (p : Profile) (o : Outcome) (buffer : List ℕ) → NoLine o → NoLine (outcomeOf p (answerFor o) buffer)
+no-line-said : (p : Profile) (o : Outcome) (buffer : List ℕ) → BringsNoLine o → BringsNoLine (outcomeOf p (answerFor o) buffer)
 no-line-said p nothing buffer h = h
 no-line-said p (line f body) buffer h = cc
 no-line-said p (gap g) buffer h = h

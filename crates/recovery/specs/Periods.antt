@@ -32,7 +32,7 @@ use Rattle.stream.specs.declared.Mark.the-variants.{NoMark, Open}
 use Rattle.stream.specs.Answers.{Outcome, nothing, line, gap, refused, isLine, require, bytesOnto, lineFrom, goodGap, lineNibbles, groupNibbles, periodOf, turned, afterCode, gapFrom, byMeaning, byReading, answerOf}
 use Rattle.stream.specs.Stream.{State, fresh, group, Completed, not-yet, mark, detect, beforeBy, answerAt, advance, step, finish, run}
 use Rattle.stream.specs.Written.{Sent, Writable, content, endMark, tail, written}
-use Rattle.recovery.specs.Calls.{gapAsSent}
+use Rattle.recovery.specs.Calls.{gapAsSent, markNibbles}
 use Rattle.recovery.specs.MarkPlaces.{Noted, noted, notedFrom, marksOf, periodBy}
 use Rattle.recovery.specs.ReadBack.{length-nibbles, body-long}
 use Rattle.recovery.specs.Marks.{onto, isMark, Since, all-taken, since-group, kept-completes, kept-step, detected}
@@ -227,7 +227,7 @@ module _ (p : Profile) where
   -- One nibble.
 
   abbrev newest : List ℕ → ℕ → Outcome → Noted
-  newest all n o = record { place = length (n ∷ all) - 8; told = o }
+  newest all n o = record { place = length (n ∷ all) - markNibbles; told = o }
 
   -- a nibble that completes a mark, and one that does not
   abbrev notedAs : Bool → List ℕ → List Noted → ℕ → Outcome → List Noted

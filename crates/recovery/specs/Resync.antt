@@ -41,12 +41,12 @@ byte-joined b = omega arith
 -- A mark whose next code is not end of line, or that finish answers, is no line.
 
 -- an outcome that is no line
-abbrev pub NoLine : Outcome → Type 0
-NoLine o = lineIn o ≡ []
+abbrev pub BringsNoLine : Outcome → Type 0
+BringsNoLine o = lineIn o ≡ []
 
-pub no-line : (p : Profile) (m : Mark) (t : List ℕ) (next : Option ℕ) → endsAt next ≡ false → NoLine (answerAt p m t next)
+pub no-line : (p : Profile) (m : Mark) (t : List ℕ) (next : Option ℕ) → endsAt next ≡ false → BringsNoLine (answerAt p m t next)
 no-line p m t next h =
-    answer-cases NoLine refl (λ g. refl) (λ n l. refl) p m t next (λ f body l e. absurd (true≢false (sym e ∙ h)))
+    answer-cases BringsNoLine refl (λ g. refl) (λ n l. refl) p m t next (λ f body l e. absurd (true≢false (sym e ∙ h)))
 
 -- The start mark.
 
@@ -57,7 +57,7 @@ pub record Opens (p : Profile) (s : State) (w : List ℕ) (c : ℕ) : Type 0 whe
   pub no-lines : lines p s w ≡ []
 
 -- one more nibble in front, whose outcome is no line
-one-more : (p : Profile) (s : State) (n : ℕ) (w : List ℕ) (c : ℕ) → NoLine (step p s n .outcome) → Opens p (step p s n .state) w c → Opens p s (n ∷ w) c
+one-more : (p : Profile) (s : State) (n : ℕ) (w : List ℕ) (c : ℕ) → BringsNoLine (step p s n .outcome) → Opens p (step p s n .state) w c → Opens p s (n ∷ w) c
 one-more p s n w c h o = record { before = o .before; state = o .state; no-lines = ap (λ (ls : List LineOut). ls ++ lines p (step p s n .state) w) h ∙ o .no-lines }
 
 after-two : (p : Profile) (m : Mark) (t : List ℕ) (c : ℕ) → isEnd (readingOf c) ≡ false
@@ -75,7 +75,7 @@ after-one : (p : Profile) (m : Mark) (t : List ℕ) (c : ℕ) → isEnd (reading
     → Opens p (stateWith m (15 ∷ t)) (15 ∷ 15 ∷ 15 ∷ 0 ∷ 0 ∷ c / 16 ∷ c % 16 ∷ []) c
 after-one p m t c h = one-more p (stateWith m (15 ∷ t)) 15 _ c (no-line-at (strip group t)) (go (strip group t))
   where
-    no-line-at : (o : Option (List ℕ)) → NoLine (advance p m (15 ∷ 15 ∷ t) (markIf 15 15 o) .outcome)
+    no-line-at : (o : Option (List ℕ)) → BringsNoLine (advance p m (15 ∷ 15 ∷ t) (markIf 15 15 o) .outcome)
     no-line-at none = refl
     no-line-at (some r) = no-line p m r (some 255) (no-end-F 255 refl)
 
@@ -87,7 +87,7 @@ after-none : (p : Profile) (m : Mark) (t : List ℕ) (c : ℕ) → isEnd (readin
 after-none p m [] c h = one-more p (stateWith m []) 15 _ c refl (after-one p m [] c h)
 after-none p m (z ∷ t) c h = one-more p (stateWith m (z ∷ t)) 15 _ c (no-line-at (strip group t)) (go (strip group t))
   where
-    no-line-at : (o : Option (List ℕ)) → NoLine (advance p m (15 ∷ z ∷ t) (markIf z 15 o) .outcome)
+    no-line-at : (o : Option (List ℕ)) → BringsNoLine (advance p m (15 ∷ z ∷ t) (markIf z 15 o) .outcome)
     no-line-at none = refl
     no-line-at (some r) = no-line p m r (some (16 * z + 15)) (no-end-F (16 * z + 15) (omega arith))
 

@@ -18,9 +18,8 @@ use Rattle.stream.specs.Answers.{Outcome, nothing, refused, outcomeOf, answerFo
 use Rattle.reader.specs.declared.Head.{Head}
 use Rattle.reader.specs.declared.Reader.{Reader}
 use Rattle.reader.specs.Reader.{Took, taking, feedOf}
-use Rattle.reader.specs.Run.{Ran, ran, isAnswer, lentRunOf}
-use Rattle.reader.specs.RunLaws.{onward, up-to-stop}
-use Rattle.reader.proofs.Running.{lent-right, run-goes}
+use Rattle.run.specs.Run.{Ran, ran, isAnswer, lentRunOf, onward}
+use Rattle.run.proofs.Running.{lent-right, run-goes}
 use Rattle.refinement.specs.Window.{Small, small-none, small-more}
 use Rattle.refinement.specs.Passes.{passes-test, Ok, take-ok}
 use Rattle.refinement.specs.RunsLaws.{no-answer}
@@ -96,7 +95,6 @@ pub lent-onward : (h : Head) (body w : List ℕ) (room : ℕ) → Ok h → lengt
 lent-onward h body w room ok full e =
     lent-right h body w room full
     ∙ run-goes h body w room (passes-test h (ok .test)) (omega (arith, body-small (h .profile)))
-    ∙ up-to-stop (record { head = h; body = body }) w
 
 -- an answer is told by what it says
 pub answer-of : (p : Profile) (a : Answer) (buffer : List ℕ) (o : Outcome) → outcomeOf p a buffer ≡ o → a ≡ answerFor o

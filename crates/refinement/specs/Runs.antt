@@ -13,7 +13,7 @@ use Rattle.stream.specs.Answers.{Outcome, nothing, line, gap, refused, outcomeO
 use Rattle.stream.specs.Written.{Sent, AllWritable, stream}
 use Rattle.reader.specs.declared.Reader.{Reader}
 use Rattle.reader.specs.Reader.{passes}
-use Rattle.reader.specs.Run.{stopPlace, runOf}
+use Rattle.run.specs.Run.{stopPlace, runOf}
 use Rattle.recovery.specs.Calls.{Call, feed, done, Gives, takenBy, changed, Collector, collects, lineCollector, gapCollector, onRun, onTaken, onCollected, onLines, onGaps, DemandThree}
 use Rattle.refinement.specs.ReaderCalls.{readerCall}
 

@@ -16,8 +16,7 @@ use Rattle.stream.specs.declared.Answer.the-variants as answers
 use Rattle.stream.specs.Answers.{Outcome, nothing, line, gap, refused, outcomeOf, answerFor, bufferAfter}
 use Rattle.reader.specs.declared.Reader.{Reader}
 use Rattle.reader.specs.Reader.{Took, freshReader, refusing, taking, feedOf}
-use Rattle.reader.specs.Run.{Ran, ran, isAnswer, stops, stopPlace, runOf}
-use Rattle.reader.specs.RunLaws.{onward, up-to-stop}
+use Rattle.run.specs.Run.{Ran, ran, isAnswer, stops, stopPlace, runOf, onward}
 use Rattle.reader.proofs.Told.{take-profile}
 use Rattle.recovery.specs.Calls.{Call, feed, FinishLast, takes, Collector, lineCollector, gapCollector, onRun, onTaken, onCollected}
 use Rattle.recovery.specs.Calls as calls
@@ -189,7 +188,7 @@ run-starts : (r : Reader) (w buffer : List ℕ) → Ok (r .head) → leb (bodyLe
 unfolding runOf
 run-starts r w buffer ok room =
     let v = passes-test (r .head) (ok .test) in
-    (simp (v, room) (up-to-stop r w), simp (v, room) (ap (feeds buffer) (sym (up-to-is w r))))
+    (simp (v, room), simp (v, room) (ap (feeds buffer) (sym (up-to-is w r))))
 
 run-short : (r : Reader) (w buffer : List ℕ) → Ok (r .head) → leb (bodyLength (r .head .profile)) (length buffer) ≡ false
     → (runOf r w (length buffer) ≡ ran r (refused noRoom) 0) × (oneByOne r (run w buffer) ≡ [])

@@ -1,4 +1,5 @@
--- The answer of a mark (01, 'One answer for each mark'): from the kind of the mark before, its code, its text and the next mark's code.
+-- The answer of a mark (01, 'One answer for each mark'): from what the mark before was, its code, its text and the next mark's
+-- code.
 use mathlib.Core.Bool.{Bool, true, false, _&&_, _||_}
 use mathlib.Core.List.{List, [], _∷_, _++_}
 use mathlib.Core.Option.{Option, none, some}

@@ -88,11 +88,15 @@ counting which n (v ∷ w) = counting which (cond (which v) (oneMore n) n) w
 
 -- Lines with their gaps.
 
-abbrev pub linesOf : List LineFacts → List Line
-linesOf [] = []
-linesOf (f ∷ w) = line (kindNumber (f .kind)) (f .number) ∷ linesOf w
+-- what is said of a line, and of the gap that follows it
+pub record LineWithGap : Type 0 where
+  pub facts : LineFacts
+  pub gap : GapFacts
 
--- whatever a gap's answer says
-abbrev pub withGaps : GapFacts → List LineFacts → List Answer
-withGaps g [] = []
-withGaps g (f ∷ w) = answer.Line f ∷ answer.Gap g ∷ withGaps g w
+abbrev pub linesOf : List LineWithGap → List Line
+linesOf [] = []
+linesOf (l ∷ ls) = line (kindNumber (l .facts .kind)) (l .facts .number) ∷ linesOf ls
+
+abbrev pub withGaps : List LineWithGap → List Answer
+withGaps [] = []
+withGaps (l ∷ ls) = answer.Line (l .facts) ∷ answer.Gap (l .gap) ∷ withGaps ls

@@ -27,7 +27,7 @@ use Rattle.tally.specs.declared.Told.{Told}
 use Rattle.tally.specs.declared.News.{News}
 use Rattle.tally.specs.declared.News.the-variants.{Nothing, Complete, Broken, Cut}
 use Rattle.tally.specs.Tally.{oneMore, countStop, freshTally, marked, moved, quiet, brokenBy, breaksFrame, refusedBy, told, handed, isBrokenLine, takeOf, cutWithin, cutOf, isUnfinished, ended, closeOf, isGood}
-use Rattle.tally.specs.Answered.{tallied, newsOf, withMark, captureTally, captureNews, saysComplete, saysBroken, some, handedOver, allHanded, isComplete, isBreak, counting, linesOf, withGaps}
+use Rattle.tally.specs.Answered.{tallied, newsOf, withMark, captureTally, captureNews, saysComplete, saysBroken, some, handedOver, allHanded, isComplete, isBreak, counting, linesOf, withGaps, LineWithGap}
 
 -- Marks.
 
@@ -159,20 +159,20 @@ judged-as-said t (a ∷ w) = then-judged (take-judged t a) (judged-as-said (take
 
 -- A whole frame.
 
-handed-lines : (g : GapFacts) (fs : List LineFacts) → allHanded (withGaps g fs) ≡ linesOf fs
-handed-lines g [] = refl
-handed-lines g (f ∷ fs) = ap (λ (ls : List Line). line (kindNumber (f .kind)) (f .number) ∷ ls) (handed-lines g fs)
+handed-lines : (fs : List LineWithGap) → allHanded (withGaps fs) ≡ linesOf fs
+handed-lines [] = refl
+handed-lines (f ∷ fs) = ap (λ (ls : List Line). line (kindNumber (f .facts .kind)) (f .facts .number) ∷ ls) (handed-lines fs)
 
--- the lines of a frame, repaired or not, each with its gap, from a fresh tally
-pub frame-good : (b : Borders) (g : GapFacts) (fs : List LineFacts) → IsFrame b (linesOf fs)
-    → (tallied freshTally (withGaps g fs) .complete ≡ 1) × (tallied freshTally (withGaps g fs) .broken ≡ 0) × (isGood (tallied freshTally (withGaps g fs)) ≡ true)
+-- the lines of a frame, repaired or not, each with its own gap, from a fresh tally
+pub frame-good : (b : Borders) (fs : List LineWithGap) → IsFrame b (linesOf fs)
+    → (tallied freshTally (withGaps fs) .complete ≡ 1) × (tallied freshTally (withGaps fs) .broken ≡ 0) × (isGood (tallied freshTally (withGaps fs)) ≡ true)
 unfolding isGood oneMore
-frame-good b g fs e =
-    let p = judged-as-said freshTally (withGaps g fs) in
-    let v : verdicts Waiting (allHanded (withGaps g fs)) ≡ replicate lastPlace verdict.Going ++ (verdict.Complete ∷ []) =
-    ap (verdicts Waiting) (handed-lines g fs) ∙ frame-complete b (linesOf fs) e .0 in
-    let c : tallied freshTally (withGaps g fs) .complete ≡ 1 = p .complete ∙ ap (counting isComplete 0) v in
-    let d : tallied freshTally (withGaps g fs) .broken ≡ 0 = p .broken ∙ ap (counting isBreak 0) v in
+frame-good b fs e =
+    let p = judged-as-said freshTally (withGaps fs) in
+    let v : verdicts Waiting (allHanded (withGaps fs)) ≡ replicate lastPlace verdict.Going ++ (verdict.Complete ∷ []) =
+    ap (verdicts Waiting) (handed-lines fs) ∙ frame-complete b (linesOf fs) e .0 in
+    let c : tallied freshTally (withGaps fs) .complete ≡ 1 = p .complete ∙ ap (counting isComplete 0) v in
+    let d : tallied freshTally (withGaps fs) .broken ≡ 0 = p .broken ∙ ap (counting isBreak 0) v in
     (c, d, simp (c, d))
 
 -- Good exactly when a frame was told complete and none was told broken.

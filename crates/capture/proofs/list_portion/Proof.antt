@@ -1,3 +1,4 @@
+-- At each turn lister and text are those of the nibbles so far, a row a nibble at most; a run takes some, so the nibbles left fall.
 use mathlib.Core.Path.{_≡_, sym, ap, subst, _∙_}
 use mathlib.Core.List.{List}
 use Prim.Native.Nat.{ℕ, _+_, _-_, _*_, _≤_, _<_}
@@ -49,16 +50,16 @@ loop-holds c =
     let small = subst (λ v. Small (nibbles v)) (take-all (c .before .before .unpack .result) (now (a .bytes)) (omega (arith, k))) (c .before .before .unpack .ensures .2) in
     (along-start _ _ _ _ (omega arith) (c .before .before .before .before .before .before .before .before .pre .0), search needs, search needs, subst Small (sym e) small, ap length e ∙ nibbles-length (now (a .bytes)) ∙ ap (λ n. 2 * n) (sym k), omega (arith, k), omega (arith, k))
 
-sub-run : tie.Need-sub-run Inv-loop μ-loop
-sub-run c = c .before .before .loop .inv .0 .within
+sub-run-lent : tie.Need-sub-run-lent Inv-loop μ-loop
+sub-run-lent c = c .before .before .loop .inv .0 .within
 
 add-i : tie.Need-add-i Inv-loop μ-loop
 add-i c =
     let l = c .before .before .before .before .before .before .before .before .before .before .before .loop in
-    let e = c .before .before .before .before .before .before .run .ensures in
+    let e = c .before .before .before .before .before .before .run-lent .ensures in
     let t = part-onward (l .head) (l .body) _ (l .i) _ (l .inv .0 .sound) (l .inv .1) (l .inv .2) in
     let lt = subst (λ n. l .i < n) (sym (l .inv .4)) (c .before .before .before .before .before .before .before .before .before .before .loop-test .taken) in
-    let n = along-count (l .inv .0) (l .inv .3) lt _ t (e .1) in
+    let n = along-count (l .inv .0) (l .inv .3) lt _ t (e .count) in
     omega (arith, n .1, l .inv .4, l .inv .6)
 
 put-text-requires : tie.Need-put-text-requires Inv-loop μ-loop
@@ -70,20 +71,20 @@ put-text-requires c κs =
 loop-less : tie.Need-loop-less Inv-loop μ-loop
 loop-less c =
     let l = c .before .before .before .before .before .before .before .before .before .before .before .before .before .before .before .before .before .loop in
-    let e = c .before .before .before .before .before .before .before .before .before .before .before .before .run .ensures in
+    let e = c .before .before .before .before .before .before .before .before .before .before .before .before .run-lent .ensures in
     let t = part-onward (l .head) (l .body) _ (l .i) _ (l .inv .0 .sound) (l .inv .1) (l .inv .2) in
     let lt = subst (λ n. l .i < n) (sym (l .inv .4)) (c .before .before .before .before .before .before .before .before .before .before .before .before .before .before .before .before .loop-test .taken) in
-    let n = along-count (l .inv .0) (l .inv .3) lt _ t (e .1) in
+    let n = along-count (l .inv .0) (l .inv .3) lt _ t (e .count) in
     omega (arith, n .0, n .1, l .inv .4, lt)
 
 loop-again : tie.Need-loop-again Inv-loop μ-loop
 loop-again c =
     let l = c .before .before .before .before .before .before .before .before .before .before .before .before .before .before .before .before .before .loop in
-    let e = c .before .before .before .before .before .before .before .before .before .before .before .before .run .ensures in
+    let e = c .before .before .before .before .before .before .before .before .before .before .before .before .run-lent .ensures in
     let t = part-onward (l .head) (l .body) _ (l .i) _ (l .inv .0 .sound) (l .inv .1) (l .inv .2) in
     let lt = subst (λ n. l .i < n) (sym (l .inv .4)) (c .before .before .before .before .before .before .before .before .before .before .before .before .before .before .before .before .loop-test .taken) in
-    let told = answer-of _ _ _ _ (e .2) in (
-      along-next (l .inv .0) (l .inv .3) lt _ t (e .0) (e .3) (e .1) told (c .before .before .before .before .before .take .ensures) (c .before .before .put-text .ensures),
+    let told = answer-of _ _ _ _ (e .says) in (
+      along-next (l .inv .0) (l .inv .3) lt _ t (e .next) (e .keeps) (e .count) told (c .before .before .before .before .before .take .ensures) (c .before .before .put-text .ensures),
       search needs,
       search needs,
       l .inv .3,
@@ -115,7 +116,7 @@ list-portion-spec =
     array-share-prefix-nibbles
     slice-aggregate-all
     loop-holds
-    sub-run
+    sub-run-lent
     (λ c. search needs)
     (λ c. search needs)
     (λ c κs. search needs)

@@ -1,3 +1,4 @@
+-- The line of a frame's news is at most a row long, so it has room, and is put whole at the place.
 use native.Mathlib.Omega.{arith}
 use Rattle.listing.specs.FramesLaws.{news-short}
 use Rattle.capture.proofs.Part.{part-put}

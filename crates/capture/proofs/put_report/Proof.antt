@@ -1,3 +1,4 @@
+-- For rows nothing is put, and the place stays; for frames the summary is put, as its function promises.
 use mathlib.Core.Path.{refl}
 use native.Mathlib.Omega.{arith}
 use Rattle.listing.specs.PutLaws.{none}

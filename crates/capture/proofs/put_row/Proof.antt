@@ -1,3 +1,4 @@
+-- A mark's row is never longer than the room asked for, so it is put whole at the place.
 use native.Mathlib.Omega.{arith}
 use borrow.Author.Needs.{needs}
 use Rattle.listing.specs.RowLaws.{row-short}

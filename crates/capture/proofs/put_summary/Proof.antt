@@ -1,3 +1,4 @@
+-- The summary is at most a row long, so it is put whole at the place; whether all is good is the tally's own test.
 use native.Mathlib.Omega.{arith}
 use Rattle.listing.specs.FramesLaws.{summary-short}
 use Rattle.capture.proofs.Part.{part-put}

@@ -1,3 +1,4 @@
+-- By what is listed: the mark's row, numbered by the tally's marks, or the line of the tally's news.
 use Rattle.capture.specs.Listed.{textOf}
 use borrow.Author.Needs.{needs}
 use Rattle.capture.proofs.put_text.Statement.{statement}

@@ -1,3 +1,4 @@
+-- A line ends within the text, and unless it is the last the next one starts after it; what is left of the text falls at each turn.
 use lib.ListN.{length}
 use Prim.Native.Nat.{_≤_, _-_}
 use borrow.Author.Needs.{needs}

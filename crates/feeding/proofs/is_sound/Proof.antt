@@ -1,3 +1,4 @@
+-- The answer is the reader's own test; a mark's code is a byte because its type is u8, and without a mark nothing is asked.
 use mathlib.Core.Path.{sym, subst}
 use Rattle.refinement.specs.Passes.{Byte}
 use borrow.Author.Needs.{needs}

@@ -1,3 +1,4 @@
+-- At each turn the nibbles of the bytes so far stand at the front, each below 16, and the rest is as it was; the bytes left fall.
 use mathlib.Core.Path.{_≡_, refl, ap, _∙_, subst}
 use Prim.Native.Nat.{ℕ, _-_, _*_, _≤_}
 use native.Mathlib.Omega.{arith}

@@ -1,3 +1,4 @@
+-- 11 for a short state and for numbers no reader has; else a run is lent the body, and its head is stored where it took something.
 use Rattle.fluturenc.specs.State.{stateLength, holdsReader}
 use mathlib.Core.Path.{sym, ap, _∙_}
 use mathlib.Core.Logic.{⊎-elim}
@@ -19,7 +20,7 @@ returns c =
     (simp short, simp short, simp short, simp short)
 
 store-head-requires : tie.Need-store-head-requires
-store-head-requires c κs = back-front (now (c .before .before .before .before .before .before .before .before .before .before .before .before .before .before .before .before .before .before .before .before .before .before .args .state)) (c .before .before .before .before .before .before .before .before .before .before .before .before .before .before .before .before .before .before .if1 .left) (c .before .before .before .before .before .before .before .before .run .last .1 .0)
+store-head-requires c κs = back-front (now (c .before .before .before .before .before .before .before .before .before .before .before .before .before .before .before .before .before .before .before .before .before .before .args .state)) (c .before .before .before .before .before .before .before .before .before .before .before .before .before .before .before .before .before .before .if1 .left) (c .before .before .before .before .before .before .before .before .run-lent .last .1 .0)
 
 same-length : tie.Need-same-length
 same-length c = ⊎-elim (λ w. ap length (w .5) ∙ w .2 .kept .1 .0 ∙ c .before .before .before .before .before .before .before .state .given .1) (λ w. ap length (w .1) ∙ c .before .before .before .before .before .before .before .state .given .1) (c .before .if3 .came)
@@ -31,13 +32,13 @@ returns-2 c =
     let w = now (a .nibbles) in
     let line = now (a .line) in
     let h = c .before .before .before .before .before .before .before .before .before .before .before .head-in .result in
-    let r = c .before .before .before .before .before .before .before .before .run in
+    let r = c .before .before .before .before .before .before .before .before .run-lent in
     let room = c .before .before .before .before .before .before .before .before .before .before .before .before .before .before .before .before .before .before .if1 .left in
     let read = c .before .before .before .before .before .before .before .before .before .before .before .head-in .ensures in
     let e = feed-lent s room w line h read (sym (c .before .before .before .before .before .before .before .before .before .before .before .before .before .before .is-tagged .ensures) ∙ c .before .before .before .before .before .before .before .before .before .before .before .before .before .if2 .taken) in
-    let told = told-answer (h .profile) (r .result .answer) (r .last .1 .1 .1 .0) (lentRun h s w line .outcome) (r .ensures .2) in
-    let left = ⊎-elim (λ b. b .5 ∙ b .2 .ensures ∙ left-stored s room w line h read (r .result .taken) (r .last .1 .0) (r .ensures .1) (r .ensures .3) (omega (arith, b .0 .taken)) (r .result .head) (r .ensures .0)) (λ b. b .1 ∙ left-same s room w line h read (r .result .taken) (r .last .1 .0) (r .ensures .1) (r .ensures .3) (omega (arith, b .0 .left))) (c .before .if3 .came) in
-    (simp (e, c .answer-number .ensures, told), simp (e, r .ensures .1), simp e left, simp (e, r .ensures .4))
+    let told = told-answer (h .profile) (r .result .answer) (r .last .1 .1 .1 .0) (lentRun h s w line .outcome) (r .ensures .says) in
+    let left = ⊎-elim (λ b. b .5 ∙ b .2 .ensures ∙ left-stored s room w line h read (r .result .taken) (r .last .1 .0) (r .ensures .count) (r .ensures .keeps) (omega (arith, b .0 .taken)) (r .result .head) (r .ensures .next)) (λ b. b .1 ∙ left-same s room w line h read (r .result .taken) (r .last .1 .0) (r .ensures .count) (r .ensures .keeps) (omega (arith, b .0 .left))) (c .before .if3 .came) in
+    (simp (e, c .answer-number .ensures, told), simp (e, r .ensures .count), simp e left, simp (e, r .ensures .leaves))
 
 returns-3 : tie.Need-returns-3
 unfolding feedCall holdsReader

@@ -1,3 +1,4 @@
+-- A state that holds a reader is long enough to be read and to be stored in again; any other is refused with 11, and stays.
 use denote.Ref.{now}
 use Rattle.fluturenc.specs.CallLaws.{finish-call}
 use mathlib.Core.Path.{sym, _∙_}
@@ -17,7 +18,7 @@ returns : tie.Need-returns
 returns c =
     let f = c .before .before .before .before .before .before .finish .ensures in
     let e = finish-call (now (c .before .before .before .before .before .before .before .before .before .before .before .before .before .args .state)) (c .before .before .before .before .before .before .before .reader-in .result) (sym (c .before .before .before .before .before .before .before .before .before .before .holds-reader .ensures) ∙ c .before .before .before .before .before .before .before .before .before .if1 .taken) (sym (c .before .before .before .before .before .before .before .reader-in .ensures)) in
-    (simp (e, c .answer-number .ensures, f .1), simp (e, c .before .before .before .store .ensures, f .0))
+    (simp (e, c .answer-number .ensures, f .says), simp (e, c .before .before .before .store .ensures, f .next))
 
 returns-2 : tie.Need-returns-2
 unfolding finishCall

@@ -1,3 +1,4 @@
+-- Below 3 * 2^16 the number is a judge's: read, judged and numbered again as the calls promise; from there on 11, and it stays.
 use borrow.Author.Tests.{lt-ltb, le-ltb}
 use Rattle.fluturenc.specs.Calls.{judgeCall}
 use borrow.Author.Needs.{needs}

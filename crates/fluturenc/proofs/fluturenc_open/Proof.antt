@@ -1,3 +1,4 @@
+-- 11 where the number is no profile's, then 12 where the state is short; else a fresh reader is stored.
 use native.Mathlib.Omega.{arith}
 use lib.ListN.{length}
 use denote.Ref.{now}

@@ -1,3 +1,4 @@
+-- The writer's answer gives the number and the count in each of its two cases, and the buffer is as the writer leaves it.
 use lib.ListN.{length}
 use denote.Ref.{now}
 use Rattle.writer.specs.Writer.{writeOf}

@@ -1,3 +1,4 @@
+-- The numbers of profile, mark and flag are what their functions promise; count and window are cut into four bytes, the highest first.
 use Rattle.fluturenc.specs.State.{headBytes}
 use borrow.Author.Needs.{needs}
 use Rattle.fluturenc.proofs.head_bytes.Statement.{statement}

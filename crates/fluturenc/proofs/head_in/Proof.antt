@@ -1,3 +1,4 @@
+-- A state of full length has all 14 places of a head, and each part is read from its own places, as its function promises.
 use Rattle.fluturenc.specs.State.{headIn}
 use borrow.Author.Needs.{needs}
 use Rattle.fluturenc.proofs.head_in.Statement.{statement}

@@ -1,3 +1,4 @@
+-- The three tests in order: the length, the three numbers that must name something, and the own test of the reader read.
 use native.Mathlib.Omega.{arith}
 use lib.ListN.{length}
 use denote.Ref.{now}

@@ -1,3 +1,4 @@
+-- Three bounds one after another, 1, 11 and 1: a number above its bound makes it false.
 use borrow.Author.Tests.{lt-leb, le-leb}
 use Rattle.fluturenc.specs.State.{tagged}
 use Rattle.fluturenc.proofs.is_tagged.Statement.{statement}

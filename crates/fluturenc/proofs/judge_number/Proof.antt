@@ -1,3 +1,4 @@
+-- By the judge and its borders: each setting has 2^16 numbers of its own, and a place is below that, so the sum fits u32.
 use borrow.Author.Needs.{needs}
 use Rattle.fluturenc.proofs.judge_number.Statement.{statement}
 use Rattle.fluturenc.proofs.judge_number.Tie as tie

@@ -1,3 +1,4 @@
+-- 0 waits; else the place is the remainder by 2^16, and two tests find the setting of the borders that has this number.
 use borrow.Author.Tests.{lt-ltb, le-ltb, eq-eqb, ne-eqb}
 use Rattle.fluturenc.specs.Calls.{judgeNumbered}
 use borrow.Author.Needs.{needs}

@@ -1,3 +1,4 @@
+-- 6 is no mark; below it the number is the kind of a mark before that was not handed out, above it, 6 less, of one that was.
 use borrow.Author.Tests.{eq-eqb, ne-eqb, lt-ltb, le-ltb}
 use borrow.Author.Needs.{needs}
 use Rattle.fluturenc.proofs.mark_numbered.Statement.{statement}

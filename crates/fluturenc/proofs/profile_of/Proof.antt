@@ -1,3 +1,4 @@
+-- 0 is profile 0, and any other number profile 1: the same test as the definition.
 use borrow.Author.Tests.{eq-eqb, ne-eqb}
 use Rattle.fluturenc.proofs.profile_of.Statement.{statement}
 use Rattle.fluturenc.proofs.profile_of.Tie as tie

@@ -1,3 +1,4 @@
+-- The head is read by its function; the 356 bytes after it, copied, fill the body, so nothing of its zeros is left.
 use native.Mathlib.Omega.{arith}
 use lib.ListN.{replicate, length-take, length-drop}
 use denote.Ref.{now}

@@ -1,3 +1,4 @@
+-- The head is put at the front, and the 356 bytes of the body straight after it: what is behind them stays.
 use mathlib.Core.Path.{sym, ap, _∙_}
 use mathlib.Core.List.{List}
 use Prim.Native.Nat.{ℕ}

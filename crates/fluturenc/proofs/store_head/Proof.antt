@@ -1,3 +1,4 @@
+-- The 14 bytes of the head are copied to the front, and what is behind them stays.
 use mathlib.Core.Path.{sym, ap, _∙_}
 use mathlib.Core.List.{List, _++_}
 use Prim.Native.Nat.{ℕ}

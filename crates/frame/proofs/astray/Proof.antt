@@ -1,3 +1,4 @@
+-- 18 in both cases; whether the line opens a frame decides if place 1 is due then or the judge waits.
 use borrow.Author.Needs.{needs}
 use Rattle.frame.proofs.astray.Statement.{statement}
 use Rattle.frame.proofs.astray.Tie as tie

@@ -1,3 +1,4 @@
+-- Whether the line opens a frame decides: then place 1 is due, else the judge goes on waiting.
 use borrow.Author.Needs.{needs}
 use Rattle.frame.proofs.first.Statement.{statement}
 use Rattle.frame.proofs.first.Tie as tie

@@ -1,3 +1,4 @@
+-- The ranges are tested from the first place up: where one test holds all before it have failed, so the place lies in that range.
 use borrow.Author.Tests.{lt-ltb, le-ltb, eq-eqb, ne-eqb}
 use Rattle.frame.specs.Places.{kindWithin}
 use Rattle.frame.proofs.kind_within.Statement.{statement}

@@ -1,3 +1,4 @@
+-- The number is compared with 0 only where the kind is SOF's; of any other kind no line opens a frame.
 use borrow.Author.Tests.{eq-eqb, ne-eqb}
 use borrow.Author.Needs.{needs}
 use Rattle.frame.proofs.opens.Statement.{statement}

@@ -1,3 +1,4 @@
+-- Below the lower bound the number is outside; from there on the upper bound decides.
 use borrow.Author.Tests.{le-leb, lt-leb}
 use Rattle.frame.proofs.within.Statement.{statement}
 use Rattle.frame.proofs.within.Tie as tie

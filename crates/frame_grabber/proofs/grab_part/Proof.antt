@@ -1,3 +1,4 @@
+-- At each turn the nibbles left bring what all do; a run takes some, and where something is said the reader takes the byte's rest.
 use mathlib.Core.Path.{_≡_, refl, sym, ap, subst, _∙_}
 use mathlib.Core.List.{List}
 use Prim.Native.Nat.{ℕ, _+_, _-_, _*_, _%_, _≤_}

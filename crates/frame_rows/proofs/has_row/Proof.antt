@@ -1,3 +1,4 @@
+-- Taking the rows kept off the room, where they are within it, asks the same as adding a row to them, and cannot overflow.
 use mathlib.Core.Path.{sym}
 use Prim.Native.Nat.{_+_}
 use native.Mathlib.Omega.{arith}

@@ -1,3 +1,4 @@
+-- A whole row is copied, or put in order, at the front of what follows the place; before that and behind the row nothing changes.
 use borrow.Author.Tests.{eq-eqb}
 use borrow.Author.Needs.{needs}
 use Rattle.line_code.specs.declared.Kind.the-variants.{VL}

@@ -1,3 +1,4 @@
+-- Case by case: only the meaning of a line names a kind, and that is the kind it carries.
 use borrow.Author.Needs.{needs}
 use Rattle.line_code.proofs.kind_of.Statement.{statement}
 use Rattle.line_code.proofs.kind_of.Tie as tie

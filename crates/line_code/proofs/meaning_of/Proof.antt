@@ -1,3 +1,4 @@
+-- Code 0 is the end of a line, a code that is a kind's number a line of that kind; any other goes to the reserved codes.
 use borrow.Author.Tests.{eq-eqb, ne-eqb}
 use Rattle.line_code.specs.LineCode.{meaningOf}
 use borrow.Author.Needs.{needs}

@@ -1,3 +1,4 @@
+-- A byte is below 256, so it has an entry in the table, and each entry is the number of its byte's reading (Bytes).
 use mathlib.Core.Path.{_∙_}
 use native.Mathlib.Omega.{arith}
 use Rattle.line_code.proofs.Bytes.{entry}

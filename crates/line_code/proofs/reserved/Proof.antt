@@ -1,3 +1,4 @@
+-- 6 is EC, and what is not 6 is F1: the one test here is the one of the definition.
 use borrow.Author.Tests.{eq-eqb, ne-eqb}
 use Rattle.line_code.specs.LineCode.{reservedOf}
 use Rattle.line_code.proofs.reserved.Statement.{statement}

@@ -1,3 +1,4 @@
+-- A number only where both bytes pass the test of a number byte; its value is the same sum with the factors in another order.
 use mathlib.Core.Path.{ap}
 use native.Mathlib.Omega.{arith}
 use borrow.Author.Needs.{needs}

@@ -1,3 +1,4 @@
+-- Up to 4095 both halves are below 64, so each has a number byte; above that the first test refuses.
 use borrow.Author.Tests.{le-leb, lt-leb}
 use borrow.Author.Needs.{needs}
 use Rattle.line_number.proofs.encode.Statement.{statement}

@@ -1,3 +1,4 @@
+-- Below 128 the top bit is 0, and the count of ones decides; from 128 on the byte is no number byte.
 use borrow.Author.Tests.{lt-ltb, le-ltb}
 use Rattle.line_number.specs.LineNumber.{numberGood}
 use Rattle.line_number.proofs.is_good.Statement.{statement}

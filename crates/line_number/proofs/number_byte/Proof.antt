@@ -1,3 +1,4 @@
+-- A value below 64, doubled and with one bit more, is a byte; it has at most 8 ones, so the count and one more cannot overflow.
 use native.Mathlib.Omega.{arith}
 use borrow.Author.Needs.{needs}
 use lib.Count.{ones-le}

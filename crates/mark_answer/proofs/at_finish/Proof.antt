@@ -1,3 +1,4 @@
+-- Without a mark nothing is answered; an open one is judged by its code's reading: damaged, or by its meaning with no mark to come.
 use mathlib.Core.List.{[]}
 use mathlib.Core.Option.{none}
 use Rattle.mark_answer.proofs.ByReading.{by-reading}

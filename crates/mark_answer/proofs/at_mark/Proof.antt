@@ -1,3 +1,4 @@
+-- Without a mark nothing is answered; an open one is judged by its code's reading: damaged, or by its meaning and the next code.
 use denote.Ref.{now}
 use mathlib.Core.Option.{some}
 use Rattle.mark_answer.proofs.ByReading.{by-reading}

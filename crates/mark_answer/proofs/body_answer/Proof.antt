@@ -1,3 +1,4 @@
+-- What fits has the body's length, so a shorter buffer is refused with 6; else 6, 7 or the line, by the calls in the paper's order.
 use mathlib.Core.Path.{_≡_, refl, sym, _∙_}
 use mathlib.Core.Bool.{Bool, true, false}
 use mathlib.Core.List.{List}

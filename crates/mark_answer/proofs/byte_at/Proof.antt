@@ -1,3 +1,4 @@
+-- The place is the byte's high nibble, its low one, or neither: it is then begun, completed, or left as it was.
 use borrow.Author.Tests.{eq-eqb, ne-eqb}
 use Rattle.mark_answer.specs.Kept.{byteAt}
 use borrow.Author.Needs.{needs}

@@ -1,3 +1,4 @@
+-- By what the mark before was: after no line it is 8; after a line, refused or handed out, the gap decides, by that line's kind.
 use borrow.Author.Needs.{needs}
 use Rattle.mark_answer.proofs.end_answer.Statement.{statement}
 use Rattle.mark_answer.proofs.end_answer.Tie as tie

@@ -1,3 +1,4 @@
+-- A stray nibble refuses in both profiles; profile 0 asks no more, profile 1 also for two whole gap bytes that its layout allows.
 use mathlib.Core.Path.{_≡_}
 use mathlib.Core.Bool.{true}
 use Prim.Native.Nat.{ℕ}

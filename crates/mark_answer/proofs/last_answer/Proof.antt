@@ -1,3 +1,4 @@
+-- At finish an end of line has no period, and a line that no mark follows is unfinished, whatever was repaired of its code.
 use borrow.Author.Needs.{needs}
 use Rattle.mark_answer.proofs.ByReading.{no-period}
 use Rattle.mark_answer.proofs.last_answer.Statement.{statement}

@@ -1,3 +1,4 @@
+-- 4 by the length; then decoding gives a number exactly where both bytes are good, else 5, and with a number the body decides.
 use Rattle.line_number.specs.LineNumber.{numberGood, numberFrom, decodeOf}
 use mathlib.Core.Path.{_≡_, refl, sym, _∙_}
 use mathlib.Core.Bool.{Bool, true, false, _&&_, cond}

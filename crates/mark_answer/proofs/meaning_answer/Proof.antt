@@ -1,3 +1,4 @@
+-- By what the code says: an end by its gap, with its line's period, a line by its text; both reserved codes are refused with 2.
 use borrow.Author.Needs.{needs}
 use Rattle.mark_answer.proofs.meaning_answer.Statement.{statement}
 use Rattle.mark_answer.proofs.meaning_answer.Tie as tie

@@ -1,3 +1,4 @@
+-- From place 6 on a nibble begins or completes its body byte; past the longest body or the buffer's end putting it changes nothing.
 use lib.Seq.{set-out}
 use borrow.Author.Tests.{lt-ltb, le-ltb, le-leb, lt-leb, eq-eqb, ne-eqb}
 use Prim.Native.Nat.{ℕ, _-_, _/_, _%_}

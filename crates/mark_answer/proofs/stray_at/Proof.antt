@@ -1,3 +1,4 @@
+-- Once noted, a stray nibble stays noted; else the nibble is stray only from the gap's start on, and only where it is not F.
 use borrow.Author.Tests.{le-leb, lt-leb}
 use Rattle.mark_answer.specs.Kept.{strayAt}
 use borrow.Author.Needs.{needs}

@@ -1,3 +1,4 @@
+-- The word has the name's 16 bytes, so every place below 16 is inside both; the places left fall at each turn.
 use mathlib.Core.Path.{_≡_}
 use Prim.Native.Nat.{_-_, _≤_}
 use lib.ListN.{length}

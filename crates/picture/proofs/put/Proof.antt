@@ -1,3 +1,4 @@
+-- The front is taken only where the file is long enough, so the part written has the length asked for.
 use mathlib.Core.Path.{sym}
 use lib.Seq.{length-take-le}
 use borrow.Author.Needs.{needs}

@@ -1,3 +1,4 @@
+-- The rows' buffer keeps its length, and the count of turns falls at each turn.
 use mathlib.Core.Path.{_≡_}
 use lib.ListN.{length}
 use borrow.Author.Needs.{needs}

@@ -1,3 +1,4 @@
+-- The front is taken only where there are n bytes of rows, so what pgm is given has that length.
 use mathlib.Core.Path.{sym}
 use lib.Seq.{length-take-le}
 use borrow.Author.Needs.{needs}

@@ -1,3 +1,4 @@
+-- Below place 178 it is pixel 2j + 1, from there on twice what is above 178, by the paper's test; below 356 nothing overflows.
 use borrow.Author.Tests.{lt-ltb, le-ltb}
 use Rattle.pixel_order.specs.PixelOrder.{pixelAt}
 use borrow.Author.Needs.{needs}

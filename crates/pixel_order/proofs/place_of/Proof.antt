@@ -1,3 +1,4 @@
+-- An odd pixel is at place (i - 1) / 2, an even one at 178 + i / 2, by the paper's test; after halving the sum cannot overflow.
 use borrow.Author.Tests.{eq-eqb, ne-eqb}
 use Rattle.pixel_order.specs.PixelOrder.{placeOf}
 use borrow.Author.Needs.{needs}

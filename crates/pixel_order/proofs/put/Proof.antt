@@ -1,3 +1,4 @@
+-- At each turn the first i bytes are those of the line in order, and the rest is as it was; each is read from inside the line.
 use mathlib.Core.Path.{_≡_, refl}
 use Prim.Native.Nat.{_≤_, _-_}
 use native.Mathlib.Omega.{arith}

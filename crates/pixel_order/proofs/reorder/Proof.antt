@@ -1,3 +1,4 @@
+-- The tests come in the paper's order: 23, 15, 12; past them the line is put in order, 356 bytes of it.
 use mathlib.Core.Path.{sym, _∙_}
 use borrow.Author.Tests.{eq-eqb, ne-eqb, lt-leb}
 use Rattle.line_code.specs.declared.Kind.the-variants.{VL}

@@ -1,3 +1,4 @@
+-- An odd place has the filler, an even one the rule given: the test here is the one of the definition.
 use Prim.Native.Nat.{_%_}
 use borrow.Author.Tests.{eq-eqb, ne-eqb}
 use Rattle.profile.proofs.at_even.Statement.{statement}

@@ -1,3 +1,4 @@
+-- Where the first byte is x the second decides; where it is not, the two cannot both be x.
 use borrow.Author.Tests.{eq-eqb, ne-eqb}
 use Rattle.profile.proofs.both_are.Statement.{statement}
 use Rattle.profile.proofs.both_are.Tie as tie

@@ -1,3 +1,4 @@
+-- is_pixel promises the paper's test of each byte; the second is looked at only where the first is a pixel.
 use borrow.Author.Needs.{needs}
 use Rattle.profile.proofs.both_pixels.Statement.{statement}
 use Rattle.profile.proofs.both_pixels.Tie as tie

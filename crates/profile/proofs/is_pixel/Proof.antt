@@ -1,3 +1,4 @@
+-- A byte that is neither 0 nor 255 is at least 1 and at most 254, the two bounds of a pixel.
 use native.Mathlib.Omega.{arith}
 use borrow.Author.Tests.{le-leb}
 use Rattle.profile.proofs.is_pixel.Statement.{statement}

@@ -1,3 +1,4 @@
+-- Two tests of the place tell before the range, within it and past it apart; only within it the rule is the one given.
 use borrow.Author.Tests.{lt-ltb, le-ltb}
 use Rattle.profile.specs.Places.{ruleWithin}
 use Rattle.profile.proofs.within.Statement.{statement}

@@ -1,3 +1,4 @@
+-- Nibbles that leave at the new end are a shift by four bits each; all eight leave 0.
 use mathlib.Core.Path.{sym}
 use native.Mathlib.Omega.{arith}
 use Rattle.reader.proofs.Window.{aged-shift, all-aged}

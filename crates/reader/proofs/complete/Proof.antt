@@ -1,3 +1,4 @@
+-- The mark's answer is judged with what has left the window; the buffer follows that answer, and so does what the next mark keeps of it.
 use Rattle.reader.proofs.Told.{line-said, told-by-body}
 use borrow.Author.Needs.{needs}
 use Rattle.reader.proofs.complete.Statement.{statement}

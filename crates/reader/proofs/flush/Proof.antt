@@ -1,3 +1,4 @@
+-- After i turns the window has been pushed by i zeros, so 8 - i are left; eight turns empty it.
 use mathlib.Core.Path.{_≡_, refl, sym, _∙_}
 use Prim.Native.Nat.{_≤_, _-_}
 use native.Mathlib.Omega.{arith}

@@ -1,3 +1,4 @@
+-- Only a line moves bytes: its body has the profile's length, which body and buffer both reach, so the front is copied whole.
 use denote.Ref.{now}
 use Rattle.profile.specs.Profile.{bodyLength}
 use native.Mathlib.Omega.{arith}

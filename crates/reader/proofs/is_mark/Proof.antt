@@ -1,3 +1,4 @@
+-- The window without its two newest nibbles is compared with F F F F 0 0 as one number.
 use mathlib.Core.Path.{refl}
 use Rattle.reader.specs.Reader.{isMark}
 use Rattle.reader.proofs.is_mark.Statement.{statement}

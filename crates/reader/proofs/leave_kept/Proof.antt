@@ -1,3 +1,4 @@
+-- Below eight nibbles none leaves the window; from there on the oldest is kept by its place, the count less eight.
 use borrow.Author.Tests.{le-leb, lt-leb}
 use Rattle.reader.specs.Reader.{leaveKept}
 use borrow.Author.Needs.{needs}

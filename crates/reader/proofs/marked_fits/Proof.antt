@@ -1,3 +1,4 @@
+-- Below two nibbles no code is whole; up to eight it stands above the newer ones, at nine its low nibble alone, later it is gone.
 use borrow.Author.Tests.{le-leb, lt-leb, eq-eqb, ne-eqb}
 use borrow.Author.Needs.{needs}
 use Rattle.reader.proofs.marked_fits.Statement.{statement}

@@ -1,3 +1,4 @@
+-- Below its stop the count goes up by one; at the stop it stays.
 use borrow.Author.Tests.{lt-ltb, le-ltb}
 use Rattle.reader.specs.Reader.{bump}
 use borrow.Author.Needs.{needs}

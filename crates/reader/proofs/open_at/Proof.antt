@@ -1,3 +1,4 @@
+-- What the mark before was comes from its kind and whether it was handed out; everything else starts anew.
 use borrow.Author.Needs.{needs}
 use Rattle.reader.proofs.open_at.Statement.{statement}
 use Rattle.reader.proofs.open_at.Tie as tie

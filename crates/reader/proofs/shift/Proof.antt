@@ -1,3 +1,4 @@
+-- Each field is what its own call promises; the profile and the open mark stay.
 use borrow.Author.Needs.{needs}
 use Rattle.reader.proofs.shift.Statement.{statement}
 use Rattle.reader.proofs.shift.Tie as tie

@@ -1,3 +1,4 @@
+-- The oldest nibble is cut off by the remainder and the new one put lowest, so the window stays below 2 ^ 32.
 use mathlib.Core.Path.{refl}
 use Rattle.reader.specs.Reader.{slide}
 use borrow.Author.Needs.{needs}

@@ -1,3 +1,4 @@
+-- While at most eight nibbles have come nothing stands above them in the window; later every window fits.
 use borrow.Author.Tests.{le-leb, lt-leb}
 use borrow.Author.Needs.{needs}
 use Rattle.reader.proofs.unmarked_fits.Statement.{statement}

@@ -1,3 +1,4 @@
+-- By whether a mark is open: each case is its own call.
 use borrow.Author.Needs.{needs}
 use Rattle.reader.proofs.window_fits.Statement.{statement}
 use Rattle.reader.proofs.window_fits.Tie as tie

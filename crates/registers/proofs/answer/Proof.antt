@@ -1,3 +1,4 @@
+-- The text told for a line is within the buffer that it was put in, so the front that is written has its length.
 use mathlib.Core.Path.{refl, sym}
 use lib.Seq.{length-take-le}
 use Rattle.two_wire_text.specs.LineLaws.{told-within}

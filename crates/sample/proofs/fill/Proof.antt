@@ -1,3 +1,4 @@
+-- Every place below 356 is inside the body; the places left fall at each turn. Nothing is promised of the bytes.
 use borrow.Author.Needs.{needs}
 use Prim.Native.Nat.{_-_}
 use Rattle.sample.proofs.fill.Statement.{statement}

@@ -1,3 +1,4 @@
+-- The lines left of the 304 fall at each turn. Nothing is promised of what is written.
 use borrow.Author.Needs.{needs}
 use Prim.Native.Nat.{_-_}
 use Rattle.sample.proofs.main.Statement.{statement}

@@ -1,3 +1,4 @@
+-- Each place below 393 has its two nibbles inside 786, and two nibbles make a byte; the places left fall at each turn.
 use borrow.Author.Needs.{needs}
 use Prim.Native.Nat.{_-_}
 use Rattle.sample.proofs.pack.Statement.{statement}

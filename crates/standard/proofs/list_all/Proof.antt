@@ -1,3 +1,4 @@
+-- The count of turns falls at each turn; nothing else is asked.
 use borrow.Author.Needs.{needs}
 use Rattle.standard.proofs.list_all.Statement.{statement}
 use Rattle.standard.proofs.list_all.Tie as tie

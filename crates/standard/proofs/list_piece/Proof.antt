@@ -1,3 +1,4 @@
+-- The place stays within the piece, and the buffer keeps its length; a call that takes nothing ends it, so the bytes left fall.
 use mathlib.Core.Path.{sym, ap, _∙_, _≡_}
 use mathlib.Core.List.{List}
 use Prim.Native.Nat.{ℕ, _+_, _≤_, _-_}

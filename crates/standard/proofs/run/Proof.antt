@@ -1,3 +1,4 @@
+-- Head and last text stand at the front of the buffer, so their lengths are within it, and the fronts written have them.
 use mathlib.Core.Path.{sym, ap}
 use Prim.Native.Nat.{_≤_}
 use lib.ListN.{length}

@@ -1,3 +1,4 @@
+-- A number below 1 is no broken line's; from 1 on it is one's up to 7.
 use borrow.Author.Tests.{lt-leb, le-leb}
 use Rattle.tally.specs.Tally.{isBrokenLine}
 use Rattle.tally.proofs.is_broken_line.Statement.{statement}

@@ -1,3 +1,4 @@
+-- Case by case: only a refusal can say that a line is unfinished, and it does where its number is 3.
 use borrow.Author.Needs.{needs}
 use Rattle.tally.proofs.is_unfinished.Statement.{statement}
 use Rattle.tally.proofs.is_unfinished.Tie as tie

@@ -1,3 +1,4 @@
+-- Below the greatest u64 one can be added; at it the count stays.
 use borrow.Author.Tests.{lt-ltb, le-ltb}
 use Rattle.tally.specs.Tally.{oneMore}
 use borrow.Author.Needs.{needs}

@@ -1,3 +1,4 @@
+-- By the judge before and after: only from waiting to within a frame has one more opened.
 use borrow.Author.Needs.{needs}
 use Rattle.tally.proofs.opening.Statement.{statement}
 use Rattle.tally.proofs.opening.Tie as tie

@@ -1,3 +1,4 @@
+-- Below register 5 nothing is compared; from there on the register decides, since an index up to 127 has one.
 use borrow.Author.Tests.{lt-ltb, le-ltb, eq-eqb, ne-eqb}
 use Rattle.two_wire.specs.Registers.{differs}
 use borrow.Author.Needs.{needs}

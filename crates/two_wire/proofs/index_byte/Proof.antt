@@ -1,3 +1,4 @@
+-- An index up to 127 leaves the top bit free, so index and flag together are a byte.
 use borrow.Author.Needs.{needs}
 use Rattle.two_wire.proofs.index_byte.Statement.{statement}
 use Rattle.two_wire.proofs.index_byte.Tie as tie

@@ -1,3 +1,4 @@
+-- Data that does not pass 127 ends at 128 at most, which leaves index 0; without increment the index stays.
 use borrow.Author.Tests.{lt-leb, le-leb}
 use Rattle.two_wire.specs.RegisterLaws.{within, reached-counts, reached-still}
 use native.Mathlib.Omega.{arith}

@@ -1,3 +1,4 @@
+-- With increment it is one more, which cannot overflow up to 127; without it the index stays.
 use Rattle.two_wire.specs.Registers.{next}
 use borrow.Author.Needs.{needs}
 use Rattle.two_wire.proofs.next.Statement.{statement}

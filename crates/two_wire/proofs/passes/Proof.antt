@@ -1,3 +1,4 @@
+-- With increment data passes 127 where it has more bytes than there are registers from the index on; without increment it never does.
 use mathlib.Core.Path.{sym}
 use Rattle.two_wire.specs.RegisterLaws.{passes-counts, passes-still}
 use borrow.Author.Needs.{needs}

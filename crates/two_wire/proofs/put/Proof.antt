@@ -1,3 +1,4 @@
+-- The registers below 5 stay as they are; any other is set, and an index up to 127 has one.
 use borrow.Author.Tests.{lt-ltb, le-ltb}
 use Rattle.two_wire.specs.Registers.{put}
 use borrow.Author.Needs.{needs}

@@ -1,3 +1,4 @@
+-- Three bytes are stored at three places that have room, and each store leaves the buffer's length.
 use native.Mathlib.Numerals.{unary-clauses}
 use native.Mathlib.Omega.{arith}
 use mathlib.Core.Path.{refl}

@@ -1,3 +1,4 @@
+-- At each turn the rest is whole pairs, and storing their messages from here on gives the wanted buffer; a turn takes one pair.
 use mathlib.Core.Path.{_≡_, refl, _∙_}
 use mathlib.Core.Bool.{false}
 use Prim.Native.Nat.{_≤_, _-_, _+_}

@@ -1,3 +1,4 @@
+-- At each turn some byte differs exactly where one of those left does, from the index reached on; past 127 none is compared.
 use mathlib.Core.Path.{_≡_, refl, sym, _∙_}
 use Prim.Native.Nat.{_≤_, _-_}
 use borrow.Author.Needs.{needs}

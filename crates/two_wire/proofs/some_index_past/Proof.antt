@@ -1,3 +1,4 @@
+-- At each turn some index is past 127 exactly where one of the rest is, and the rest is whole pairs; a turn takes one pair.
 use mathlib.Core.Path.{_≡_, refl, sym, _∙_}
 use mathlib.Core.Bool.{false}
 use Prim.Native.Nat.{_≤_, _-_}

@@ -1,3 +1,4 @@
+-- At each turn storing the bytes left from the index reached on gives the wanted registers, and these bytes do not pass 127.
 use mathlib.Core.Path.{_≡_, refl, sym, _∙_}
 use mathlib.Core.Bool.{false}
 use Prim.Native.Nat.{_≤_, _-_}

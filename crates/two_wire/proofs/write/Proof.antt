@@ -1,3 +1,4 @@
+-- An odd length ends within a pair; a message is three bytes, so all have room where a third of the buffer is at least the pairs' count.
 use Rattle.two_wire.specs.WritingLaws.{ends-odd, messages-length, written}
 use Prim.Native.Nat.{_<_}
 use lib.ListN.{length}

@@ -1,3 +1,4 @@
+-- No byte is bad only where the body's test and the gap's both hold, and each test is the paper's, as its call promises.
 use borrow.Author.Needs.{needs}
 use Rattle.writer.proofs.has_bad_byte.Statement.{statement}
 use Rattle.writer.proofs.has_bad_byte.Tie as tie

@@ -1,3 +1,4 @@
+-- The high and the low nibble are stored at two places that have room, and a store leaves the buffer's length.
 use mathlib.Core.Path.{refl}
 use native.Mathlib.Numerals.{add-one}
 use native.Mathlib.Omega.{arith}

@@ -1,3 +1,4 @@
+-- At each turn the nibbles of the bytes so far are stored, two places a byte, so there is room for the rest; the bytes left fall.
 use mathlib.Core.Path.{_≡_}
 use Prim.Native.Nat.{_≤_, _+_, _*_, _-_}
 use native.Mathlib.Omega.{arith}

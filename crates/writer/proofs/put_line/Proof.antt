@@ -1,3 +1,4 @@
+-- Each of six parts is put where the one before ended, so together they are the line put at once; the room is the sum of their lengths.
 use native.Mathlib.Omega.{arith}
 use lib.ListN.{length-replicate}
 use Rattle.profile.specs.Profile.{nullByte}

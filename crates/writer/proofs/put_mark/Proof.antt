@@ -1,3 +1,4 @@
+-- FF FF and then 00 and the code, each pair put after the one before, are the four bytes of a mark.
 use Rattle.writer.proofs.Putting.{put-then}
 use borrow.Author.Needs.{needs}
 use Rattle.writer.proofs.put_mark.Statement.{statement}

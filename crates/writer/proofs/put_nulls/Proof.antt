@@ -1,3 +1,4 @@
+-- At each turn as many null bytes are stored as are done, two places each, so there is room for the rest; those left fall.
 use native.Mathlib.Omega.{arith}
 use mathlib.Core.Path.{_≡_}
 use Prim.Native.Nat.{_≤_, _+_, _*_, _-_}

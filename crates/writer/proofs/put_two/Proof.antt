@@ -1,3 +1,4 @@
+-- A byte put straight after another is the same as both put at once.
 use Rattle.writer.proofs.Putting.{put-then}
 use borrow.Author.Needs.{needs}
 use Rattle.writer.proofs.put_two.Statement.{statement}

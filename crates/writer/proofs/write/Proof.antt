@@ -1,3 +1,4 @@
+-- Each refusal is the first in the paper's order whose test fails; past all tests the line may be written, has room, and is put.
 use mathlib.Core.Path.{_≡_, sym, _∙_}
 use mathlib.Core.Bool.{true}
 use Prim.Native.Nat.{ℕ, _≤_}

@@ -1,3 +1,4 @@
+-- The last mark's text is at most a row long, so the report has room after it; the two, end to end, are the buffer's front.
 use mathlib.Core.Path.{refl}
 use native.Mathlib.Omega.{arith}
 use borrow.Author.Tests.{lt-ltb, le-ltb}
@@ -17,7 +18,7 @@ put-report-requires c κs = omega (arith, c .before .before .before .before .bef
 
 returns-2 : tie.Need-returns-2
 unfolding lastText finishedOf
-returns-2 c = let p = on-front (joined (c .before .before .before .before .before .before .before .before .before .put-text .ensures) (c .before .before .before .before .put-report .ensures)) in simp (le-ltb _ _ (c .before .before .before .before .before .before .before .before .before .before .before .before .before .before .before .if1 .left), ← c .before .before .before .before .before .before .before .before .before .before .before .before .before .finish .ensures .0, ← c .before .before .before .before .before .before .before .before .before .before .before .before .before .finish .ensures .1, ← c .before .before .before .before .before .before .before .before .before .before .before .close .ensures, c .new .ensures) (simp (p .0), p .1)
+returns-2 c = let p = on-front (joined (c .before .before .before .before .before .before .before .before .before .put-text .ensures) (c .before .before .before .before .put-report .ensures)) in simp (le-ltb _ _ (c .before .before .before .before .before .before .before .before .before .before .before .before .before .before .before .if1 .left), ← c .before .before .before .before .before .before .before .before .before .before .before .before .before .finish .ensures .next, ← c .before .before .before .before .before .before .before .before .before .before .before .before .before .finish .ensures .says, ← c .before .before .before .before .before .before .before .before .before .before .before .close .ensures, c .new .ensures) (simp (p .0), p .1)
 
 pub finish-spec : {M : Type 1} → statement M
 finish-spec =

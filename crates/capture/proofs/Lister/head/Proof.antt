@@ -1,3 +1,4 @@
+-- For rows it is the header that listing puts; for frames there is no text, and the buffer stays.
 use mathlib.Core.Path.{refl}
 use Rattle.listing.specs.RowLaws.{no-row}
 use borrow.Author.Needs.{needs}

@@ -1,3 +1,4 @@
+-- At each turn lister and text are those of the bytes so far; a portion takes some, until no byte is left or no room for one's text.
 use mathlib.Core.Path.{_≡_, sym, ap, _∙_}
 use mathlib.Core.List.{List}
 use Prim.Native.Nat.{ℕ, _+_, _-_, _≤_}

@@ -1,3 +1,4 @@
+-- A fresh reader and a fresh tally, each as its own function promises.
 use borrow.Author.Needs.{needs}
 use Rattle.capture.proofs.Lister.new.Statement.{statement}
 use Rattle.capture.proofs.Lister.new.Tie as tie

@@ -1,3 +1,4 @@
+-- At each turn the count is at most the place reached, so it cannot overflow; the places left fall.
 use borrow.Author.Needs.{needs}
 use Prim.Native.Nat.{_≤_, _-_}
 use lib.ListN.{length}

@@ -1,3 +1,4 @@
+-- At each turn the count is at most the place reached; the other text is read only as far as it goes; the places left fall.
 use borrow.Author.Needs.{needs}
 use Prim.Native.Nat.{_≤_, _-_}
 use lib.ListN.{length}

@@ -1,3 +1,4 @@
+-- The place stays within the word, and the signs left fall at each turn.
 use lib.ListN.{length}
 use Prim.Native.Nat.{_≤_, _-_}
 use borrow.Author.Needs.{needs}

@@ -1,3 +1,4 @@
+-- The place stays within the line, and what is left of it falls; a number is stored only while fewer than seven are found.
 use lib.ListN.{length}
 use Prim.Native.Nat.{_≤_, _-_}
 use borrow.Author.Needs.{needs}

@@ -1,3 +1,4 @@
+-- The front is taken only where the text is long enough, so it has the length asked for.
 use native.Mathlib.Omega.{arith}
 use lib.ListN.{length-take}
 use borrow.Author.Needs.{needs}

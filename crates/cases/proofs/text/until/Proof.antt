@@ -1,3 +1,4 @@
+-- At each turn the place is from the start on and within the text, and so is the place given; the signs left fall.
 use lib.ListN.{length}
 use Prim.Native.Nat.{_≤_, _-_}
 use borrow.Author.Needs.{needs}

@@ -1,3 +1,4 @@
+-- The kind by ranges is the kind in the list of the layout (PlaceLaws); unsettled borders have the layout with borders on.
 use mathlib.Core.Path.{sym, _∙_}
 use Rattle.frame.specs.Frame.{kindAt}
 use Rattle.frame.proofs.PlaceLaws.{places-on, places-off}

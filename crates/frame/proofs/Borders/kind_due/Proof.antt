@@ -1,3 +1,4 @@
+-- While the borders are unsettled a kind is due where it stands in either layout; once settled, where it stands in that one.
 use borrow.Author.Needs.{needs}
 use Rattle.frame.proofs.Borders.kind_due.Statement.{statement}
 use Rattle.frame.proofs.Borders.kind_due.Tie as tie

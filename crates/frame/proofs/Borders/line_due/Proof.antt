@@ -1,3 +1,4 @@
+-- Kind and number must both be due: the number is asked for only where the kind is.
 use borrow.Author.Needs.{needs}
 use Rattle.frame.proofs.Borders.line_due.Statement.{statement}
 use Rattle.frame.proofs.Borders.line_due.Tie as tie

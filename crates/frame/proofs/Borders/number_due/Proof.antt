@@ -1,3 +1,4 @@
+-- The place's own number is due; any other only past the place of the EOF line, which end_place promises.
 use borrow.Author.Tests.{eq-eqb, ne-eqb}
 use borrow.Author.Needs.{needs}
 use Rattle.frame.proofs.Borders.number_due.Statement.{statement}

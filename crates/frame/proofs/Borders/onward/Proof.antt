@@ -1,3 +1,4 @@
+-- Before place 303 the next place is one more, with the borders as settled has them; at 303 the frame is complete.
 use borrow.Author.Tests.{lt-ltb, le-ltb}
 use borrow.Author.Needs.{needs}
 use Rattle.frame.proofs.Borders.onward.Statement.{statement}

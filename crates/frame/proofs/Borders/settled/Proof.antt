@@ -1,3 +1,4 @@
+-- Unsettled borders stay so before place 10; from there on a VL settles them on, any other kind off; settled ones stay.
 use borrow.Author.Tests.{lt-ltb, le-ltb, eq-eqb, ne-eqb}
 use borrow.Author.Needs.{needs}
 use Rattle.frame.proofs.Borders.settled.Statement.{statement}

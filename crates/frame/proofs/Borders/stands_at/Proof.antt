@@ -1,3 +1,4 @@
+-- The kind at the place, and its number, are what the two calls promise; the number given is compared with that.
 use borrow.Author.Needs.{needs}
 use Rattle.frame.proofs.Borders.stands_at.Statement.{statement}
 use Rattle.frame.proofs.Borders.stands_at.Tie as tie

@@ -1,3 +1,4 @@
+-- While waiting a broken line changes nothing; within a frame it is refused with 19, and the judge waits.
 use borrow.Author.Needs.{needs}
 use Rattle.frame.proofs.Judge.broken.Statement.{statement}
 use Rattle.frame.proofs.Judge.broken.Tie as tie

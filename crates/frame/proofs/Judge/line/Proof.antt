@@ -1,3 +1,4 @@
+-- The tests come in the paper's order: 11, 13, a broken line, 14; where one refuses the judge is handed back as it was.
 use borrow.Author.Tests.{eq-eqb, ne-eqb, le-leb, lt-leb}
 use Rattle.frame.specs.Frame.{judgeOf}
 use borrow.Author.Needs.{needs}

@@ -1,3 +1,4 @@
+-- By the judge and its borders: the places 1 to 10 while unsettled, 11 to 303 once settled, each range tested by within.
 use borrow.Author.Needs.{needs}
 use Rattle.frame.proofs.Judge.passes.Statement.{statement}
 use Rattle.frame.proofs.Judge.passes.Tie as tie

@@ -1,3 +1,4 @@
+-- While waiting only an opening line counts; within a frame line_due tells the line due from one that is astray.
 use borrow.Author.Needs.{needs}
 use Rattle.frame.proofs.Judge.whole.Statement.{statement}
 use Rattle.frame.proofs.Judge.whole.Tie as tie

@@ -1,3 +1,4 @@
+-- At each turn the bytes left bring what the whole piece does; a part that says something ends it, and any other takes some bytes.
 use mathlib.Core.Path.{_≡_, refl, sym, _∙_}
 use Prim.Native.Nat.{_-_}
 use native.Mathlib.Omega.{arith}

@@ -1,3 +1,4 @@
+-- A fresh profile 0 reader and a fresh gatherer, each as its own function promises.
 use borrow.Author.Needs.{needs}
 use Rattle.frame_grabber.proofs.Grabber.new.Statement.{statement}
 use Rattle.frame_grabber.proofs.Grabber.new.Tie as tie

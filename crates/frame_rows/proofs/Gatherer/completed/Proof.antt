@@ -1,3 +1,4 @@
+-- 12 where the rows kept are longer than the buffer; else they are its front, and none are kept for the next frame.
 use mathlib.Core.Path.{ap}
 use borrow.Author.Tests.{lt-leb, le-leb}
 use borrow.Author.Needs.{needs}

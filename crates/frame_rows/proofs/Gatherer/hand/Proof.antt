@@ -1,3 +1,4 @@
+-- By the judge's verdict: going and complete by their functions, waiting and 18 or 19 keep no rows, any other refusal changes nothing.
 use borrow.Author.Needs.{needs}
 use Rattle.frame_rows.specs.FrameRows.{handed, refusedBy}
 use Rattle.frame_rows.proofs.Answering.{gives, quietly}

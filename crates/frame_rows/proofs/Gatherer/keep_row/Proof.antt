@@ -1,3 +1,4 @@
+-- 12 unless the line buffer holds a whole row and there is room for one after those kept; else it is put there.
 use mathlib.Core.Path.{sym, _∙_}
 use Prim.Native.Nat.{_+_}
 use native.Mathlib.Omega.{arith}

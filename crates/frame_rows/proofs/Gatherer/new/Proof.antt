@@ -1,3 +1,4 @@
+-- A fresh judge, as its own function promises, and no rows kept.
 use mathlib.Core.Path.{ap}
 use borrow.Author.Needs.{needs}
 use Rattle.frame.specs.declared.Judge.{Judge}

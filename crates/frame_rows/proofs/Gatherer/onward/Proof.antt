@@ -1,3 +1,4 @@
+-- A line of kind VL has its row kept; after any other that was due the rows kept stay.
 use mathlib.Core.Path.{sym, _∙_}
 use borrow.Author.Tests.{eq-eqb, ne-eqb}
 use borrow.Author.Needs.{needs}

@@ -1,3 +1,4 @@
+-- By the answer: a line is handed to the judge, and kind 0 for the answers 1 to 7; any other leaves the gatherer as it was.
 use borrow.Author.Needs.{needs}
 use Rattle.frame_rows.specs.FrameRows.{takeOf}
 use Rattle.frame_rows.proofs.Answering.{gives}

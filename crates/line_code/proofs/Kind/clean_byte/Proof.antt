@@ -1,3 +1,4 @@
+-- For each of the five kinds the byte named is the one whose parity bits make the four sums even: computed, kind by kind.
 use Rattle.line_code.specs.LineCode.{cleanByte}
 use borrow.Author.Needs.{needs}
 use Rattle.line_code.proofs.Kind.clean_byte.Statement.{statement}

@@ -1,3 +1,4 @@
+-- One test for each number from 1 to 5 gives its kind; a number that fails all five has none.
 use borrow.Author.Tests.{eq-eqb, ne-eqb}
 use Rattle.line_code.specs.LineCode.{kindNumbered}
 use Rattle.line_code.proofs.Kind.numbered.Statement.{statement}

@@ -1,3 +1,4 @@
+-- A line's byte is what its kind's own function promises; those of the end and of the reserved codes are computed from their parity.
 use Rattle.line_code.specs.LineCode.{cleanByte}
 use borrow.Author.Needs.{needs}
 use Rattle.line_code.proofs.Meaning.clean_byte.Statement.{statement}

@@ -1,3 +1,4 @@
+-- Each of the three things kept is brought up to date by its own function, all from the oldest nibble of the window.
 use Rattle.mark_answer.specs.Kept.{keptAt}
 use borrow.Author.Needs.{needs}
 use Rattle.mark_answer.proofs.Kept.commit.Statement.{statement}

@@ -1,3 +1,4 @@
+-- By the way: the place of a pixel, or the pixel at a place, as the two functions promise.
 use borrow.Author.Needs.{needs}
 use Rattle.pixel_order.proofs.Way.source.Statement.{statement}
 use Rattle.pixel_order.proofs.Way.source.Tie as tie

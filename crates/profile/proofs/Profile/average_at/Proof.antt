@@ -1,3 +1,4 @@
+-- EOF's rules as a list are pixels at even places as far as averages reach; these stay inside the image, so the sum cannot overflow.
 use mathlib.Core.Path.{sym}
 use native.Mathlib.Omega.{arith}
 use borrow.Author.Needs.{needs}

@@ -1,3 +1,4 @@
+-- At each turn the lengths are equal, and the whole body fits exactly where the bytes left fit the rules left; the bytes left fall.
 use mathlib.Core.Path.{_≡_, refl, sym, _∙_}
 use Prim.Native.Nat.{_≤_, _-_}
 use borrow.Author.Needs.{needs}

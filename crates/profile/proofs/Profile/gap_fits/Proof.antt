@@ -1,3 +1,4 @@
+-- By profile and then by kind: each pair asks for null bytes, for fillers or for pixels, as the paper says of that pair.
 use borrow.Author.Needs.{needs}
 use Rattle.profile.proofs.Profile.gap_fits.Statement.{statement}
 use Rattle.profile.proofs.Profile.gap_fits.Tie as tie

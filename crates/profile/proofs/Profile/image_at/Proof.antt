@@ -1,3 +1,4 @@
+-- A margin no wider than the space before the image can be subtracted, and a body is short, so no sum overflows.
 use native.Mathlib.Omega.{arith}
 use borrow.Author.Needs.{needs}
 use Rattle.profile.specs.LayoutLaws.{body-small, image-centred}

@@ -1,3 +1,4 @@
+-- 0 and 1 have a profile, and no other number: one test for each.
 use borrow.Author.Tests.{eq-eqb, ne-eqb}
 use Rattle.profile.specs.Profile.{profileNumbered}
 use Rattle.profile.proofs.Profile.numbered.Statement.{statement}

@@ -1,3 +1,4 @@
+-- BK's rules as a list are pixels within the image and its border, and the border is no wider than the space before the image.
 use mathlib.Core.Path.{sym}
 use native.Mathlib.Omega.{arith}
 use borrow.Author.Needs.{needs}

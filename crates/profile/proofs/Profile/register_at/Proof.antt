@@ -1,3 +1,4 @@
+-- SOF's rules as a list allow any byte at the even places of the image, which here has no margin.
 use mathlib.Core.Path.{sym}
 use borrow.Author.Needs.{needs}
 use Rattle.profile.proofs.PlaceLaws.{register-places}

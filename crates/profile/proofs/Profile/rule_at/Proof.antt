@@ -1,3 +1,4 @@
+-- By kind, as that kind's function promises: VL has the rules of BK, and the list of BL holds the filler at every place.
 use mathlib.Core.Path.{sym}
 use borrow.Author.Needs.{needs}
 use Rattle.profile.proofs.PlaceLaws.{filler-places}

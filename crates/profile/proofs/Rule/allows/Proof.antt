@@ -1,3 +1,4 @@
+-- Case by case; where any byte is allowed the paper's bound FF holds, since no byte is above it.
 use native.Mathlib.Omega.{arith}
 use borrow.Author.Tests.{le-leb}
 use borrow.Author.Needs.{needs}

@@ -1,3 +1,4 @@
+-- The tests in the order of the definition; the last one is asked only where a stray nibble is noted, and its sum is small.
 use borrow.Author.Tests.{le-leb, lt-leb}
 use native.Mathlib.Omega.{arith}
 use Rattle.reader.specs.Reader.{passes}

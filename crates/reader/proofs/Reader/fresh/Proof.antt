@@ -1,3 +1,4 @@
+-- Nothing is kept, as its call promises; the rest is written as the definition has it.
 use borrow.Author.Needs.{needs}
 use Rattle.reader.proofs.Reader.fresh.Statement.{statement}
 use Rattle.reader.proofs.Reader.fresh.Tie as tie

@@ -1,3 +1,4 @@
+-- Without a mark there is no line kind; an open mark's is the kind of its code's reading, as the two calls promise.
 use borrow.Author.Needs.{needs}
 use Rattle.stream.proofs.Mark.kind.Statement.{statement}
 use Rattle.stream.proofs.Mark.kind.Tie as tie

@@ -1,3 +1,4 @@
+-- One more frame is broken, and one more has opened where the judge is within one again: as the two counting calls promise.
 use borrow.Author.Needs.{needs}
 use Rattle.tally.proofs.Tally.broken_by.Statement.{statement}
 use Rattle.tally.proofs.Tally.broken_by.Tie as tie

@@ -1,3 +1,4 @@
+-- An unfinished line counts its mark, and the frame is cut; else the last answer is taken, and the frame cut only if that had no news.
 use Rattle.tally.specs.Tally.{closeOf}
 use borrow.Author.Needs.{needs}
 use Rattle.tally.proofs.Tally.close.Statement.{statement}

@@ -1,3 +1,4 @@
+-- One more frame is complete; its borders are those of the judge before the last line, for the one after it waits.
 use borrow.Author.Needs.{needs}
 use Rattle.tally.proofs.Tally.completed.Statement.{statement}
 use Rattle.tally.proofs.Tally.completed.Tie as tie

@@ -1,3 +1,4 @@
+-- By the judge: while it waits there is no news; within a frame that frame is cut off, and no count changes.
 use Rattle.tally.specs.Tally.{cutOf}
 use borrow.Author.Needs.{needs}
 use Rattle.tally.proofs.Tally.cut.Statement.{statement}

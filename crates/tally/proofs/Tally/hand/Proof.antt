@@ -1,3 +1,4 @@
+-- By the judge's verdict: waiting and going bring no news; a complete frame and a refusal are told by their own functions.
 use Rattle.tally.specs.Tally.{handed}
 use borrow.Author.Needs.{needs}
 use Rattle.tally.proofs.Tally.hand.Statement.{statement}

@@ -1,3 +1,4 @@
+-- A broken frame makes it not good; where none is broken the count of complete ones decides.
 use borrow.Author.Tests.{eq-eqb, ne-eqb}
 use Rattle.tally.specs.Tally.{isGood}
 use Rattle.tally.proofs.Tally.is_good.Statement.{statement}

@@ -1,3 +1,4 @@
+-- Only the count of marks changes, to one more; the judge and the other counts are copied.
 use borrow.Author.Needs.{needs}
 use Rattle.tally.proofs.Tally.marked.Statement.{statement}
 use Rattle.tally.proofs.Tally.marked.Tie as tie

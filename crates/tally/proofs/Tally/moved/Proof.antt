@@ -1,3 +1,4 @@
+-- The judge is replaced, and the frames that opened are counted by the judge before and after; the rest is copied.
 use borrow.Author.Needs.{needs}
 use Rattle.tally.proofs.Tally.moved.Statement.{statement}
 use Rattle.tally.proofs.Tally.moved.Tie as tie

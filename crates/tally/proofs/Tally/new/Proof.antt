@@ -1,3 +1,4 @@
+-- The judge is fresh, as its own function promises, and every count is 0.
 use borrow.Author.Needs.{needs}
 use Rattle.tally.proofs.Tally.new.Statement.{statement}
 use Rattle.tally.proofs.Tally.new.Tie as tie

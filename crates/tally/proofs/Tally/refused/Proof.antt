@@ -1,3 +1,4 @@
+-- 18 and 19 break the frame, as breaks_frame promises; any other refusal brings no news.
 use Rattle.tally.specs.Tally.{refusedBy}
 use borrow.Author.Needs.{needs}
 use Rattle.tally.proofs.Tally.refused.Statement.{statement}

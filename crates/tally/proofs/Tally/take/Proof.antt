@@ -1,3 +1,4 @@
+-- By the answer: all but Nothing count a mark; a line goes to the judge, and kind 0 for the answers 1 to 7.
 use Rattle.tally.specs.Tally.{takeOf}
 use borrow.Author.Needs.{needs}
 use Rattle.tally.proofs.Tally.take.Statement.{statement}

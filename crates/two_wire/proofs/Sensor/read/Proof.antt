@@ -1,3 +1,4 @@
+-- The tests come in the paper's order: held index, length, address; two bytes or more are an address, a second byte and data.
 use borrow.Author.Tests.{lt-leb, le-leb, eq-eqb, ne-eqb}
 use Rattle.two_wire.specs.Messages.{addressed, messageOn, refuseIf}
 use Rattle.two_wire.specs.MessageLaws.{too-short, three-parts, rest}

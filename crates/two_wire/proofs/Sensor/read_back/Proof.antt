@@ -1,3 +1,4 @@
+-- The second byte is compared with the index and flag held, as index_byte has them: 26 where it differs, else the data decides.
 use borrow.Author.Tests.{eq-eqb, ne-eqb}
 use Rattle.two_wire.specs.Messages.{readBack, refuseIf}
 use borrow.Author.Needs.{needs}

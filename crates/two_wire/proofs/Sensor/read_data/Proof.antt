@@ -1,3 +1,4 @@
+-- 27 where a byte differs, then 28 where data passes 127; else the registers stay, and the index left is that behind the data.
 use mathlib.Core.Path.{refl, sym, _∙_}
 use Rattle.two_wire.specs.Messages.{readData, refuseIf}
 use borrow.Author.Needs.{needs}

@@ -1,3 +1,4 @@
+-- 28 where data would pass 127; where it does not, all of it may be stored, and the index behind it may be taken.
 use mathlib.Core.Path.{refl, sym, _∙_}
 use Rattle.two_wire.specs.Messages.{writeData, refuseIf}
 use borrow.Author.Needs.{needs}

@@ -1,3 +1,4 @@
+-- The place stays within the line; a word ends after the space before it, so what is left of the line falls at each turn.
 use lib.ListN.{length}
 use Prim.Native.Nat.{_≤_, _-_}
 use borrow.Author.Needs.{needs}

@@ -1,3 +1,4 @@
+-- The place stays within the text, and the signs left fall at each turn.
 use borrow.Author.Needs.{needs}
 use Prim.Native.Nat.{_≤_, _-_}
 use lib.ListN.{length}

@@ -1,3 +1,4 @@
+-- The times done are at most those asked for, so the count cannot overflow; the times left fall at each turn.
 use borrow.Author.Needs.{needs}
 use Prim.Native.Nat.{_≤_, _-_}
 use Rattle.cases.proofs.bus.Bus.repeat.Statement.{statement}

@@ -1,3 +1,4 @@
+-- The place stays within the buffer, and the line buffer keeps its length; the nibbles left fall at each turn.
 use mathlib.Core.Path.{_≡_}
 use borrow.Author.Needs.{needs}
 use Prim.Native.Nat.{_≤_, _-_}

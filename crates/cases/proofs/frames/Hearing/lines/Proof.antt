@@ -1,3 +1,4 @@
+-- A number below the last can be one more; the numbers left fall at each turn.
 use Prim.Native.Nat.{_-_}
 use borrow.Author.Needs.{needs}
 use Rattle.cases.proofs.frames.Hearing.lines.Statement.{statement}

@@ -1,0 +1,39 @@
+-- The oldest nibble leaves the window first; then a mark is complete, and answered with the body as it then is, or the window slides.
+use Rattle.reader.specs.Reader.{takeHead, takeOutcome}
+use borrow.Author.Needs.{needs}
+use Rattle.reader.proofs.taken.Statement.{statement}
+use Rattle.reader.proofs.taken.Tie as tie
+
+returns : tie.Need-returns
+unfolding takeHead takeOutcome
+returns c =
+    let s = c .before .before .before .before .before .before .before .slide .ensures in
+    let m = c .before .before .before .before .before .before .is-mark .ensures in
+    let t = c .before .before .before .before .before .if1 .taken in
+    let e = c .before .before .complete .ensures in
+    let b = c .before .before .before .before .before .before .before .before .before .before .leave-body .ensures in
+    (simp (← s, ← m, t, e .0, b), simp (← s, ← m, t, e .1, b), b, simp (← s, ← m, t, e .2, b))
+
+returns-2 : tie.Need-returns-2
+unfolding takeHead takeOutcome
+returns-2 c =
+    let s = c .before .before .before .slide .ensures in
+    let m = c .before .before .is-mark .ensures in
+    let t = c .before .if1 .left in
+    (simp (← s, ← m, t, c .shift .ensures), simp (← s, ← m, t), c .before .before .before .before .before .before .leave-body .ensures, simp (← s, ← m, t))
+
+pub taken-spec : {M : Type 1} → statement M
+taken-spec =
+    tie.close
+    (tie.spec
+    (λ c κs. search needs)
+    (λ c κs. search needs)
+    (λ c κs. search needs)
+    (λ c. search needs)
+    (λ c κs. search needs)
+    (λ c. search needs)
+    (λ c. search needs)
+    returns
+    (λ c κs. search needs)
+    (λ c. search needs)
+    returns-2)

@@ -1,0 +1,337 @@
+-- Two nibbles taken at once, where no mark can end in them, are two taken one by one: and the two that leave the window are one byte of
+-- the text, where the count is even.
+use mathlib.Core.Path.{_≡_, refl, sym, ap, ap₂, _∙_, subst}
+use mathlib.Core.Bool.{Bool, true, false, _||_, not, cond, true≢false}
+use mathlib.Core.List.{List}
+use mathlib.Core.Logic.{_⊎_, inl, inr, ⊎-elim}
+use Prim.Native.Nat.{ℕ, _+_, _-_, _*_, _/_, _%_, _≤_, _<_}
+use native.Mathlib.Nat.{lt-of-not-le}
+use native.Mathlib.Decide.{decLe}
+use native.Mathlib.Omega.{arith}
+use borrow.Author.Tests.{lt-ltb, le-ltb, le-leb, lt-leb, leb-true, eq-eqb, ne-eqb, not-true}
+use lib.Dec.{eqb, leb, ltb}
+use lib.ListN.{length, getD, set, drop}
+use lib.Seq.{set-set, getD-set-same}
+use Rattle.bits.specs.Every.{and-left, and-right}
+use Rattle.profile.specs.declared.Profile.{Profile}
+use Rattle.profile.specs.declared.Profile.the-variants.{VV5404, VV5300}
+use Rattle.profile.specs.Profile.{longest}
+use Rattle.stream.specs.declared.Mark.{Mark}
+use Rattle.stream.specs.Answers.{nothing}
+use Rattle.mark_answer.specs.declared.Kept.{Kept}
+use Rattle.mark_answer.specs.Kept.{topPlace, bodyPlace, gapStart, byteAt, strayAt, keptAt, bodyAt}
+use Rattle.reader.specs.declared.Head.{Head}
+use Rattle.reader.specs.declared.Reader.{Reader}
+use Rattle.reader.specs.Reader.{Took, groupNumber, isMark, slide, countStop, bump, leaveKept, leaveBody, shifted, takeHead, takeOutcome, taking}
+use Rattle.run.specs.Run.{isAnswer, onward}
+use Rattle.run.specs.RunLaws.{onward-on}
+use Rattle.reader.specs.Parts.{readerOf}
+use Rattle.run.specs.Parts.{isNear, isPair, bytePlace, slideByte, strayAfter, strayKept, byteKept, strayed, Leads}
+use Rattle.reader.proofs.Window.{gap-start-small}
+
+-- What a pair is.
+
+pub record Pair (w : ℕ) (s : List ℕ) (i end : ℕ) : Type 0 where
+  pub fits : i + 2 ≤ end
+  pub far : isNear w ≡ false
+  pub high-small : getD s i 0 < 16
+  pub low-small : getD s (i + 1) 0 < 16
+
+-- from what the test answers
+pub is-pair : {w : ℕ} {s : List ℕ} {i end : ℕ} {t : Bool} → i ≤ end → t ≡ isPair w s i end → t ≡ true → Pair w s i end
+unfolding isPair
+is-pair {w} {s} {i} {end} l e t =
+    let h = sym e ∙ t in
+    let f = and-right (leb 2 (end - i)) _ h in
+    let g = and-right (not (isNear w)) _ f in
+    let room = leb-true 2 (end - i) (and-left (leb 2 (end - i)) _ h) in
+    let high = leb-true (getD s i 0) 15 (and-left (leb (getD s i 0) 15) _ g) in
+    let low = leb-true (getD s (i + 1) 0) 15 (and-right (leb (getD s i 0) 15) _ g) in
+    record { fits = omega arith; far = not-true (isNear w) (and-left (not (isNear w)) _ f); high-small = omega arith; low-small = omega arith }
+
+-- No mark ends in it.
+
+-- a window that is near
+near-is : (w : ℕ) → w / 4096 % 4096 ≡ 4095 → w / 16 % 16 ≡ 0 → isNear w ≡ true
+unfolding isNear
+near-is w e f = simp (eq-eqb _ _ e, eq-eqb _ _ f)
+
+not-both : (b : Bool) → b ≡ false → b ≡ true → ⊥
+not-both b e f = true≢false (sym f ∙ e)
+
+far-one : (w x : ℕ) → x < 16 → isNear w ≡ false → isMark (slide w x) ≡ false
+unfolding isMark slide
+far-one w x l f = ne-eqb _ _ (λ (e : (w % topPlace * 16 + x) / 256 ≡ groupNumber). not-both _ f (near-is w (omega arith) (omega arith)))
+
+pub slide-two : (w x y : ℕ) → x < 16 → y < 16 → slide (slide w x) y ≡ slideByte w x y
+unfolding slide
+slide-two w x y l m = omega arith
+
+far-two : (w x y : ℕ) → x < 16 → y < 16 → isNear w ≡ false → isMark (slide (slide w x) y) ≡ false
+unfolding isMark
+far-two w x y l m f =
+    ap isMark (slide-two w x y l m)
+    ∙ ne-eqb _ _ (λ (e : (w % bytePlace * 256 + 16 * x + y) / 256 ≡ groupNumber). not-both _ f (near-is w (omega arith) (omega arith)))
+
+-- One nibble that completes no mark, and two.
+
+abbrev quietly : Reader → ℕ → Took
+quietly r n = record { reader = record { head = shifted (r .head) n; body = leaveBody (r .head) (r .body) }; outcome = nothing }
+
+quiet : (r : Reader) (n : ℕ) → isMark (slide (r .head .window) n) ≡ false → taking r n ≡ quietly r n
+unfolding takeHead takeOutcome
+quiet r n e = simp e
+
+plus-two : (i : ℕ) → i + 1 + 1 ≡ i + 2
+plus-two i = omega arith
+
+one-on : (r : Reader) (s : List ℕ) (i : ℕ) → i < length s → getD s i 0 < 16 → isMark (slide (r .head .window) (getD s i 0)) ≡ false
+    → onward r (drop i s) i ≡ onward (quietly r (getD s i 0) .reader) (drop (i + 1) s) (i + 1)
+one-on r s i l h e =
+    let q = quiet r (getD s i 0) e in
+    onward-on r s i l h (ap (λ t. isAnswer (t .outcome)) q) ∙ ap (λ t. onward (t .reader) (drop (i + 1) s) (i + 1)) q
+
+abbrev pub high : List ℕ → ℕ → ℕ
+high s i = getD s i 0
+
+abbrev pub low : List ℕ → ℕ → ℕ
+low s i = getD s (i + 1) 0
+
+module _ (r : Reader) (s : List ℕ) (i end : ℕ) (l : end ≤ length s) (q : Pair (r .head .window) s i end) where
+  abbrev h₁ : Head
+  h₁ = shifted (r .head) (high s i)
+
+  pub two-on : onward r (drop i s) i
+      ≡ onward (readerOf (shifted h₁ (low s i)) (leaveBody h₁ (leaveBody (r .head) (r .body)))) (drop (i + 2) s) (i + 2)
+  two-on =
+      let f = q .fits in
+      let w = r .head .window in
+      one-on r s i (omega arith) (q .high-small) (far-one w (high s i) (q .high-small) (q .far))
+      ∙ one-on (readerOf h₁ (leaveBody (r .head) (r .body))) s (i + 1) (omega arith) (q .low-small) (far-two w (high s i) (low s i) (q .high-small) (q .low-small) (q .far))
+      ∙ ap (λ (k : ℕ). onward (readerOf (shifted h₁ (low s i)) (leaveBody h₁ (leaveBody (r .head) (r .body)))) (drop k s) k) (plus-two i)
+
+-- What leaves the window.
+
+from-dec : {l k : ℕ} → Dec (k ≤ l) → (l < k) ⊎ (k ≤ l)
+from-dec (yes a) = inr a
+from-dec (no h) = inl (lt-of-not-le h)
+
+lt-or-ge : (l k : ℕ) → (l < k) ⊎ (k ≤ l)
+lt-or-ge l k = from-dec (decLe k l)
+
+-- the oldest nibble once one more has come
+next-top : (w x : ℕ) → x < 16 → slide w x / topPlace ≡ w / bytePlace % 16
+unfolding slide
+next-top w x l = omega arith
+
+-- a nibble that is stray, and then another: a byte other than FF
+or-true : (b : Bool) → (b || true) ≡ true
+or-true true = refl
+or-true false = refl
+
+or-false : (b : Bool) → (b || false) ≡ b
+or-false true = refl
+or-false false = refl
+
+stray-two : (w : ℕ) (s : Bool) → w < 4294967296
+    → ((s || not (eqb (w / topPlace) 15)) || not (eqb (w / bytePlace % 16) 15)) ≡ strayAfter s (w / bytePlace)
+unfolding strayAfter
+stray-two w s l =
+    ⊎-elim
+    (λ (d : w / bytePlace < 255). ⊎-elim
+    (λ (a : w / topPlace < 15). simp (lt-ltb _ _ d, ne-eqb (w / topPlace) 15 (λ (e : w / topPlace ≡ 15). omega arith), or-true))
+    (λ (a : 15 ≤ w / topPlace). simp (lt-ltb _ _ d, ne-eqb (w / bytePlace % 16) 15 (λ (e : w / bytePlace % 16 ≡ 15). omega arith), or-true))
+    (lt-or-ge (w / topPlace) 15))
+    (λ (d : 255 ≤ w / bytePlace). simp (le-ltb _ _ d, eq-eqb (w / topPlace) 15 (omega arith), eq-eqb (w / bytePlace % 16) 15 (omega arith), or-false))
+    (lt-or-ge (w / bytePlace) 255)
+
+-- the count
+
+bump-one : (c : ℕ) → c < countStop → bump c ≡ c + 1
+unfolding bump
+bump-one c l = simp (lt-ltb c countStop l)
+
+pub bump-more : (c : ℕ) → c ≤ bump c
+unfolding bump
+bump-more c = go (ltb c countStop)
+  where
+    go : (b : Bool) → c ≤ cond b (c + 1) c
+    go true = omega arith
+    go false = omega arith
+
+-- what is kept
+
+abbrev pub head : Profile → Mark → ℕ → ℕ → Kept → Head
+head p m c w t = record { profile = p; at = m; count = c; window = w; kept = t }
+
+-- past the two bytes after the code only a stray nibble is noted
+kept-late : (p : Profile) (k v : ℕ) (t : Kept) → bodyPlace ≤ k → keptAt p k v t ≡ strayed t (t .stray || not (eqb v 15))
+unfolding keptAt byteAt strayAt
+kept-late p k v t l =
+    let g = gap-start-small p in
+    simp (ne-eqb k 2 (λ (e : k ≡ 2). omega arith), ne-eqb k 3 (λ (e : k ≡ 3). omega arith), ne-eqb k 4 (λ (e : k ≡ 4). omega arith), ne-eqb k 5 (λ (e : k ≡ 5). omega arith), le-leb (gapStart p) k (omega arith))
+
+module _ (p : Profile) (m : Mark) (w : ℕ) (t : Kept) (x : ℕ) (small : w < 4294967296) (hx : x < 16) where
+  u : ℕ
+  u = w / topPlace
+
+  v : ℕ
+  v = w / bytePlace % 16
+
+  kept-full : (c : ℕ) → 8 ≤ c → leaveKept (shifted (head p m c w t) x) ≡ keptAt p (bump c - 8) v (keptAt p (c - 8) u t)
+  unfolding leaveKept u v
+  kept-full c l = let b = bump-more c in simp (le-leb 8 c l, le-leb 8 (bump c) (omega arith), next-top w x hx)
+
+  pub kept-after : (c : ℕ) → 14 ≤ c → leaveKept (shifted (head p m c w t) x) ≡ strayed t (strayAfter (t .stray) (w / bytePlace))
+  unfolding u v
+  kept-after c l =
+      let b = bump-more c in
+      kept-full c (omega arith)
+      ∙ ap (λ k. keptAt p (bump c - 8) v k) (kept-late p (c - 8) u t (omega arith))
+      ∙ kept-late p (bump c - 8) v (strayed t (t .stray || not (eqb u 15))) (omega arith)
+      ∙ ap (strayed t) (stray-two w (t .stray) small)
+
+  at-code : (q : Profile) → keptAt q 1 v (keptAt q 0 u t) ≡ t
+  unfolding keptAt byteAt strayAt
+  at-code VV5404 = ap (strayed t) (simp or-false)
+  at-code VV5300 = ap (strayed t) (simp or-false)
+
+  whole : 16 * u / 16 * 16 + v ≡ w / bytePlace
+  unfolding u v
+  whole = omega arith
+
+  stray-by : (q : Profile) (k : ℕ) → 2 ≤ k → k < 5 → strayAt q (k + 1) v (strayAt q k u (t .stray)) ≡ strayKept q (t .stray) (w / bytePlace)
+  unfolding strayAt u v
+  stray-by VV5404 k l n = simp (le-leb 2 k l, le-leb 2 (k + 1) (omega arith)) (stray-two w (t .stray) small)
+  stray-by VV5300 k l n = simp (lt-leb 6 k (omega arith), lt-leb 6 (k + 1) (omega arith), or-false)
+
+  at-first : keptAt p 3 v (keptAt p 2 u t) ≡ byteKept p 10 (w / bytePlace) t
+  unfolding keptAt byteAt byteKept
+  at-first = ap₂ (λ f s. record { first = f; second = t .second; stray = s }) whole (stray-by p 2 (omega arith) (omega arith))
+
+  at-second : keptAt p 5 v (keptAt p 4 u t) ≡ byteKept p 12 (w / bytePlace) t
+  unfolding keptAt byteAt byteKept
+  at-second = ap₂ (λ f s. record { first = t .first; second = f; stray = s }) whole (stray-by p 4 (omega arith) (omega arith))
+
+  early : (c : ℕ) → c < 7 → leaveKept (shifted (head p m c w t) x) ≡ byteKept p c (w / bytePlace) t
+  unfolding leaveKept byteKept
+  early c a = simp (lt-leb 8 c (omega arith), bump-one c (omega arith), lt-leb 8 (c + 1) (omega arith), lt-ltb c 10 (omega arith))
+
+  at-eight : keptAt p 1 v (keptAt p 0 u t) ≡ byteKept p 8 (w / bytePlace) t
+  unfolding byteKept
+  at-eight = at-code p
+
+  at-count : (c n : ℕ) → n ≡ c → 8 ≤ n → n < countStop → keptAt p (n + 1 - 8) v (keptAt p (n - 8) u t) ≡ byteKept p n (w / bytePlace) t
+      → leaveKept (shifted (head p m c w t) x) ≡ byteKept p c (w / bytePlace) t
+  at-count c n e a b q =
+      subst (λ (k : ℕ). leaveKept (shifted (head p m k w t) x) ≡ byteKept p k (w / bytePlace) t) e
+      (kept-full n a ∙ ap (λ (k : ℕ). keptAt p (k - 8) v (keptAt p (n - 8) u t)) (bump-one n b) ∙ q)
+
+  pub kept-before : (c : ℕ) → c < 14 → c % 2 ≡ 0 → leaveKept (shifted (head p m c w t) x) ≡ byteKept p c (w / bytePlace) t
+  kept-before c l even =
+      ⊎-elim (λ (a : c < 8). early c (omega arith))
+      (λ (a : 8 ≤ c). ⊎-elim (λ (d : c < 10). at-count c 8 (omega arith) (omega arith) (omega arith) at-eight)
+      (λ (d : 10 ≤ c). ⊎-elim (λ (f : c < 12). at-count c 10 (omega arith) (omega arith) (omega arith) at-first)
+      (λ (f : 12 ≤ c). at-count c 12 (omega arith) (omega arith) (omega arith) at-second)
+      (lt-or-ge c 12))
+      (lt-or-ge c 10))
+      (lt-or-ge c 8)
+
+-- the body
+
+-- before the body's first byte nothing is put there, and past its last neither
+early-body : (h : Head) (B : List ℕ) → h .count < 14 → leaveBody h B ≡ B
+unfolding leaveBody bodyAt
+early-body h B l = go (leb 8 (h .count))
+  where
+    go : (b : Bool) → cond b (bodyAt (h .count - 8) (h .window / topPlace) B) B ≡ B
+    go true = simp (lt-leb bodyPlace (h .count - 8) (omega arith))
+    go false = refl
+
+late-body : (h : Head) (B : List ℕ) → 726 ≤ h .count → leaveBody h B ≡ B
+unfolding leaveBody bodyAt
+late-body h B l = simp (le-leb 8 (h .count) (omega arith), le-leb bodyPlace (h .count - 8) (omega arith), le-ltb ((h .count - 8 - bodyPlace) / 2) longest (omega arith))
+
+-- within it two nibbles are a byte
+body-high : (j u : ℕ) (B : List ℕ) → j < longest → bodyAt (6 + 2 * j) u B ≡ set B j (16 * u)
+unfolding bodyAt
+body-high j u B l =
+    let e : (6 + 2 * j - bodyPlace) / 2 ≡ j = omega arith in
+    let f : (6 + 2 * j) % 2 ≡ 0 = omega arith in
+    simp (le-leb bodyPlace (6 + 2 * j) (omega arith), e, lt-ltb j longest l, f)
+
+body-low : (j v : ℕ) (B : List ℕ) → j < longest → bodyAt (7 + 2 * j) v B ≡ set B j (getD B j 0 / 16 * 16 + v)
+unfolding bodyAt
+body-low j v B l =
+    let e : (7 + 2 * j - bodyPlace) / 2 ≡ j = omega arith in
+    let f : (7 + 2 * j) % 2 ≡ 1 = omega arith in
+    simp (le-leb bodyPlace (7 + 2 * j) (omega arith), e, lt-ltb j longest l, f)
+
+body-two : (j u v : ℕ) (B : List ℕ) → j < longest → longest ≤ length B → bodyAt (7 + 2 * j) v (bodyAt (6 + 2 * j) u B) ≡ set B j (16 * u + v)
+body-two j u v B l k =
+    ap (bodyAt (7 + 2 * j) v) (body-high j u B l)
+    ∙ body-low j v (set B j (16 * u)) l
+    ∙ ap (λ (n : ℕ). set (set B j (16 * u)) j (n / 16 * 16 + v)) (getD-set-same B j (16 * u) 0 (omega arith))
+    ∙ set-set B j (16 * u) (16 * u / 16 * 16 + v)
+    ∙ ap (set B j) (let z : 16 * u / 16 * 16 + v ≡ 16 * u + v = omega arith in z)
+
+-- Where a pair leads.
+
+abbrev state : Profile → Mark → Kept → List ℕ → ℕ → ℕ → Reader
+state p m t B c w = readerOf (head p m c w t) B
+
+module _ (p : Profile) (m : Mark) (c w : ℕ) (t : Kept) (B s : List ℕ) (i end : ℕ) (small : w < 4294967296) (l : end ≤ length s) (q : Pair w s i end) where
+  abbrev h₀ : Head
+  h₀ = head p m c w t
+
+  -- by what the count, what is kept and the body are then
+  leads-to : (c′ : ℕ) (t′ : Kept) (B′ : List ℕ) → bump (bump c) ≡ c′ → leaveKept (shifted h₀ (high s i)) ≡ t′ → leaveBody (shifted h₀ (high s i)) (leaveBody h₀ B) ≡ B′
+      → Leads s h₀ B i (head p m c′ (slideByte w (high s i) (low s i)) t′) B′ (i + 2)
+  unfolding Leads
+  leads-to c′ t′ B′ e f g =
+      two-on (state p m t B c w) s i end l q
+      ∙ ap₂ (λ n k. onward (readerOf (head p m n (slide (slide w (high s i)) (low s i)) k) (leaveBody (shifted h₀ (high s i)) (leaveBody h₀ B))) (drop (i + 2) s) (i + 2)) e f
+      ∙ ap₂ (λ n b. onward (readerOf (head p m c′ n t′) b) (drop (i + 2) s) (i + 2)) (slide-two w (high s i) (low s i) (q .high-small) (q .low-small)) g
+
+  pub leads-before : c < 14 → c % 2 ≡ 0 → Leads s h₀ B i (head p m (c + 2) (slideByte w (high s i) (low s i)) (byteKept p c (w / bytePlace) t)) B (i + 2)
+  leads-before a even =
+      let b = bump-one c (omega arith) in
+      let d = bump-one (c + 1) (omega arith) in
+      leads-to (c + 2) (byteKept p c (w / bytePlace) t) B
+      (ap bump b ∙ d ∙ plus-two c) (kept-before p m w t (high s i) small (q .high-small) c a even)
+      (early-body (shifted h₀ (high s i)) (leaveBody h₀ B) (omega (arith, b)) ∙ early-body h₀ B a)
+
+  stored-two : (j : ℕ) → c ≡ 14 + 2 * j → j < longest → longest ≤ length B → bump c ≡ c + 1
+      → leaveBody (shifted h₀ (high s i)) (leaveBody h₀ B) ≡ set B j (w / bytePlace)
+  unfolding leaveBody
+  stored-two j e a k b =
+      simp (le-leb 8 c (omega arith), b, le-leb 8 (c + 1) (omega arith), next-top w (high s i) (q .high-small))
+      (ap₂ (λ (n k : ℕ). bodyAt n (w / bytePlace % 16) (bodyAt k (w / topPlace) B)) (let z : c + 1 - 8 ≡ 7 + 2 * j = omega arith in z) (let z : c - 8 ≡ 6 + 2 * j = omega arith in z)
+      ∙ body-two j (w / topPlace) (w / bytePlace % 16) B a k
+      ∙ ap (set B j) (let z : 16 * (w / topPlace) + w / bytePlace % 16 ≡ w / bytePlace = omega arith in z))
+
+  pub leads-in : (j : ℕ) → c ≡ 14 + 2 * j → j < longest → longest ≤ length B
+      → Leads s h₀ B i (head p m (14 + 2 * (j + 1)) (slideByte w (high s i) (low s i)) (strayed t (strayAfter (t .stray) (w / bytePlace)))) (set B j (w / bytePlace)) (i + 2)
+  leads-in j e a k =
+      let b = bump-one c (omega arith) in
+      let d = bump-one (c + 1) (omega arith) in
+      leads-to (14 + 2 * (j + 1)) (strayed t (strayAfter (t .stray) (w / bytePlace))) (set B j (w / bytePlace))
+      (ap bump b ∙ d ∙ (let z : c + 1 + 1 ≡ 14 + 2 * (j + 1) = omega arith in z)) (kept-after p m w t (high s i) small (q .high-small) c (omega arith)) (stored-two j e a k b)
+
+  pub leads-past : 726 ≤ c
+      → Leads s h₀ B i (head p m (bump (bump c)) (slideByte w (high s i) (low s i)) (strayed t (strayAfter (t .stray) (w / bytePlace)))) B (i + 2)
+  leads-past a =
+      let b = bump-more c in
+      leads-to (bump (bump c)) (strayed t (strayAfter (t .stray) (w / bytePlace))) B
+      refl (kept-after p m w t (high s i) small (q .high-small) c (omega arith))
+      (late-body (shifted h₀ (high s i)) (leaveBody h₀ B) (omega arith) ∙ late-body h₀ B a)
+
+-- from one place to the next, and on
+pub leads-here : (s : List ℕ) (h : Head) (B : List ℕ) (i : ℕ) → Leads s h B i h B i
+unfolding Leads
+leads-here s h B i = refl
+
+pub leads-on : (s : List ℕ) (h : Head) (B : List ℕ) (i : ℕ) (h′ : Head) (B′ : List ℕ) (i′ : ℕ) (h″ : Head) (B″ : List ℕ) (i″ : ℕ)
+    → Leads s h B i h′ B′ i′ → Leads s h′ B′ i′ h″ B″ i″ → Leads s h B i h″ B″ i″
+unfolding Leads
+leads-on s h B i h′ B′ i′ h″ B″ i″ e f = e ∙ f

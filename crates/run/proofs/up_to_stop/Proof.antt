@@ -1,0 +1,117 @@
+-- At each turn the run from here on is the run from the start and the buffer is as lent; a turn takes one nibble and the pairs after it.
+use mathlib.Core.Path.{_≡_, refl, sym, ap, _∙_}
+use Prim.Native.Nat.{_-_, _≤_}
+use native.Mathlib.Omega.{arith}
+use lib.ListN.{length, getD}
+use denote.Ref.{now}
+use borrow.Author.Needs.{needs}
+use Rattle.profile.specs.Profile.{longest, bodyLength}
+use Rattle.stream.specs.Answers.{bufferAfter}
+use Rattle.reader.specs.declared.Head.{Head}
+use Rattle.reader.specs.Reader.{takeOutcome}
+use Rattle.run.specs.Parts.{Leads}
+use Rattle.reader.proofs.Told.{take-profile}
+use Rattle.run.proofs.Pairs.{leads-here, leads-on}
+use Rattle.run.proofs.Running.{answered, nothing-kept, leads-one, stops-end, stops-above, stops-answered, ends, ends-as}
+use Rattle.run.proofs.up_to_stop.Statement.{statement}
+use Rattle.run.proofs.up_to_stop.Tie as tie
+
+abbrev Inv-loop : tie.InvT-loop
+Inv-loop body₀ nibbles buffer₀ h₀ i₀ body buffer h i =
+    (Leads nibbles h₀ body₀ i₀ h body i) × (i ≤ length nibbles) × (buffer ≡ buffer₀) × (length body ≡ longest) × (h .profile ≡ h₀ .profile)
+
+abbrev μ-loop : tie.MeasureT-loop
+μ-loop body₀ nibbles buffer₀ h₀ i₀ body buffer h i = length nibbles - i
+
+loop-holds : tie.Need-loop-holds Inv-loop μ-loop
+loop-holds c = (leads-here _ _ _ _, search needs, refl, search needs, refl)
+
+same-length-2 : tie.Need-same-length-2 Inv-loop μ-loop
+same-length-2 c = ap length (c .before .before .before .before .loop .inv .2)
+
+returns : tie.Need-returns Inv-loop μ-loop
+returns c =
+    let a = c .before .before .before .before .before .before .before .before .before .before .before .before .before .args in
+    let l = c .before .before .before .before .loop in
+    let e = c .refuse .ensures in
+    let s = now (a .nibbles) in
+    let led = leads-on s _ _ _ _ _ _ _ _ _ (c .before .before .before .before .before .before .before .before .ahead .ensures .0) (l .inv .0) in
+    ends-as (ends (now (a .buffer)) (stops-above s _ _ _ _ _ led (c .before .before .before .loop-test .taken) (c .before .if1 .taken)) (e .1) (l .inv .2)) (e .0) refl (e .2)
+
+take-requires : tie.Need-take-requires Inv-loop μ-loop
+take-requires c κs =
+    let l = c .before .before .before .before .before .loop in
+    let p = ap bodyLength (l .inv .4 ∙ c .before .before .before .before .before .before .before .before .before .ahead .ensures .1) in
+    (omega arith, omega (arith, p, ap length (l .inv .2)), l .inv .3)
+
+add-i : tie.Need-add-i Inv-loop μ-loop
+add-i c = omega (arith, c .before .before .before .before .before .before .before .before .before .before .loop-test .taken, c .before .before .before .before .before .before .before .before .before .before .before .before .before .before .before .before .before .before .before .before .good)
+
+same-length-4 : tie.Need-same-length-4 Inv-loop μ-loop
+same-length-4 c = c .before .before .before .before .before .before .before .take .kept .1 .1 .1 .0 ∙ ap length (c .before .before .before .before .before .before .before .before .before .before .before .before .before .loop .inv .2)
+
+returns-2 : tie.Need-returns-2 Inv-loop μ-loop
+returns-2 c =
+    let a = c .before .before .before .before .before .before .before .before .before .before .before .before .before .before .before .before .before .before .before .before .before .before .args in
+    let l = c .before .before .before .before .before .before .before .before .before .before .before .before .before .loop in
+    let e = c .before .before .before .before .before .before .before .take .ensures in
+    let s = now (a .nibbles) in
+    let led = leads-on s _ _ _ _ _ _ _ _ _ (c .before .before .before .before .before .before .before .before .before .before .before .before .before .before .before .before .before .ahead .ensures .0) (l .inv .0) in
+    let told = sym (answered (takeOutcome (l .h) (l .body) (getD s (l .i) 0)) (c .before .is-answer .ensures) (e .1)) ∙ c .if2 .taken in
+    ends-as (ends (now (a .buffer)) (stops-answered s _ _ _ _ _ led (c .before .before .before .before .before .before .before .before .before .before .before .before .loop-test .taken) (omega arith) told) (e .1) (e .3 ∙ ap (bufferAfter (takeOutcome (l .h) (l .body) (getD s (l .i) 0))) (l .inv .2))) (e .0) (e .2) refl
+
+loop-less : tie.Need-loop-less Inv-loop μ-loop
+loop-less c = omega (arith, c .before .before .before .before .before .before .before .before .before .before .before .before .before .before .before .before .before .loop-test .taken, c .before .before .before .ahead2 .ensures .2, c .before .before .before .ahead2 .ensures .3)
+
+loop-again : tie.Need-loop-again Inv-loop μ-loop
+loop-again c =
+    let a = c .before .before .before .before .before .before .before .before .before .before .before .before .before .before .before .before .before .before .before .before .before .before .before .before .before .before .before .args in
+    let l = c .before .before .before .before .before .before .before .before .before .before .before .before .before .before .before .before .before .before .loop in
+    let e = c .before .before .before .before .before .before .before .before .before .before .before .before .take .ensures in
+    let f = c .before .before .before .ahead2 .ensures in
+    let s = now (a .nibbles) in
+    let quiet = sym (answered (takeOutcome (l .h) (l .body) (getD s (l .i) 0)) (c .before .before .before .before .before .before .is-answer .ensures) (e .1)) ∙ c .before .before .before .before .before .if2 .left in (
+      leads-on s _ _ _ _ _ _ _ _ _ (l .inv .0)
+          (leads-on s _ _ _ _ _ _ _ _ _ (leads-one s (l .h) (l .body) (l .i) (c .before .before .before .before .before .before .before .before .before .before .before .before .before .before .before .before .before .loop-test .taken) (omega arith) (e .0) (e .2) quiet) (f .0)),
+      f .3,
+      e .3 ∙ nothing-kept (takeOutcome (l .h) (l .body) (getD s (l .i) 0)) (l .buffer) quiet ∙ l .inv .2,
+      search needs,
+      f .1 ∙ ap (λ (h : Head). h .profile) (e .0) ∙ take-profile (l .h) _ _ ∙ l .inv .4,
+    )
+
+same-length-6 : tie.Need-same-length-6 Inv-loop μ-loop
+same-length-6 c = ap length (c .before .loop .inv .2)
+
+returns-3 : tie.Need-returns-3 Inv-loop μ-loop
+returns-3 c =
+    let a = c .before .before .before .before .before .before .before .before .before .before .args in
+    let l = c .before .loop in
+    let s = now (a .nibbles) in
+    let led = leads-on s _ _ _ _ _ _ _ _ _ (c .before .before .before .before .before .ahead .ensures .0) (l .inv .0) in
+    ends (now (a .buffer)) (stops-end s _ _ _ _ _ led (c .loop-test .left)) refl (l .inv .2)
+
+pub up-to-stop-spec : {M : Type 1} → statement M
+up-to-stop-spec =
+    tie.close
+    (tie.spec
+    Inv-loop
+    μ-loop
+    (λ c κs. search needs)
+    loop-holds
+    (λ c. search needs)
+    (λ c κs. search needs)
+    (λ c. search needs)
+    same-length-2
+    returns
+    take-requires
+    add-i
+    (λ c κs. search needs)
+    (λ c. search needs)
+    same-length-4
+    returns-2
+    (λ c κs. search needs)
+    loop-less
+    loop-again
+    (λ c. search needs)
+    same-length-6
+    returns-3)

@@ -1,0 +1,4 @@
+pub mod Run
+pub mod RunLaws
+pub mod Gives
+pub mod Parts

@@ -1,0 +1,378 @@
+// A run of nibbles in one call (paper 02, A5).
+//
+// In: a reader, a run of nibbles and a lent line buffer. Out: the reader after the nibbles up to the first answer, that answer, and how many
+// nibbles were taken. Refused, before anything is taken and for an empty run too: 11 a reader that fails its own test, 12 a buffer shorter than
+// the body. An input above 15 stops the run just before that place with 10: what was taken stays taken.
+//
+// A mark that ends at one of the next two nibbles shows in the window before they come: F at its nibbles 5, 4 and 3, counted from the newest,
+// 0, and 0 at nibble 1. Where it does not, two nibbles are taken in one turn, and where the count of the text's nibbles is even, the two that
+// leave the window are one byte of the text. Every other nibble is taken as feeding takes it. Cost: about 1.3 ns a nibble in a body, where feeding
+// takes 29.
+ghost use mathlib.Core.Path.{_≡_};
+ghost use mathlib.Core.List.{List};
+ghost use Prim.Native.Nat.{ℕ, _≤_, _<_, _+_, _/_, _%_};
+ghost use lib.ListN.{length};
+ghost use Rattle.profile.specs.Profile.{bodyLength, longest};
+ghost use Rattle.stream.specs.Answers.{answerFor, bufferAfter, refused, isLine};
+ghost use Rattle.reader.specs.Reader.{bump, leaveBody, takeHead, takeOutcome};
+ghost use Rattle.run.specs.Run.{runOf, lentRunOf};
+ghost use Rattle.run.specs.Gives.{RunGives, LentRunGives};
+ghost use Rattle.run.specs.Parts.{ranFrom, Ends, isTold, Leads, isNear, isPair, bytePlace, slideByte, strayAfter, strayKept, byteKept};
+use mark_answer::Kept;
+use profile::Profile;
+use reader::Head;
+use reader::Reader;
+use reader::Stepped;
+use stream::Answer;
+
+// A reader after a run of nibbles, the run's answer, and how many nibbles it took.
+pub struct RunFed {
+    pub reader: Reader,
+    pub answer: Answer,
+    pub taken: usize,
+}
+
+// The same of a reader whose body is lent.
+pub struct RunStepped {
+    pub head: Head,
+    pub answer: Answer,
+    pub taken: usize,
+}
+
+// Takes a run of nibbles up to the first answer.
+pub fn run(reader: Reader, nibbles: &[u8], buffer: &mut [u8]) -> RunFed
+    ensures { λ r. ⌜ RunGives (reader .head .profile) (runOf reader (now (nibbles .entry)) (length (now (buffer .entry)))) r (now (buffer .entry)) (now (buffer .exit)) ⌝ }
+{
+    let h = reader.head;
+    let mut body = reader.body;
+    let t = run_lent(h, &mut body, nibbles, buffer);
+    let head = t.head;
+    let answer = t.answer;
+    let taken = t.taken;
+    let reader = Reader { head, body };
+    RunFed {
+        reader,
+        answer,
+        taken,
+    }
+}
+
+// The same of a reader whose body is lent, so that calls in a row copy no body. Refused 11 also where the lent body is not as long as the
+// longest.
+pub fn run_lent(h: Head, body: &mut [u8], nibbles: &[u8], buffer: &mut [u8]) -> RunStepped
+    ensures { λ r. ⌜ LentRunGives (h .profile) (lentRunOf h (now (body .entry)) (now (nibbles .entry)) (length (now (buffer .entry)))) r (now (body .exit)) (now (buffer .entry)) (now (buffer .exit)) ⌝ }
+{
+    if body.len() != Profile::LONGEST {
+        return refuse(h, refusal::BAD_STATE, 0);
+    }
+    if h.passes() {
+        let p = h.profile;
+        if buffer.len() < p.body_length() {
+            return refuse(h, refusal::NO_ROOM, 0);
+        }
+        return up_to_stop(h, body, nibbles, buffer);
+    }
+    refuse(h, refusal::BAD_STATE, 0)
+}
+
+// A head after some nibbles of a run, and the place of the next.
+struct Reached {
+    head: Head,
+    at: usize,
+}
+
+// A run that is refused, or stopped by an input above 15, with what it took.
+fn refuse(h: Head, number: u8, taken: usize) -> RunStepped
+    ensures { λ r. ⌜ (r .head ≡ h) × (r .answer ≡ answerFor (refused number)) × (r .taken ≡ taken) ⌝ }
+{
+    let answer = Answer::Refused(number);
+    RunStepped {
+        head: h,
+        answer,
+        taken,
+    }
+}
+
+// Takes nibbles up to the run's stop.
+fn up_to_stop(start: Head, body: &mut [u8], nibbles: &[u8], buffer: &mut [u8]) -> RunStepped
+    requires { ⌜ (bodyLength (start .profile) ≤ length (now buffer)) × (length (now body) ≡ longest) ⌝ }
+    ensures { λ r. ⌜ Ends (ranFrom start (now (body .entry)) (now (nibbles .entry))) (r .head) (now (body .exit)) (r .taken) (r .answer) (now (buffer .entry)) (now (buffer .exit)) ⌝ }
+{
+    let first = ahead(start, body, nibbles, 0);
+    let mut h = first.head;
+    let mut i = first.at;
+    while i < nibbles.len() {
+        let x = nibbles[i];
+        if 15 < x {
+            return refuse(h, refusal::NOT_A_NIBBLE, i);
+        }
+        let t = take(h, body, x, buffer);
+        let answer = t.answer;
+        let after = t.head;
+        i += 1;
+        if is_answer(answer) {
+            return RunStepped {
+                head: after,
+                answer,
+                taken: i,
+            };
+        }
+        let next = ahead(after, body, nibbles, i);
+        h = next.head;
+        i = next.at;
+    }
+    let answer = Answer::Nothing;
+    RunStepped {
+        head: h,
+        answer,
+        taken: i,
+    }
+}
+
+// Takes one nibble, where nothing is refused.
+fn take(h: Head, body: &mut [u8], nibble: u8, buffer: &mut [u8]) -> Stepped
+    requires { ⌜ (nibble < 16) × (bodyLength (h .profile) ≤ length (now buffer)) × (length (now body) ≡ longest) ⌝ }
+    ensures { λ r. ⌜ (r .head ≡ takeHead h (isLine (takeOutcome h (now (body .entry)) nibble)) nibble) × (r .answer ≡ answerFor (takeOutcome h (now (body .entry)) nibble)) × (now (body .exit) ≡ leaveBody h (now (body .entry))) × (now (buffer .exit) ≡ bufferAfter (takeOutcome h (now (body .entry)) nibble) (now (buffer .entry))) ⌝ }
+{
+    h.take(body, nibble, buffer)
+}
+
+fn is_answer(answer: Answer) -> bool
+    ensures { λ r. ⌜ r ≡ isTold answer ⌝ }
+{
+    match answer {
+        Answer::Nothing => false,
+        Answer::Line(_) => true,
+        Answer::Gap(_) => true,
+        Answer::Refused(_) => true,
+    }
+}
+
+// Takes nibbles two a turn, as far as no mark can end in them.
+fn ahead(h: Head, body: &mut [u8], s: &[u8], from: usize) -> Reached
+    requires { ⌜ (from ≤ length (now s)) × (length (now body) ≡ longest) ⌝ }
+    ensures { λ r. ⌜ (Leads (now (s .entry)) h (now (body .entry)) from (r .head) (now (body .exit)) (r .at)) × (r .head .profile ≡ h .profile) × (from ≤ r .at) × (r .at ≤ length (now (s .entry))) ⌝ }
+{
+    if h.count % 2 == 1 {
+        return Reached { head: h, at: from };
+    }
+    let a = before_body(h, s, from);
+    let at = a.at;
+    let b = in_body(a.head, body, s, at);
+    let at = b.at;
+    past_body(b.head, s, at)
+}
+
+// The count of a text's nibbles from which its body's bytes leave the window, and from which none is left to come.
+const BODY: u32 = 14;
+
+const PAST: u32 = BODY + 2 * 356;
+
+// The code of a text, and the two bytes after it.
+fn before_body(h: Head, s: &[u8], from: usize) -> Reached
+    requires { ⌜ (from ≤ length (now s)) × (h .count % 2 ≡ 0) ⌝ }
+    ensures { λ r. ⌜ ((body : List ℕ) → Leads (now (s .entry)) h body from (r .head) body (r .at)) × (r .head .profile ≡ h .profile) × (r .head .count % 2 ≡ 0) × (from ≤ r .at) × (r .at ≤ length (now (s .entry))) ⌝ }
+{
+    if BODY <= h.count {
+        return Reached { head: h, at: from };
+    }
+    let profile = h.profile;
+    let at = h.at;
+    let end = sooner(s.len(), from, (BODY - h.count) as usize);
+    let mut count = h.count;
+    let mut window = h.window;
+    let mut kept = h.kept;
+    let mut i = from;
+    while is_pair(window, s, i, end) {
+        kept = keep_byte(profile, count, top_byte(window), kept);
+        window = slide_byte(window, s[i], s[i + 1]);
+        count += 2;
+        i += 2;
+    }
+    let head = Head {
+        profile,
+        at,
+        count,
+        window,
+        kept,
+    };
+    Reached { head, at: i }
+}
+
+// The bytes of a text's body.
+fn in_body(h: Head, body: &mut [u8], s: &[u8], from: usize) -> Reached
+    requires { ⌜ (from ≤ length (now s)) × (h .count % 2 ≡ 0) × (length (now body) ≡ longest) ⌝ }
+    ensures { λ r. ⌜ (Leads (now (s .entry)) h (now (body .entry)) from (r .head) (now (body .exit)) (r .at)) × (r .head .profile ≡ h .profile) × (from ≤ r .at) × (r .at ≤ length (now (s .entry))) ⌝ }
+{
+    if h.count < BODY {
+        return Reached { head: h, at: from };
+    }
+    if PAST <= h.count {
+        return Reached { head: h, at: from };
+    }
+    let profile = h.profile;
+    let at = h.at;
+    let kept = h.kept;
+    let place = ((h.count - BODY) / 2) as usize;
+    let end = sooner(s.len(), from, 2 * (Profile::LONGEST - place));
+    let mut window = h.window;
+    let mut stray = kept.stray;
+    let mut j = place;
+    let mut i = from;
+    while is_pair(window, s, i, end) {
+        let b = top_byte(window);
+        body[j] = b;
+        stray = stray_after(stray, b);
+        window = slide_byte(window, s[i], s[i + 1]);
+        j += 1;
+        i += 2;
+    }
+    let kept = Kept {
+        first: kept.first,
+        second: kept.second,
+        stray,
+    };
+    let head = Head {
+        profile,
+        at,
+        count: BODY + 2 * j as u32,
+        window,
+        kept,
+    };
+    Reached { head, at: i }
+}
+
+// What stands past a text's body.
+fn past_body(h: Head, s: &[u8], from: usize) -> Reached
+    requires { ⌜ from ≤ length (now s) ⌝ }
+    ensures { λ r. ⌜ ((body : List ℕ) → Leads (now (s .entry)) h body from (r .head) body (r .at)) × (r .head .profile ≡ h .profile) × (from ≤ r .at) × (r .at ≤ length (now (s .entry))) ⌝ }
+{
+    if h.count < PAST {
+        return Reached { head: h, at: from };
+    }
+    let profile = h.profile;
+    let at = h.at;
+    let kept = h.kept;
+    let end = s.len();
+    let mut count = h.count;
+    let mut window = h.window;
+    let mut stray = kept.stray;
+    let mut i = from;
+    while is_pair(window, s, i, end) {
+        stray = stray_after(stray, top_byte(window));
+        window = slide_byte(window, s[i], s[i + 1]);
+        count = reader::next_count(reader::next_count(count));
+        i += 2;
+    }
+    let kept = Kept {
+        first: kept.first,
+        second: kept.second,
+        stray,
+    };
+    let head = Head {
+        profile,
+        at,
+        count,
+        window,
+        kept,
+    };
+    Reached { head, at: i }
+}
+
+// Whether two nibbles stand at a place, before the end, in which no mark can end.
+fn is_pair(window: u32, s: &[u8], i: usize, end: usize) -> bool
+    requires { ⌜ (end ≤ length (now s)) × (i ≤ end) ⌝ }
+    ensures { λ r. ⌜ r ≡ isPair window (now (s .entry)) i end ⌝ }
+{
+    if end - i < 2 {
+        return false;
+    }
+    if is_near(window) {
+        return false;
+    }
+    if 15 < s[i] {
+        return false;
+    }
+    if 15 < s[i + 1] {
+        return false;
+    }
+    true
+}
+
+// Whether a mark may end at one of the next two nibbles.
+fn is_near(window: u32) -> bool
+    ensures { λ r. ⌜ r ≡ isNear window ⌝ }
+{
+    if window / 4096 % 4096 == 4095 {
+        return window / 16 % 16 == 0;
+    }
+    false
+}
+
+// The end of a run, or of so many nibbles from a place on.
+fn sooner(end: usize, from: usize, most: usize) -> usize
+    requires { ⌜ from ≤ end ⌝ }
+    ensures { λ r. ⌜ (r ≤ end) × (from ≤ r) × (r ≤ from + most) ⌝ }
+{
+    if end - from < most {
+        return end;
+    }
+    from + most
+}
+
+// A window with two nibbles more, and its oldest two gone.
+fn slide_byte(window: u32, high: u8, low: u8) -> u32
+    requires { ⌜ (high < 16) × (low < 16) ⌝ }
+    ensures { λ r. ⌜ r ≡ slideByte window high low ⌝ }
+{
+    window % 0x100_0000 * 256 + 16 * high as u32 + low as u32
+}
+
+// The oldest two nibbles of a window.
+fn top_byte(window: u32) -> u8
+    ensures { λ r. ⌜ r ≡ window / bytePlace ⌝ }
+{
+    (window / 0x100_0000) as u8
+}
+
+// Whether a nibble where a gap has nothing but F was another, with a byte more.
+fn stray_after(stray: bool, byte: u8) -> bool
+    ensures { λ r. ⌜ r ≡ strayAfter stray byte ⌝ }
+{
+    if byte < 255 {
+        return true;
+    }
+    stray
+}
+
+// What is kept with the byte that leaves the window at an even count up to the body.
+fn keep_byte(profile: Profile, count: u32, byte: u8, kept: Kept) -> Kept
+    ensures { λ r. ⌜ r ≡ byteKept profile count byte kept ⌝ }
+{
+    if count < 10 {
+        return kept;
+    }
+    let stray = stray_kept(profile, kept.stray, byte);
+    if count == 10 {
+        return Kept {
+            first: byte,
+            second: kept.second,
+            stray,
+        };
+    }
+    Kept {
+        first: kept.first,
+        second: byte,
+        stray,
+    }
+}
+
+// The same of the two bytes after the code: in profile 1 a gap's own.
+fn stray_kept(profile: Profile, stray: bool, byte: u8) -> bool
+    ensures { λ r. ⌜ r ≡ strayKept profile stray byte ⌝ }
+{
+    match profile {
+        Profile::VV5404 => stray_after(stray, byte),
+        Profile::VV5300 => stray,
+    }
+}
