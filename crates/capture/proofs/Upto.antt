@@ -10,7 +10,7 @@ use lib.Seq.{take-add, drop-drop}
 use borrow.Author.Tests.{lt-ltb, le-ltb}
 use Rattle.stream.specs.Written.{nibbles}
 use Rattle.reader.specs.Reader.{passes}
-use Rattle.refinement.specs.Passes.{Ok}
+use Rattle.reader_laws.specs.Passing.{Ok}
 use Rattle.listing.specs.Rows.{rowRoom, onFront}
 use Rattle.listing.specs.Put.{Put}
 use Rattle.listing.specs.PutLaws.{none, joined, on-front}

@@ -3,7 +3,7 @@ use mathlib.Core.Path.{_≡_}
 use mathlib.Core.List.{List}
 use Prim.Native.Nat.{ℕ, _*_, _/_, min}
 use Rattle.reader.specs.declared.Head.{Head}
-use Rattle.refinement.specs.Passes.{Ok}
+use Rattle.reader_laws.specs.Passing.{Ok}
 use Rattle.tally.specs.declared.Tally.{Tally}
 use Rattle.listing.specs.Rows.{rowRoom}
 use Rattle.listing.specs.Put.{Put}

@@ -8,7 +8,7 @@ ghost use Prim.Native.Nat.{_+_, _*_, _≤_, min};
 ghost use lib.ListN.{length};
 ghost use Rattle.profile.specs.Profile.{longest};
 ghost use Rattle.stream.specs.Written.{nibbles};
-ghost use Rattle.refinement.specs.Passes.{Ok};
+ghost use Rattle.reader_laws.specs.Passing.{Ok};
 ghost use Rattle.tally.specs.Tally.{isGood};
 ghost use Rattle.listing.specs.Rows.{rowOf, rowRoom, ifRoom, onFront};
 ghost use Rattle.listing.specs.Frames.{newsLine, summaryLines};

@@ -7,7 +7,7 @@ use native.Mathlib.Omega.{arith}
 use lib.ListN.{length, take, drop, getD, set, length-append}
 use lib.Seq.{drop-cons, take-suc, take-at, set-at, length-take-le}
 use Rattle.stream.specs.Written.{nibbles}
-use Rattle.refinement.specs.Window.{Small, small-none, small-more}
+use Rattle.reader_laws.specs.Passing.{Small, small-none, small-more}
 use Rattle.feeding.specs.Unpacked.{unpacked}
 
 pub nibbles-append : (v w : List ℕ) → nibbles (v ++ w) ≡ nibbles v ++ nibbles w

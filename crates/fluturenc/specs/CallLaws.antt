@@ -25,8 +25,9 @@ use Rattle.reader.specs.declared.Reader.{Reader}
 use Rattle.reader.specs.Reader.{Took, passes, freshReader, taking, finishOf, leaveBody}
 use Rattle.run.specs.Run.{Ran, ran, isAnswer, runOf, onward}
 use Rattle.run.specs.RunLaws.{none-taken}
-use Rattle.refinement.specs.Passes.{passes-test, Finishing, finish-state, finish-taken, finishing, Ok, fresh-ok, take-ok, finish-ok}
-use Rattle.refinement.specs.Stored.{length-body}
+use Rattle.reader_laws.specs.Passes.{passes-test, Finishing, finish-state, finish-taken, finishing, fresh-ok, take-ok, finish-ok}
+use Rattle.reader_laws.specs.Passing.{Ok}
+use Rattle.reader_laws.specs.Bodies.{length-body}
 use Rattle.frame.specs.declared.Borders.the-variants.{Unsettled, On, Off}
 use Rattle.frame.specs.declared.Judge.{Judge}
 use Rattle.frame.specs.declared.Judge.the-variants.{Waiting, Due}

@@ -16,9 +16,9 @@ use Rattle.reader.specs.declared.Head.{Head}
 use Rattle.reader.specs.declared.Reader.{Reader}
 use Rattle.reader.specs.Reader.{passes}
 use Rattle.run.specs.Run.{Ran, onward}
-use Rattle.refinement.specs.Window.{Small}
-use Rattle.refinement.specs.Passes.{Ok}
-use Rattle.refinement.specs.ByRuns.{ByNibbles, RunOn, run-on}
+use Rattle.reader_laws.specs.Passing.{Small}
+use Rattle.reader_laws.specs.Passing.{Ok}
+use Rattle.reader_laws.specs.ByRuns.{ByNibbles, RunOn, run-on}
 use Rattle.feeding.specs.UnpackedLaws.{nibbles-append, nibbles-length}
 use Rattle.frame_rows.specs.declared.Gatherer.{Gatherer}
 use Rattle.frame_rows.specs.declared.Gathered.{Gathered}

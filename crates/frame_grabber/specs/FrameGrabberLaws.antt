@@ -18,8 +18,8 @@ use Rattle.stream.specs.Written.{nibbles}
 use Rattle.reader.specs.declared.Reader.{Reader}
 use Rattle.reader.specs.Reader.{Took, freshReader, taking, feedOf}
 use Rattle.reader.proofs.Told.{take-profile}
-use Rattle.refinement.specs.Sound.{Sound, sound-nothing, sound-line, sound-gap, sound-refused, take-sound}
-use Rattle.refinement.specs.Passes.{passes-test, fresh-ok, Feeding, feed-state, feed-nibble, feed-room, feed-taken, feeding}
+use Rattle.reader_laws.specs.Sound.{Sound, sound-nothing, sound-line, sound-gap, sound-refused, take-sound}
+use Rattle.reader_laws.specs.Passes.{passes-test, fresh-ok, Feeding, feed-state, feed-nibble, feed-room, feed-taken, feeding}
 use Rattle.frame.specs.Frame.{brokenKind}
 use Rattle.frame.specs.Calls.{line}
 use Rattle.tally.specs.Tally.{isBrokenLine}

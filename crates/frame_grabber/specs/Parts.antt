@@ -7,7 +7,7 @@ use lib.ListN.{length, drop}
 use Rattle.stream.specs.Written.{nibbles}
 use Rattle.reader.specs.declared.Head.{Head}
 use Rattle.reader.specs.declared.Reader.{Reader}
-use Rattle.refinement.specs.Passes.{Ok}
+use Rattle.reader_laws.specs.Passing.{Ok}
 use Rattle.frame_rows.specs.declared.Gatherer.{Gatherer}
 use Rattle.frame_rows.specs.declared.Progress.{Progress}
 use Rattle.frame_rows.specs.declared.Progress.the-variants as progress

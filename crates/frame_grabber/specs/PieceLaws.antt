@@ -13,7 +13,8 @@ use Rattle.stream.specs.Answers.{Outcome}
 use Rattle.stream.specs.Written.{nibbles}
 use Rattle.reader.specs.declared.Reader.{Reader}
 use Rattle.reader.specs.Reader.{passes, feedOf}
-use Rattle.refinement.specs.Passes.{passes-test, Ok, feed-ok}
+use Rattle.reader_laws.specs.Passes.{passes-test, feed-ok}
+use Rattle.reader_laws.specs.Passing.{Ok}
 use Rattle.feeding.specs.UnpackedLaws.{nibbles-append, nibbles-length, taken-length}
 use Rattle.frame_rows.specs.declared.Progress.{Progress}
 use Rattle.frame_rows.specs.declared.Progress.the-variants as progress

@@ -18,8 +18,8 @@ use Rattle.mark_answer.specs.Kept.{topPlace}
 use Rattle.mark_answer.specs.Judge.{judge}
 use Rattle.reader.specs.declared.Head.{Head}
 use Rattle.reader.specs.Reader.{Took, groupNumber, isMark, slide, leaveKept, leaveBody, shifted, opened, takeHead, takeOutcome, taking, feedOf}
-use Rattle.refinement.specs.ByRuns.{took}
-use Rattle.refinement.specs.Passes.{Feeding, feed-state, feed-nibble, feed-room, feed-taken, feeding}
+use Rattle.reader_laws.specs.ByRuns.{took}
+use Rattle.reader_laws.specs.Passes.{Feeding, feed-state, feed-nibble, feed-room, feed-taken, feeding}
 use Rattle.frame.specs.declared.Judge.{Judge}
 use Rattle.frame.specs.declared.Verdict.{Verdict}
 use Rattle.frame.specs.declared.Verdict.the-variants as verdict

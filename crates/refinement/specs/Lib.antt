@@ -1,17 +1,6 @@
 pub mod Window
 pub mod Stored
-pub mod Sound
-pub mod Passes
 pub mod Refine
 pub mod ReaderCalls
 pub mod Runs
 pub mod RunsLaws
-pub mod ByRuns
-pub mod Agree
-pub mod Equivalent
-pub mod Reachable
-pub mod Used
-pub mod Interchangeable
-pub mod StandsFor
-pub mod Explained
-pub mod Examples

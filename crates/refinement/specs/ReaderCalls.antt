@@ -18,8 +18,9 @@ use Rattle.reader.specs.declared.Reader.{Reader}
 use Rattle.reader.specs.Reader.{Took, passes, freshReader, refusing, newOf, taking, feedOf, finishOf}
 use Rattle.recovery.specs.Calls.{Call, feed, done, Gives, onRun, MeetsDemandThree, turnedAway, fed, meaningCall}
 use Rattle.recovery.specs.DemandThree.{carried}
-use Rattle.refinement.specs.Sound.{take-sound, told}
-use Rattle.refinement.specs.Passes.{passes-test, Feeding, feed-state, feed-nibble, feed-room, feed-taken, feeding, Ok, fresh-ok, feed-ok, finish-ok, feed-refused, finish-refused, feed-eleven, finish-eleven}
+use Rattle.reader_laws.specs.Sound.{take-sound, told}
+use Rattle.reader_laws.specs.Passes.{passes-test, Feeding, feed-state, feed-nibble, feed-room, feed-taken, feeding, fresh-ok, feed-ok, finish-ok, feed-refused, finish-refused, feed-eleven, finish-eleven}
+use Rattle.reader_laws.specs.Passing.{Ok}
 use Rattle.refinement.specs.Refine.{Follows, fresh-follows, feed-tests, taking-steps, finish-steps}
 
 -- what a call gives back, of what it does and the buffer lent to it

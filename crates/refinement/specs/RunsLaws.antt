@@ -21,10 +21,12 @@ use Rattle.reader.proofs.Told.{take-profile}
 use Rattle.recovery.specs.Calls.{Call, feed, FinishLast, takes, Collector, lineCollector, gapCollector, onRun, onTaken, onCollected}
 use Rattle.recovery.specs.Calls as calls
 use Rattle.recovery.specs.DemandThree.{taking-by, taking-append, taken-append, run-append, collected-both}
-use Rattle.refinement.specs.Sound.{take-sound, refusalOf, at-most-nine}
-use Rattle.refinement.specs.Passes.{passes-test, Ok, fresh-ok, take-ok}
+use Rattle.reader_laws.specs.Sound.{take-sound, refusalOf, at-most-nine}
+use Rattle.reader_laws.specs.Passes.{passes-test, fresh-ok, take-ok}
+use Rattle.reader_laws.specs.Passing.{Ok}
 use Rattle.refinement.specs.Refine.{fedOutcomes}
 use Rattle.refinement.specs.ReaderCalls.{readerCall, calls-ok, reader-demand-three}
+use Rattle.reader_laws.specs.ByRuns.{no-answer}
 use Rattle.refinement.specs.Runs.{RunCall, run, one, runGives, runTakes, onRuns, runsTaken, runCollects, runsCollected, answerCollector, feeds, starts, oneByOne, allOneByOne, FinishLastRun, no-call, done-last, feed-first, run-first, SameAsFeeds, RunsMeetDemandThree}
 
 -- One nibble of a run, as a feeding call.
@@ -45,12 +47,6 @@ takes-it (line f body) l n w = refl
 takes-it (gap g) l n w = refl
 takes-it (refused k) l n w =
     ap₂ (λ (x y : Bool). cond (x || y) w (n ∷ w)) (ne-eqb k notANibble (λ q. omega arith)) (ne-eqb k noRoom (λ q. omega arith))
-
-pub no-answer : (o : Outcome) → isAnswer o ≡ false → o ≡ nothing
-no-answer nothing e = refl
-no-answer (line f body) e = absurd (true≢false e)
-no-answer (gap g) e = absurd (true≢false e)
-no-answer (refused n) e = absurd (true≢false e)
 
 -- A run's calls.
 

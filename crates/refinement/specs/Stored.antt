@@ -30,6 +30,7 @@ use Rattle.stream.specs.declared.Mark.the-variants.{NoMark, Open}
 use Rattle.stream.specs.Answers.{facts, Outcome, line, refused, require, goodGap, bytesOnto, lineFrom, turned, allF, afterCode, twoBytesThenF, gapFrom, byMeaning, byReading, answerOf}
 use Rattle.stream.specs.Stream.{answerAt}
 use Rattle.mark_answer.specs.declared.Kept.{Kept}
+use Rattle.reader_laws.specs.Bodies.{bodyBy, length-body}
 use Rattle.mark_answer.specs.Kept.{bodyPlace, gapStart, nothingKept, byteAt, strayAt, keptAt, bodyAt}
 use Rattle.mark_answer.specs.Judge.{judgeLine, judgeGap, judgeMeaning, judgeReading, judge}
 use Rattle.profile.specs.LayoutLaws.{body-small}
@@ -296,10 +297,6 @@ bytes-onto-all (one-more {l} {h} {c} q) w =
 
 -- The body.
 
--- by whether the nibble is in the body, and whether it is a high one
-abbrev pub bodyBy : Bool → Bool → ℕ → ℕ → List ℕ → List ℕ
-bodyBy x y i v b = cond x (cond y (set b i (16 * v)) (set b i (getD b i 0 / 16 * 16 + v))) b
-
 within : (k m : ℕ) → 2 * m + bodyPlace ≤ k → k ≤ 2 * m + 7 → m < longest → (leb bodyPlace k && ltb ((k - bodyPlace) / 2) longest) ≡ true
 within k m f g h =
     let i : (k - bodyPlace) / 2 ≡ m = omega arith in
@@ -328,18 +325,6 @@ body-out k v b h = go (leb bodyPlace k) (ltb ((k - bodyPlace) / 2) longest) (le-
     go x true e = absurd (true≢false e)
     go true false e = refl
     go false false e = refl
-
-pub length-body : (k v : ℕ) (b : List ℕ) → length (bodyAt k v b) ≡ length b
-unfolding bodyAt
-length-body k v b = go (leb bodyPlace k && ltb i longest) (eqb (k % 2) 0)
-  where
-    i : ℕ
-    i = (k - bodyPlace) / 2
-
-    go : (x y : Bool) → length (bodyBy x y i v b) ≡ length b
-    go false y = refl
-    go true true = length-set b i (16 * v)
-    go true false = length-set b i (getD b i 0 / 16 * 16 + v)
 
 pub stored-length : (b c : List ℕ) → length (storedBody b c) ≡ length b
 stored-length b [] = refl

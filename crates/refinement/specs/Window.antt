@@ -11,16 +11,12 @@ use borrow.Author.Tests.{eqb-true, eqb-false, ne-eqb, eq-eqb}
 use Rattle.stream.specs.Stream.{group, strip, not-yet, mark, markIf, detect}
 use Rattle.mark_answer.specs.Kept.{topPlace}
 use Rattle.reader.specs.Reader.{groupNumber, isMark, slide}
+use Rattle.reader_laws.specs.Passing.{Small, small-none, small-more}
 
 -- nibbles as a number, the newest in its lowest digit
 abbrev pub num : List ℕ → ℕ
 num [] = 0
 num (n ∷ t) = n + 16 * num t
-
--- each of them is a nibble
-pub data Small : List ℕ → Type 0 where
-  small-none : Small []
-  small-more : {n : ℕ} {t : List ℕ} → n < 16 → Small t → Small (n ∷ t)
 
 -- 16 ^ k
 unfoldable pub pow : ℕ → ℕ

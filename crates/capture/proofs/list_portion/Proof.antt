@@ -8,11 +8,11 @@ use lib.Seq.{take-all}
 use denote.Ref.{now}
 use borrow.Author.Needs.{needs}
 use Rattle.profile.specs.Profile.{longest}
-use Rattle.refinement.specs.Window.{Small}
+use Rattle.reader_laws.specs.Passing.{Small}
 use Rattle.listing.specs.Rows.{rowRoom}
 use Rattle.listing.specs.PutLaws.{put-length}
 use Rattle.capture.specs.Portions.{lister}
-use Rattle.refinement.specs.ByRuns.{answer-of}
+use Rattle.reader_laws.specs.ByRuns.{answer-of}
 use Rattle.stream.specs.Written.{nibbles}
 use Rattle.feeding.specs.Unpacked.{unpacked}
 use Rattle.feeding.specs.UnpackedLaws.{nibbles-length, front-nibbles}

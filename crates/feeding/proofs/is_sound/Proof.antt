@@ -1,6 +1,6 @@
 -- The answer is the reader's own test; a mark's code is a byte because its type is u8, and without a mark nothing is asked.
 use mathlib.Core.Path.{sym, subst}
-use Rattle.refinement.specs.Passes.{Byte}
+use Rattle.reader_laws.specs.Passing.{Byte}
 use borrow.Author.Needs.{needs}
 use Rattle.feeding.proofs.is_sound.Statement.{statement}
 use Rattle.feeding.proofs.is_sound.Tie as tie

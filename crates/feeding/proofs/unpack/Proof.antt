@@ -8,7 +8,7 @@ use lib.Seq.{lt-length-set}
 use denote.Ref.{now}
 use borrow.Author.Needs.{needs}
 use Rattle.stream.specs.Written.{nibbles}
-use Rattle.refinement.specs.Window.{Small, small-none}
+use Rattle.reader_laws.specs.Passing.{Small, small-none}
 use Rattle.feeding.specs.Unpacked.{unpacked}
 use Rattle.feeding.specs.UnpackedLaws.{unpack-next, small-next}
 use Rattle.feeding.proofs.unpack.Statement.{statement}

@@ -1,7 +1,7 @@
 -- A run takes a nibble where there is one, so of none or one it takes all, and leaves the reader that feeding it would leave.
 use mathlib.Core.Path.{refl}
 use denote.Ref.{now}
-use Rattle.refinement.specs.ByRuns.{lent-onward}
+use Rattle.reader_laws.specs.ByRuns.{lent-onward}
 use Rattle.frame_grabber.proofs.Steps.{settled}
 use borrow.Author.Needs.{needs}
 use Rattle.frame_grabber.proofs.end_byte.Statement.{statement}

@@ -8,7 +8,7 @@ use denote.Ref.{now}
 use borrow.Author.Needs.{needs}
 use Rattle.profile.specs.Profile.{longest}
 use Rattle.stream.specs.Written.{nibbles}
-use Rattle.refinement.specs.Passes.{passed}
+use Rattle.reader_laws.specs.Passes.{passed}
 use Rattle.listing.specs.PutLaws.{put-length}
 use Rattle.capture.specs.Portions.{portionOf, lister}
 use Rattle.capture.proofs.Runs.{lists-of}

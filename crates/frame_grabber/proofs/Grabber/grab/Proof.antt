@@ -5,7 +5,7 @@ use native.Mathlib.Omega.{arith}
 use lib.ListN.{length}
 use borrow.Author.Needs.{needs}
 use Rattle.profile.specs.Profile.{longest}
-use Rattle.refinement.specs.Passes.{passed}
+use Rattle.reader_laws.specs.Passes.{passed}
 use Rattle.frame_grabber.specs.Parts.{reader}
 use Rattle.frame_grabber.proofs.Steps.{Upto, upto-start, upto-next, upto-stop, upto-end, goes-some, taken-within, refused-state}
 use Rattle.frame_grabber.proofs.Grabber.grab.Statement.{statement}

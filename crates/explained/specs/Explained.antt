@@ -21,16 +21,18 @@ use Rattle.reader.specs.declared.Reader.{Reader}
 use Rattle.reader.specs.Reader.{isMark, passes, freshReader}
 use Rattle.recovery.specs.Calls.{Call, feed, done, Gives, meaningCall}
 use Rattle.recovery.specs.Resync.{stateWith}
-use Rattle.refinement.specs.Window.{Small, no-mark-yet}
+use Rattle.reader_laws.specs.Passing.{Small}
+use Rattle.refinement.specs.Window.{no-mark-yet}
 use Rattle.refinement.specs.Stored.{storedKept}
-use Rattle.refinement.specs.Passes.{Byte, Passed, passed, Ok}
+use Rattle.reader_laws.specs.Passing.{Byte, Passed, Ok}
+use Rattle.reader_laws.specs.Passes.{passed}
 use Rattle.refinement.specs.Refine.{Follows, fresh-follows, fedReader, fed-follows}
 use Rattle.refinement.specs.ReaderCalls.{readerCall, alike}
-use Rattle.refinement.specs.Equivalent.{baseOf, base-small, Equivalent, same-call}
-use Rattle.refinement.specs.Reachable.{Reachable, reachable, small-append}
-use Rattle.refinement.specs.Used.{Store}
-use Rattle.refinement.specs.Interchangeable.{readerWith, differ-unused, BothPass, same-feed, same-finish}
-use Rattle.refinement.specs.StandsFor.{Typed, storedText, StandsFor, stands-for}
+use Rattle.explained.specs.Equivalent.{baseOf, base-small, Equivalent, same-call}
+use Rattle.explained.specs.Reachable.{Reachable, reachable, small-append}
+use Rattle.explained.specs.Used.{Store}
+use Rattle.explained.specs.Interchangeable.{readerWith, differ-unused, BothPass, same-feed, same-finish}
+use Rattle.explained.specs.StandsFor.{Typed, storedText, StandsFor, stands-for}
 
 -- What calls hand out.
 

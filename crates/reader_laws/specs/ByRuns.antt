@@ -1,7 +1,7 @@
 -- Runs in place of single feeds: what is worked out from nibbles fed one by one, and takes no notice of one that brings nothing, comes out the
 -- same run by run. The line buffer has the longest body's length, which is room for a line of either profile.
 use mathlib.Core.Path.{_≡_, refl, _∙_, ap, sym, subst}
-use mathlib.Core.Bool.{Bool, true, false, cond}
+use mathlib.Core.Bool.{Bool, true, false, cond, true≢false}
 use mathlib.Core.List.{List, [], _∷_}
 use Prim.Native.Nat.{ℕ, zero, suc, _+_, _≤_, _<_}
 use native.Mathlib.Nat.{add-zero}
@@ -14,15 +14,21 @@ use Rattle.profile.specs.Profile.{bodyLength, longest}
 use Rattle.profile.specs.LayoutLaws.{body-small}
 use Rattle.stream.specs.declared.Answer.{Answer}
 use Rattle.stream.specs.declared.Answer.the-variants as answers
-use Rattle.stream.specs.Answers.{Outcome, nothing, refused, outcomeOf, answerFor}
+use Rattle.stream.specs.Answers.{Outcome, nothing, line, gap, refused, outcomeOf, answerFor}
 use Rattle.reader.specs.declared.Head.{Head}
 use Rattle.reader.specs.declared.Reader.{Reader}
 use Rattle.reader.specs.Reader.{Took, taking, feedOf}
 use Rattle.run.specs.Run.{Ran, ran, isAnswer, lentRunOf, onward}
 use Rattle.run.proofs.Running.{lent-right, run-goes}
-use Rattle.refinement.specs.Window.{Small, small-none, small-more}
-use Rattle.refinement.specs.Passes.{passes-test, Ok, take-ok}
-use Rattle.refinement.specs.RunsLaws.{no-answer}
+use Rattle.reader_laws.specs.Passing.{Small, small-none, small-more}
+use Rattle.reader_laws.specs.Passes.{passes-test, take-ok}
+use Rattle.reader_laws.specs.Passing.{Ok}
+
+pub no-answer : (o : Outcome) → isAnswer o ≡ false → o ≡ nothing
+no-answer nothing e = refl
+no-answer (line f body) e = absurd (true≢false e)
+no-answer (gap g) e = absurd (true≢false e)
+no-answer (refused n) e = absurd (true≢false e)
 
 -- a reader after a call, and what the call answered
 abbrev pub took : Reader → Outcome → Took

@@ -24,25 +24,10 @@ use Rattle.mark_answer.specs.Judge.{judge}
 use Rattle.reader.specs.declared.Head.{Head}
 use Rattle.reader.specs.declared.Reader.{Reader}
 use Rattle.reader.specs.Reader.{Took, groupNumber, isMark, slide, countStop, bump, leaveKept, leaveBody, shifted, opened, aged, windowFits, handedFits, passes, freshReader, refusing, takeHead, takeOutcome, taking, feedOf, flushed, finishOf}
-use Rattle.refinement.specs.Sound.{Sound, line-ends, judge-sound, take-sound, refusalOf, at-most-nine}
+use Rattle.reader_laws.specs.Passing.{MarkFits, Fits, Passed, Byte, Ok}
+use Rattle.reader_laws.specs.Sound.{Sound, line-ends, judge-sound, take-sound, refusalOf, at-most-nine}
 
--- The test as facts.
-
-pub record MarkFits (code c w : ℕ) : Type 0 where
-  pub two : 2 ≤ c
-  pub within : c ≤ 8 → aged (c - 2) w ≡ code
-  pub half : c ≡ 9 → aged 7 w ≡ code % 16
-
-abbrev pub Fits : Mark → ℕ → ℕ → Type 0
-Fits NoMark c w = c ≤ 8 → aged c w ≡ 0
-Fits (Open before code) c w = MarkFits code c w
-
-pub record Passed (h : Head) : Type 0 where
-  pub count-small : h .count ≤ countStop
-  pub no-mark-there : isMark (h .window) ≡ false
-  pub handed-fits : handedFits (h .at) ≡ true
-  pub window-fits : Fits (h .at) (h .count) (h .window)
-  pub stray-late : h .kept .stray ≡ true → gapStart (h .profile) + 8 < h .count
+-- The test and its facts.
 
 then-fact : (b x y : Bool) → b ≡ true → cond b x y ≡ true → x ≡ true
 then-fact true x y e h = h
@@ -117,11 +102,6 @@ passes-test h f =
     (then-not (h .kept .stray) _ (λ e. lt-ltb (gapStart (h .profile) + 8) (h .count) (f .stray-late e))))))
 
 -- Windows that slide.
-
--- a mark's code is a byte
-abbrev pub Byte : Mark → Type 0
-Byte NoMark = Unit {0}
-Byte (Open before code) = code < 256
 
 -- y * 16 ^ k
 unfoldable bound : ℕ → ℕ → ℕ
@@ -305,10 +285,6 @@ finishing r = go (passes (r .head)) refl
     go true e = finish-taken
 
 -- What holds of every state that calls reach: the test, and that the code is a byte.
-
-pub record Ok (h : Head) : Type 0 where
-  pub byte : Byte (h .at)
-  pub test : Passed h
 
 pub fresh-ok : (p : Profile) → Ok (freshReader p .head)
 unfolding isMark

@@ -15,8 +15,8 @@ use Rattle.mark_answer.specs.declared.Kept.{Kept}
 use Rattle.mark_answer.specs.Kept.{nothingKept}
 use Rattle.reader.specs.declared.Reader.{Reader}
 use Rattle.reader.specs.Reader.{isMark, passes}
-use Rattle.refinement.specs.Interchangeable.{headWith}
-use Rattle.refinement.specs.Explained.{Explained, explained}
+use Rattle.explained.specs.Interchangeable.{headWith}
+use Rattle.explained.specs.Explained.{Explained, explained}
 
 -- a mark with the clean code of BL, and none before it
 abbrev openBL : Mark

@@ -22,9 +22,10 @@ use Rattle.mark_answer.specs.Judge.{judge}
 use Rattle.reader.specs.declared.Head.{Head}
 use Rattle.reader.specs.declared.Reader.{Reader}
 use Rattle.reader.specs.Reader.{Took, isMark, slide, bump, countStop, leaveKept, leaveBody, opened, shifted, flushed, takeHead, takeOutcome, taking, freshReader, refusing, passes, feedOf, finishOf}
-use Rattle.refinement.specs.Passes.{finished, Ok, fresh-ok, feed-ok, passes-test}
+use Rattle.reader_laws.specs.Passes.{finished, fresh-ok, feed-ok, passes-test}
+use Rattle.reader_laws.specs.Passing.{Ok}
 use Rattle.refinement.specs.Refine.{no-body, finish-passed}
-use Rattle.refinement.specs.Used.{Store, endsLine, SameUsed, no-nibbles, used-fewer, used-commit, judge-same}
+use Rattle.explained.specs.Used.{Store, endsLine, SameUsed, no-nibbles, used-fewer, used-commit, judge-same}
 
 -- Readers.
 

@@ -32,7 +32,8 @@ use Rattle.mark_answer.specs.declared.Kept.{Kept}
 use Rattle.mark_answer.specs.Kept.{bodyPlace, gapStart, strayAt, keptAt, bodyAt}
 use Rattle.mark_answer.specs.Judge.{judgeLine, judgeGap, judgeMeaning, judgeReading, judge}
 use Rattle.profile.specs.LayoutLaws.{body-small}
-use Rattle.refinement.specs.Stored.{byte-high, byte-low, byte-keep, bodyBy, body-high, body-low, length-body, refuses, wrong-length}
+use Rattle.refinement.specs.Stored.{byte-high, byte-low, byte-keep, body-high, body-low, refuses, wrong-length}
+use Rattle.reader_laws.specs.Bodies.{bodyBy, length-body}
 
 -- What is kept of a text, as one.
 

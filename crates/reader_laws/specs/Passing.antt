@@ -1,0 +1,43 @@
+-- The states that calls reach: the reader's own test as facts, and that a mark's code is a byte; and nibbles. Definitions only.
+use mathlib.Core.Path.{_≡_}
+use mathlib.Core.Bool.{true, false}
+use mathlib.Core.List.{List, [], _∷_}
+use Prim.Native.Nat.{ℕ, _+_, _-_, _%_, _≤_, _<_}
+use Rattle.stream.specs.declared.Mark.{Mark}
+use Rattle.stream.specs.declared.Mark.the-variants.{NoMark, Open}
+use Rattle.mark_answer.specs.Kept.{gapStart}
+use Rattle.reader.specs.declared.Head.{Head}
+use Rattle.reader.specs.Reader.{isMark, countStop, aged, handedFits}
+
+-- each number is a nibble
+pub data Small : List ℕ → Type 0 where
+  small-none : Small []
+  small-more : {n : ℕ} {t : List ℕ} → n < 16 → Small t → Small (n ∷ t)
+
+-- The test as facts.
+
+pub record MarkFits (code c w : ℕ) : Type 0 where
+  pub two : 2 ≤ c
+  pub within : c ≤ 8 → aged (c - 2) w ≡ code
+  pub half : c ≡ 9 → aged 7 w ≡ code % 16
+
+abbrev pub Fits : Mark → ℕ → ℕ → Type 0
+Fits NoMark c w = c ≤ 8 → aged c w ≡ 0
+Fits (Open before code) c w = MarkFits code c w
+
+pub record Passed (h : Head) : Type 0 where
+  pub count-small : h .count ≤ countStop
+  pub no-mark-there : isMark (h .window) ≡ false
+  pub handed-fits : handedFits (h .at) ≡ true
+  pub window-fits : Fits (h .at) (h .count) (h .window)
+  pub stray-late : h .kept .stray ≡ true → gapStart (h .profile) + 8 < h .count
+
+-- a mark's code is a byte
+abbrev pub Byte : Mark → Type 0
+Byte NoMark = Unit {0}
+Byte (Open before code) = code < 256
+
+-- what holds of every state that calls reach
+pub record Ok (h : Head) : Type 0 where
+  pub byte : Byte (h .at)
+  pub test : Passed h
