@@ -113,16 +113,24 @@ impl Bus {
         self.lent(nibble, &mut line[0..size as usize])
     }
 
-    // The nibbles that were written to a buffer, with the line buffer that is lent.
+    // The nibbles that were written to a buffer, in runs, with the line buffer that is lent.
     pub fn written(self, buffer: &[u8], line: &mut [u8]) -> Bus {
+        let end = until(buffer, 0, UNTOUCHED);
         let mut bus = self;
-        let mut i: usize = 0;
-        while i < buffer.len() {
-            if buffer[i] == UNTOUCHED {
+        let mut from: usize = 0;
+        let mut turns: usize = 0;
+        while turns < end {
+            let reader = bus.reader;
+            let ran = run::run(reader, &buffer[from..end], line);
+            let reader = ran.reader;
+            let answer = ran.answer;
+            let taken = ran.taken;
+            bus = answered(Fed { reader, answer }, bus.answers);
+            if end - from <= taken {
                 return bus;
             }
-            bus = bus.lent(buffer[i], line);
-            i += 1;
+            from += taken;
+            turns += 1;
         }
         bus
     }
