@@ -26,7 +26,7 @@ use Rattle.stream.specs.declared.Mark.{Mark}
 use Rattle.stream.specs.declared.Mark.the-variants.{NoMark, Open}
 use Rattle.stream.specs.Answers.{answerFor, bufferAfter, isLine, turned, periodOf, gapFrom, gapAnswer, afterCode, lineAnswer, byMeaning, byReading, answerOf}
 use Rattle.stream.specs.Stream.{State, Step, strip, markIf, kindAt, beforeBy, answerAt, advance, step, finish}
-use Rattle.recovery.specs.Calls.{Call, feed, done, Gives, turnedAway, fed, meaningCall}
+use Rattle.recovery.specs.Calls.{Call, feed, done, CallResult, turnedAway, fed, meaningCall}
 use Rattle.recovery.specs.Resync.{stateWith}
 use Rattle.reader_laws.specs.Passing.{Small, small-none, small-more}
 use Rattle.reader_laws.specs.Passing.{Byte}
@@ -212,7 +212,7 @@ same-finish p s s₂ (the-same s₃) = record { state = the-same _; outcome = re
 same-finish p s s₂ (texts-agree m t t₂ g u) =
     let q = all-agree u in record { state = the-same _; outcome = answer-agrees p m none g (q .1) }
 
-pub record SameCall (c d : Gives State) : Type 0 where
+pub record SameCall (c d : CallResult State) : Type 0 where
   pub state : Equivalent (c .reader) (d .reader)
   pub answer : c .answer ≡ d .answer
   pub buffer : c .buffer ≡ d .buffer
@@ -222,7 +222,7 @@ pub same-call : (p : Profile) (s s₂ : State) (c : Call) → Equivalent s s₂ 
 same-call p s s₂ done a = let q = same-finish p s s₂ a in record { state = q .state; answer = ap answerFor (q .outcome); buffer = refl }
 same-call p s s₂ (feed n buf) a = go (leb n 15) (leb (bodyLength p) (length buf)) refl
   where
-    result : State → Bool → Bool → Gives State
+    result : State → Bool → Bool → CallResult State
     result s b c = cond b (cond c (fed p s n buf) (turnedAway s noRoom buf)) (turnedAway s notANibble buf)
 
     go : (b c : Bool) → leb n 15 ≡ b → SameCall (result s b c) (result s₂ b c)

@@ -19,7 +19,7 @@ use Rattle.stream.specs.Stream.{State, not-yet, detect, run, fresh}
 use Rattle.mark_answer.specs.Kept.{gapStart, strayAt, keptAt}
 use Rattle.reader.specs.declared.Reader.{Reader}
 use Rattle.reader.specs.Reader.{isMark, passes, freshReader}
-use Rattle.recovery.specs.Calls.{Call, feed, done, Gives, meaningCall}
+use Rattle.recovery.specs.Calls.{Call, feed, done, CallResult, meaningCall}
 use Rattle.recovery.specs.Resync.{stateWith}
 use Rattle.reader_laws.specs.Passing.{Small}
 use Rattle.refinement.specs.Window.{no-mark-yet}
@@ -41,17 +41,17 @@ pub record Out : Type 0 where
   pub answer : Answer
   pub buffer : List ℕ
 
-abbrev pub outs : {R : Type 0} → (R → Call → Gives R) → R → List Call → List Out
+abbrev pub outs : {R : Type 0} → (R → Call → CallResult R) → R → List Call → List Out
 outs on r [] = []
 outs on r (c ∷ cs) = record { answer = on r c .answer; buffer = on r c .buffer } ∷ outs on (on r c .reader) cs
 
 -- two machines whose calls answer alike and stay related
-record Together {R Q : Type 0} (Rel : R → Q → Type 0) (g : Gives R) (h : Gives Q) : Type 0 where
+record Together {R Q : Type 0} (Rel : R → Q → Type 0) (g : CallResult R) (h : CallResult Q) : Type 0 where
   related : Rel (g .reader) (h .reader)
   answer : g .answer ≡ h .answer
   buffer : g .buffer ≡ h .buffer
 
-same-outs : {R Q : Type 0} (on : R → Call → Gives R) (at : Q → Call → Gives Q) (Rel : R → Q → Type 0)
+same-outs : {R Q : Type 0} (on : R → Call → CallResult R) (at : Q → Call → CallResult Q) (Rel : R → Q → Type 0)
     → ((r : R) (q : Q) (c : Call) → Rel r q → Together Rel (on r c) (at q c))
     → (cs : List Call) (r : R) (q : Q) → Rel r q → outs on r cs ≡ outs at q cs
 same-outs on at Rel f [] r q h = refl

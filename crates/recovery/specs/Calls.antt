@@ -31,7 +31,7 @@ pub data FinishLast : List Call → Type 0 where
   feed-first : {n : ℕ} {buffer : List ℕ} {cs : List Call} → FinishLast cs → FinishLast (feed n buffer ∷ cs)
 
 -- what a call gives back: the reader, its answer, and the lent buffer as it is then (finish is lent none)
-pub record Gives (R : Type 0) : Type 0 where
+pub record CallResult (R : Type 0) : Type 0 where
   pub reader : R
   pub answer : Answer
   pub buffer : List ℕ
@@ -152,7 +152,7 @@ gapCollector = record { fed = gapIn; finished = λ o. [] }
 
 -- A reader of the type R, by its calls.
 
-module _ {R : Type 0} (on : R → Call → Gives R) where
+module _ {R : Type 0} (on : R → Call → CallResult R) where
   -- each call gets the reader that the call before returned
   abbrev pub onRun : R → List Call → R
   onRun r [] = r
@@ -212,15 +212,15 @@ module _ {R : Type 0} (on : R → Call → Gives R) where
 -- The calls of the meaning of a stream.
 
 -- a call refused: reader and buffer stay as before
-abbrev pub turnedAway : State → ℕ → List ℕ → Gives State
+abbrev pub turnedAway : State → ℕ → List ℕ → CallResult State
 turnedAway s n buffer = record { reader = s; answer = answers.Refused n; buffer = buffer }
 
 -- a nibble taken
-abbrev pub fed : Profile → State → ℕ → List ℕ → Gives State
+abbrev pub fed : Profile → State → ℕ → List ℕ → CallResult State
 fed p s n buffer = record { reader = step p s n .state; answer = answerFor (step p s n .outcome); buffer = bufferAfter (step p s n .outcome) buffer }
 
 -- 10 where the input is above 15, then 12 where the buffer is shorter than the body, then the step
-abbrev pub meaningCall : Profile → State → Call → Gives State
+abbrev pub meaningCall : Profile → State → Call → CallResult State
 meaningCall p s (feed n buffer) =
     cond (leb n 15) (cond (leb (bodyLength p) (length buffer)) (fed p s n buffer) (turnedAway s noRoom buffer)) (turnedAway s notANibble buffer)
 meaningCall p s done = record { reader = finish p s .state; answer = answerFor (finish p s .outcome); buffer = [] }

@@ -20,7 +20,7 @@ use Rattle.stream.specs.declared.Answer.the-variants as answers
 use Rattle.stream.specs.Answers.{Outcome, nothing, line, gap, refused, outcomeOf, answerFor, bufferAfter}
 use Rattle.stream.specs.Stream.{State, fresh, step, finish, outcomes}
 use Rattle.stream.specs.Written.{Sent, AllWritable, stream}
-use Rattle.recovery.specs.Calls.{Call, feed, done, FinishLast, no-call, done-last, feed-first, Gives, takes, takenBy, changed, startAfter, linesFrom, gapAsSent, closed, markNibbles, Collector, collects, lineCollector, gapCollector, onCollected, onRun, onTaken, onLines, onGaps, MeetsDemandThree, fed, meaningCall}
+use Rattle.recovery.specs.Calls.{Call, feed, done, FinishLast, no-call, done-last, feed-first, CallResult, takes, takenBy, changed, startAfter, linesFrom, gapAsSent, closed, markNibbles, Collector, collects, lineCollector, gapCollector, onCollected, onRun, onTaken, onLines, onGaps, MeetsDemandThree, fed, meaningCall}
 use Rattle.recovery.specs.AnswerLaws.{step-cases}
 use Rattle.recovery.specs.Collected.{collected}
 use Rattle.recovery.specs.Resync.{lines, BringsNoLine, no-line}
@@ -49,7 +49,7 @@ module _ (p : Profile) {A : Type 0} (k : Collector A) (of-nothing : k .fed nothi
   ofNibbles s w = collected (k .fed) (outcomes p s w)
 
   -- what a feeding call gives back agrees with the nibble that it takes, if the calls after it do
-  abbrev Agrees : State → ℕ → List Call → Gives State → Type 0
+  abbrev Agrees : State → ℕ → List Call → CallResult State → Type 0
   Agrees s n cs c =
       k .fed (outcomeOf p (c .answer) (c .buffer)) ++ onCollected (meaningCall p) k p (c .reader) cs
       ≡ ofNibbles s (takes (c .answer) n (onTaken (meaningCall p) (c .reader) cs))
@@ -138,7 +138,7 @@ pub taking-append : {c : Call} {a : Answer} → Taking c a → (u v : List ℕ) 
 taking-append (takes-none e) u v = e (u ++ v) ∙ ap (λ (w : List ℕ). w ++ v) (sym (e u))
 taking-append (takes-one n e) u v = e (u ++ v) ∙ ap (λ (w : List ℕ). w ++ v) (sym (e u))
 
-module _ {R : Type 0} (on : R → Call → Gives R) where
+module _ {R : Type 0} (on : R → Call → CallResult R) where
   pub taken-append : (r : R) (first rest : List Call) → onTaken on r (first ++ rest) ≡ onTaken on r first ++ onTaken on (onRun on r first) rest
   taken-append r [] rest = refl
   taken-append r (c ∷ first) rest =
@@ -270,7 +270,7 @@ demand-three p ss h i j ij jl new cs fl t =
 
 -- Any reader that answers alike. Same r s: the reader r stands for the state s, and goes on so at each call, with the same answer and
 -- the same buffer
-module _ {R : Type 0} (on : R → Call → Gives R) (p : Profile) (Same : R → State → Type 0)
+module _ {R : Type 0} (on : R → Call → CallResult R) (p : Profile) (Same : R → State → Type 0)
     (same-reader : (r : R) (s : State) (c : Call) → Same r s → Same (on r c .reader) (meaningCall p s c .reader))
     (same-answer : (r : R) (s : State) (c : Call) → Same r s → on r c .answer ≡ meaningCall p s c .answer)
     (same-buffer : (r : R) (s : State) (c : Call) → Same r s → on r c .buffer ≡ meaningCall p s c .buffer) where

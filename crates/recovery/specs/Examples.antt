@@ -19,7 +19,7 @@ use Rattle.profile.specs.Profile.{bodyLength, fillerByte, nullByte}
 use Rattle.profile.specs.Layout.{fits, rules, gapFits}
 use Rattle.stream.specs.Stream.{State, fresh, step}
 use Rattle.stream.specs.Written.{Sent, Writable, AllWritable, no-lines, and-line, stream}
-use Rattle.recovery.specs.Calls.{Call, feed, done, FinishLast, done-last, feed-first, Gives, takes, changed, endedBy, linesFrom, closedBy, closed, onTaken, DemandThree, turnedAway, fed, meaningCall}
+use Rattle.recovery.specs.Calls.{Call, feed, done, FinishLast, done-last, feed-first, CallResult, takes, changed, endedBy, linesFrom, closedBy, closed, onTaken, DemandThree, turnedAway, fed, meaningCall}
 use Rattle.recovery.specs.WrittenLaws.{AllNibbles, no-nibble, and-nibble, all-changed}
 use Rattle.recovery.specs.DemandThree.{step-taken, demand-three}
 
@@ -124,7 +124,7 @@ pub all-taken : (p : Profile) (buffer : List ℕ) → bodyLength p ≤ length bu
     → onTaken (meaningCall p) s (fedThenDone buffer w) ≡ w
 all-taken p buffer h no-nibble s = refl
 all-taken p buffer h (and-nibble {n} {w} l g) s =
-    ap (λ (c : Gives State). takes (c .answer) n (onTaken (meaningCall p) (c .reader) (fedThenDone buffer w))) (fed-call p s n buffer l h)
+    ap (λ (c : CallResult State). takes (c .answer) n (onTaken (meaningCall p) (c .reader) (fedThenDone buffer w))) (fed-call p s n buffer l h)
     ∙ step-taken p s n (onTaken (meaningCall p) (step p s n .state) (fedThenDone buffer w))
     ∙ ap {B = List ℕ} (λ v. n ∷ v) (all-taken p buffer h g (step p s n .state))
 

@@ -16,7 +16,7 @@ use Rattle.stream.specs.Answers.{Outcome, nothing, line, gap, refused, outcomeO
 use Rattle.stream.specs.Stream.{State}
 use Rattle.reader.specs.declared.Reader.{Reader}
 use Rattle.reader.specs.Reader.{Took, passes, freshReader, refusing, newOf, taking, feedOf, finishOf}
-use Rattle.recovery.specs.Calls.{Call, feed, done, Gives, onRun, MeetsDemandThree, turnedAway, fed, meaningCall}
+use Rattle.recovery.specs.Calls.{Call, feed, done, CallResult, onRun, MeetsDemandThree, turnedAway, fed, meaningCall}
 use Rattle.recovery.specs.DemandThree.{carried}
 use Rattle.reader_laws.specs.Sound.{take-sound, told}
 use Rattle.reader_laws.specs.Passes.{passes-test, Feeding, feed-state, feed-nibble, feed-room, feed-taken, feeding, fresh-ok, feed-ok, finish-ok, feed-refused, finish-refused, feed-eleven, finish-eleven}
@@ -24,10 +24,10 @@ use Rattle.reader_laws.specs.Passing.{Ok}
 use Rattle.refinement.specs.Refine.{Follows, fresh-follows, feed-tests, taking-steps, finish-steps}
 
 -- what a call gives back, of what it does and the buffer lent to it
-abbrev pub gives : Took → List ℕ → Gives Reader
+abbrev pub gives : Took → List ℕ → CallResult Reader
 gives t buffer = record { reader = t .reader; answer = answerFor (t .outcome); buffer = bufferAfter (t .outcome) buffer }
 
-abbrev pub readerCall : Reader → Call → Gives Reader
+abbrev pub readerCall : Reader → Call → CallResult Reader
 readerCall r (feed n buffer) = gives (feedOf r n (length buffer)) buffer
 readerCall r done = record { reader = finishOf r .reader; answer = answerFor (finishOf r .outcome); buffer = [] }
 
@@ -75,7 +75,7 @@ pub refused-call : (r : Reader) (c : Call) (k : ℕ) → notANibble ≤ k → re
     → readerCall r c ≡ record { reader = r; answer = answers.Refused k; buffer = lent c }
 refused-call r (feed n buffer) k l e = ap (λ t. gives t buffer) (feed-refused r n (length buffer) k l (answered _ k e))
 refused-call r done k l e =
-    ap {B = Gives Reader} (λ t. record { reader = t .reader; answer = answerFor (t .outcome); buffer = [] })
+    ap {B = CallResult Reader} (λ t. record { reader = t .reader; answer = answerFor (t .outcome); buffer = [] })
     (finish-refused r k l (answered _ k e))
 
 -- The answer and the lent buffer say all of the outcome.
@@ -92,7 +92,7 @@ feed-told r n buffer = go (feeding r n (length buffer))
 
 -- The calls answer as the meaning's.
 
-pub record Alike (p : Profile) (g : Gives Reader) (c : Gives State) : Type 0 where
+pub record Alike (p : Profile) (g : CallResult Reader) (c : CallResult State) : Type 0 where
   pub follows : Follows p (g .reader) (c .reader)
   pub same-answer : g .answer ≡ c .answer
   pub same-buffer : g .buffer ≡ c .buffer

@@ -14,7 +14,7 @@ use Rattle.stream.specs.Written.{Sent, AllWritable, stream}
 use Rattle.reader.specs.declared.Reader.{Reader}
 use Rattle.reader.specs.Reader.{passes}
 use Rattle.run.specs.Run.{stopPlace, runOf}
-use Rattle.recovery.specs.Calls.{Call, feed, done, Gives, takenBy, changed, Collector, collects, lineCollector, gapCollector, onRun, onTaken, onCollected, onLines, onGaps, DemandThree}
+use Rattle.recovery.specs.Calls.{Call, feed, done, CallResult, takenBy, changed, Collector, collects, lineCollector, gapCollector, onRun, onTaken, onCollected, onLines, onGaps, DemandThree}
 use Rattle.refinement.specs.ReaderCalls.{readerCall}
 
 -- a run of inputs with the buffer lent to it; or a call as before
@@ -23,7 +23,7 @@ pub data RunCall : Type 0 where
   one : Call → RunCall
 
 -- what a call gives back
-abbrev pub runGives : Reader → RunCall → Gives Reader
+abbrev pub runGives : Reader → RunCall → CallResult Reader
 runGives r (run w buffer) =
     record {
       reader = runOf r w (length buffer) .reader;
