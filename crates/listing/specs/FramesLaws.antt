@@ -1,18 +1,19 @@
 -- How long the lines on frames can be.
 use mathlib.Core.Bool.{Bool, true, false, cond}
-use mathlib.Core.List.{[], _++_}
+use mathlib.Core.List.{[]}
 use Prim.Native.Nat.{ℕ, _≤_}
 use native.Mathlib.Omega.{arith}
 use lib.Dec.{eqb}
 use lib.ListN.{length, length-append}
 use Rattle.refusal.specs.Refusal.{notTheLineDue, brokenLine}
+use Rattle.text.specs.Text.{ascii}
+use Rattle.text.specs.TextLaws.{decimal-short}
 use Rattle.frame.specs.declared.Borders.{Borders}
 use Rattle.frame.specs.declared.Borders.the-variants.{Unsettled, On, Off}
 use Rattle.tally.specs.declared.News.{News}
 use Rattle.tally.specs.declared.News.the-variants.{Nothing, Complete, Broken, Cut}
-use Rattle.listing.specs.Rows.{decimal, rowRoom}
-use Rattle.listing.specs.RowLaws.{decimal-short}
-use Rattle.listing.specs.Frames.{bordersWord, goodWords, notDueWords, brokenLineWords, closing, reasonWords, completeLine, brokenLineOf, newsLine, summaryLines}
+use Rattle.listing.specs.Rows.{rowRoom}
+use Rattle.listing.specs.Frames.{bordersWord, goodWords, brokenLineWords, reasonWords, completeLine, brokenLineOf, newsLine, summaryLines}
 
 pub borders-short : (b : Borders) → length (bordersWord b) ≤ 9
 borders-short Unsettled = omega arith
@@ -27,7 +28,7 @@ reason-short : (refusal own : ℕ) → length (reasonWords refusal own) ≤ 50
 unfolding reasonWords
 reason-short refusal own = either (eqb refusal notTheLineDue) (eqb refusal brokenLine)
   where
-    either : (a b : Bool) → length (cond a notDueWords (cond b (brokenLineWords ++ (decimal own ++ closing)) [])) ≤ 50
+    either : (a b : Bool) → length (cond a (ascii ", not the line due") (cond b (brokenLineWords own) [])) ≤ 50
     either true b = omega arith
     either false true = simp length-append (omega (arith, decimal-short own))
     either false false = omega arith

@@ -1,44 +1,19 @@
--- The digits of a number one at a time, and how long the parts of a row can be.
+-- How long the parts of a row can be.
 use mathlib.Core.Path.{_≡_, refl}
 use mathlib.Core.Bool.{Bool, true, false, cond}
-use mathlib.Core.List.{List, [], _∷_, _++_}
-use Prim.Native.Nat.{ℕ, zero, suc, _+_, _-_, _/_, _%_, _<_, _≤_}
+use mathlib.Core.List.{List, []}
+use Prim.Native.Nat.{ℕ, _≤_}
 use native.Mathlib.Omega.{arith}
 use lib.Dec.{ltb}
 use lib.ListN.{length, length-append}
-use borrow.Author.Tests.{lt-ltb, le-ltb}
+use Rattle.text.specs.TextLaws.{decimal-short}
 use Rattle.line_code.specs.declared.Kind.{Kind}
 use Rattle.line_code.specs.declared.Kind.the-variants.{BL, BK, VL, SOF, EOF}
 use Rattle.stream.specs.declared.LineFacts.{LineFacts}
 use Rattle.stream.specs.declared.Answer.{Answer}
 use Rattle.stream.specs.declared.Answer.the-variants.{Nothing, Line, Gap, Refused}
 use Rattle.stream.specs.Answers.{eitherRepaired}
-use Rattle.listing.specs.Rows.{digit, digits, decimal, kindWord, noteWord, lineWords, refusedWords, rowOf, rowRoom, ifRoom}
-
-pub no-digits : (k n : ℕ) → k ≡ 0 → digits k n ≡ []
-no-digits k n e = simp e
-
-pub last-digit : (k n : ℕ) → (k ≡ 0 → ⊥) → n < 10 → digits k n ≡ digit n ∷ []
-last-digit zero n h l = absurd (h refl)
-last-digit (suc k) n h l = simp (lt-ltb n 10 l)
-
-pub more-digits : (k n : ℕ) → (k ≡ 0 → ⊥) → 10 ≤ n → digits k n ≡ digits (k - 1) (n / 10) ++ (digit (n % 10) ∷ [])
-more-digits zero n h l = absurd (h refl)
-more-digits (suc k) n h l =
-    let e : suc k - 1 ≡ k = omega arith in
-    simp (le-ltb n 10 l, e)
-
-pub digits-short : (k n : ℕ) → length (digits k n) ≤ k
-digits-short zero n = omega arith
-digits-short (suc k) n = either (ltb n 10) (digits-short k (n / 10))
-  where
-    either : (b : Bool) → length (digits k (n / 10)) ≤ k → length (cond b (digit n ∷ []) (digits k (n / 10) ++ (digit (n % 10) ∷ []))) ≤ suc k
-    either true h = omega arith
-    either false h = simp length-append (omega arith)
-
-pub decimal-short : (n : ℕ) → length (decimal n) ≤ 20
-unfolding decimal
-decimal-short n = digits-short 20 n
+use Rattle.listing.specs.Rows.{kindWord, noteWord, lineWords, refusedWords, rowOf, rowRoom, ifRoom}
 
 pub kind-short : (k : Kind) → length (kindWord k) ≤ 3
 kind-short BL = omega arith

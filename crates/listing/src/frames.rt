@@ -2,9 +2,8 @@
 ghost use mathlib.Core.Path.{_≡_};
 ghost use Prim.Native.Nat.{_+_, _≤_};
 ghost use lib.ListN.{length};
-ghost use mathlib.Core.List.{_++_};
-ghost use Rattle.listing.specs.Rows.{decimal, ifRoom, onFront, rowRoom};
-ghost use Rattle.listing.specs.Frames.{frameWords, bordersWord, goodWords, brokenLineWords, closing, reasonWords, completeLine, brokenLineOf, newsLine, summaryLines};
+ghost use Rattle.listing.specs.Rows.{ifRoom, onFront, rowRoom};
+ghost use Rattle.listing.specs.Frames.{frameWords, bordersWord, goodWords, brokenLineWords, reasonWords, completeLine, brokenLineOf, newsLine, summaryLines};
 ghost use Rattle.listing.specs.Put.{Put};
 use super::ROW;
 use super::put;
@@ -108,7 +107,7 @@ fn put_reason(refusal: u8, own: u8, out: &mut [u8], at: usize) -> usize
 
 fn put_broken_line(own: u8, out: &mut [u8], at: usize) -> usize
     requires { ⌜ at + 50 ≤ length (now out) ⌝ }
-    ensures { λ r. ⌜ Put (now (out .entry)) at (brokenLineWords ++ (decimal own ++ closing)) r (now (out .exit)) ⌝ }
+    ensures { λ r. ⌜ Put (now (out .entry)) at (brokenLineWords own) r (now (out .exit)) ⌝ }
 {
     let at = put(b", a broken line (its answer: ", out, at);
     let at = put_decimal(own as u64, out, at);

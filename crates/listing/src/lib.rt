@@ -6,7 +6,8 @@ ghost use mathlib.Core.Path.{_≡_};
 ghost use mathlib.Core.List.{_∷_, []};
 ghost use Prim.Native.Nat.{_+_, _<_, _≤_};
 ghost use lib.ListN.{length};
-ghost use Rattle.listing.specs.Rows.{headerRow, kindWord, noteWord, gapWords, digit, digits, decimal, lineWords, refusedWords, rowWith, rowOf, rowRoom, ifRoom, onFront};
+ghost use Rattle.text.specs.Text.{digit, digits, decimal};
+ghost use Rattle.listing.specs.Rows.{headerRow, kindWord, noteWord, gapWords, lineWords, refusedWords, rowWith, rowOf, rowRoom, ifRoom, onFront};
 ghost use Rattle.listing.specs.Put.{Put};
 
 pub mod frames;

@@ -2,9 +2,10 @@
 use mathlib.Core.Path.{_≡_}
 use mathlib.Core.Bool.{Bool, true, false, _&&_, cond}
 use mathlib.Core.List.{List, [], _∷_, _++_}
-use Prim.Native.Nat.{ℕ, _+_, _*_, _/_, _%_}
+use Prim.Native.Nat.{ℕ, _*_}
 use lib.Dec.{eqb}
 use lib.ListN.{length, drop}
+use Rattle.text.specs.Text.{ascii, space, newline, decimal}
 use Rattle.refusal.specs.Refusal.{badHeader, wrongPictureLength, badPixel}
 use Rattle.profile.specs.declared.Profile.the-variants.{VV5404}
 use Rattle.profile.specs.Profile.{bodyLength}
@@ -30,23 +31,9 @@ size b = height b * width
 abbrev pub maxval : ℕ
 maxval = 255
 
--- a number's last decimal digit, as a character
-abbrev pub digit : ℕ → ℕ
-digit n = 0x30 + n % 10
-
--- a number in three decimal digits
-abbrev pub decimal : ℕ → List ℕ
-decimal n = digit (n / 100) ∷ digit (n / 10) ∷ digit n ∷ []
-
-abbrev pub space : ℕ
-space = 0x20
-
-abbrev pub newline : ℕ
-newline = 0x0A
-
--- P5, newline, width and height, newline, 255, newline
+-- the format's name, width and height, the greatest value, each line with its newline
 unfoldable pub header : Borders → List ℕ
-header b = 0x50 ∷ 0x35 ∷ newline ∷ (decimal width ++ (space ∷ (decimal (height b) ++ (newline ∷ (decimal maxval ++ (newline ∷ []))))))
+header b = ascii "P5\n" ++ (decimal width ++ (space ∷ (decimal (height b) ++ (newline ∷ (decimal maxval ++ (newline ∷ []))))))
 
 abbrev pub headerLength : ℕ
 headerLength = 15

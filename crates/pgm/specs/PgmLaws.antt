@@ -3,7 +3,7 @@
 use mathlib.Core.Path.{_≡_, refl, sym, ap, _∙_}
 use mathlib.Core.Bool.{Bool, true, false, _&&_, cond, true≢false, and-false}
 use mathlib.Core.List.{List, [], _∷_, _++_}
-use Prim.Native.Nat.{ℕ, _+_, _<_, _≤_}
+use Prim.Native.Nat.{ℕ, _+_, _/_, _%_, _<_, _≤_}
 use native.Mathlib.Nat.{not-suc-le-zero, le-of-suc-le-suc}
 use native.Mathlib.Omega.{arith}
 use borrow.Author.Tests.{eqb-true, eq-eqb}
@@ -11,6 +11,7 @@ use lib.Dec.{eqb, lit≤}
 use lib.ListN.{length, drop, length-append, length-take}
 use lib.Seq.{drop-at}
 use Rattle.bits.specs.Every.{and-left, and-right}
+use Rattle.text.specs.Text.{ascii, space, newline, digit, decimal}
 use Rattle.refusal.specs.Refusal.{badHeader, wrongPictureLength}
 use Rattle.lent_buffer.specs.declared.Filled.{Filled}
 use Rattle.lent_buffer.specs.declared.Filled.the-variants as filled
@@ -18,22 +19,31 @@ use Rattle.lent_buffer.specs.Filled.{Output, used, refused, outputOf, Gives, re
 use Rattle.lent_buffer.specs.FilledLaws.{fitted-used, passed, used-fitted}
 use Rattle.pgm.specs.declared.Borders.{Borders}
 use Rattle.pgm.specs.declared.Borders.the-variants.{On, Off}
-use Rattle.pgm.specs.Pgm.{height, size, header, headerLength, imageOf, pixels, Picture, starts, either, writeAs, writeOf, readAs, readOf}
+use Rattle.pgm.specs.Pgm.{width, height, size, maxval, header, headerLength, imageOf, pixels, Picture, starts, either, writeAs, writeOf, readAs, readOf}
 
 -- The header.
 
--- `P5`, newline, `356 292`, newline, `255`, newline
-pub header-on : header On ≡ 0x50 ∷ 0x35 ∷ 0x0A ∷ 0x33 ∷ 0x35 ∷ 0x36 ∷ 0x20 ∷ 0x32 ∷ 0x39 ∷ 0x32 ∷ 0x0A ∷ 0x32 ∷ 0x35 ∷ 0x35 ∷ 0x0A ∷ []
-unfolding header
+pub header-on : header On ≡ ascii "P5\n356 292\n255\n"
+unfolding header decimal
 header-on = refl
 
--- `P5`, newline, `356 288`, newline, `255`, newline
-pub header-off : header Off ≡ 0x50 ∷ 0x35 ∷ 0x0A ∷ 0x33 ∷ 0x35 ∷ 0x36 ∷ 0x20 ∷ 0x32 ∷ 0x38 ∷ 0x38 ∷ 0x0A ∷ 0x32 ∷ 0x35 ∷ 0x35 ∷ 0x0A ∷ []
-unfolding header
+pub header-off : header Off ≡ ascii "P5\n356 288\n255\n"
+unfolding header decimal
 header-off = refl
 
+-- a number in three decimal digits
+abbrev pub threeDigits : ℕ → List ℕ
+threeDigits n = digit (n / 100 % 10) ∷ digit (n / 10 % 10) ∷ digit (n % 10) ∷ []
+
+-- each of its numbers has three digits
+pub header-digits : (b : Borders)
+    → header b ≡ ascii "P5\n" ++ (threeDigits width ++ (space ∷ (threeDigits (height b) ++ (newline ∷ (threeDigits maxval ++ (newline ∷ []))))))
+unfolding header decimal
+header-digits On = refl
+header-digits Off = refl
+
 pub header-length : (b : Borders) → length (header b) ≡ headerLength
-unfolding header
+unfolding header decimal
 header-length On = refl
 header-length Off = refl
 
@@ -72,7 +82,7 @@ size-tells then n On m e = simp e
 size-tells then n Off m e = simp e
 
 header-tells : (then : Borders → Output) (n : ℕ) (b : Borders) (rows : List ℕ) → either (λ x. starts (header x) (imageOf b rows)) then n ≡ then b
-unfolding either header
+unfolding either header decimal
 header-tells then n On rows = refl
 header-tells then n Off rows = refl
 

@@ -5,10 +5,11 @@
 // `write` makes the file of rows, `read` the rows of a file; each into a lent buffer, and the answer is the length used. Refused, in this
 // order, and then nothing is written: 20 header (reading only), 21 length of rows or file, 22 pixel not 01 to FE, 12 room. Cost: linear.
 ghost use mathlib.Core.Path.{_≡_};
-ghost use Prim.Native.Nat.{_≤_};
+ghost use Prim.Native.Nat.{_≤_, _%_};
 ghost use lib.ListN.{length};
+ghost use Rattle.text.specs.Text.{digit};
 ghost use Rattle.lent_buffer.specs.Filled.{Gives};
-ghost use Rattle.pgm.specs.Pgm.{height, size, digit, header, headerLength, pixels, starts, writeAs, writeOf, readAs, readOf};
+ghost use Rattle.pgm.specs.Pgm.{height, size, header, headerLength, pixels, starts, writeAs, writeOf, readAs, readOf};
 use lent_buffer::Filled;
 use profile::Profile;
 
@@ -127,7 +128,7 @@ impl Borders {
 
 // The last decimal digit of a number, as a character.
 fn digit(n: usize) -> u8
-    ensures { λ r. ⌜ r ≡ digit n ⌝ }
+    ensures { λ r. ⌜ r ≡ digit (n % 10) ⌝ }
 {
     b'0' + (n % 10) as u8
 }

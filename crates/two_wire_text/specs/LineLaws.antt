@@ -4,29 +4,29 @@ use mathlib.Core.Bool.{Bool, true, false, cond}
 use mathlib.Core.List.{List, [], _∷_, _++_}
 use Prim.Native.Nat.{ℕ, suc, _+_, _-_, _/_, _<_, _≤_}
 use native.Mathlib.Omega.{arith}
-use lib.Dec.{eqb, leb, ltb}
+use borrow.Author.Tests.{leb-false}
+use lib.Dec.{eqb, leb}
 use lib.ListN.{length, getD, drop, length-append, length-drop}
 use lib.Seq.{length-sets}
+use Rattle.text.specs.Text.{ascii, space, newline, decimal}
+use Rattle.text.specs.TextLaws.{decimal-short, three-digits}
 use Rattle.refusal.specs.Refusal.{noRoom}
 use Rattle.two_wire.specs.declared.Sensor.{Sensor}
 use Rattle.two_wire.specs.Messages.{writeAddress, indexIn, Outcome, accepted, refused, messageOn}
 use Rattle.two_wire_text.specs.declared.Told.{Told}
 use Rattle.two_wire_text.specs.declared.Setting.{Setting}
 use Rattle.two_wire_text.specs.declared.Setting.the-variants.{Single, Double, Unknown}
-use Rattle.two_wire_text.specs.Text.{space, newline, decimal, lineLength, isMessage, bytesOf}
-use Rattle.two_wire_text.specs.Lines.{longest, writeWord, readWord, okWord, unknownText, directionWord, acceptedText, refusedText, outcomeText, messageText, settingOf, textBy, textOf, Tells}
+use Rattle.two_wire_text.specs.Text.{lineLength, isMessage, bytesOf}
+use Rattle.two_wire_text.specs.TextLaws.{bytes-length}
+use Rattle.two_wire_text.specs.Lines.{longest, unknownText, directionWord, acceptedText, refusedText, outcomeText, messageText, settingOf, textBy, textOf, Tells}
 
 shorter : (t : Bool) (v w : List ℕ) (n : ℕ) → length v ≤ n → length w ≤ n → length (cond t v w) ≤ n
 shorter true v w n h g = h
 shorter false v w n h g = g
 
-pub decimal-short : (n : ℕ) → length (decimal n) ≤ 3
-unfolding decimal
-decimal-short n = shorter (ltb n 10) _ _ 3 (omega arith) (shorter (ltb n 100) _ _ 3 (omega arith) (omega arith))
-
 pub direction-short : (address : ℕ) → length (directionWord address) ≤ 6
 unfolding directionWord
-direction-short address = shorter (eqb address writeAddress) writeWord readWord 6 (omega arith) (omega arith)
+direction-short address = shorter (eqb address writeAddress) _ _ 6 (omega arith) (omega arith)
 
 pub accepted-short : (bytes : List ℕ) → length bytes < 2 → acceptedText bytes ≡ unknownText
 unfolding acceptedText
@@ -36,7 +36,7 @@ accepted-short (a ∷ b ∷ bytes) h = absurd (omega arith)
 
 pub accepted-parts : (bytes : List ℕ) → 2 ≤ length bytes
     → acceptedText bytes
-    ≡ directionWord (getD bytes 0 0) ++ (decimal (indexIn (getD bytes 1 0)) ++ (space ∷ (decimal (length bytes - 2) ++ okWord)))
+    ≡ directionWord (getD bytes 0 0) ++ (decimal (indexIn (getD bytes 1 0)) ++ (space ∷ (decimal (length bytes - 2) ++ ascii " ok\n")))
 unfolding acceptedText
 accepted-parts [] h = absurd (omega arith)
 accepted-parts (a ∷ []) h = absurd (omega arith)
@@ -48,21 +48,25 @@ refused-short : (n : ℕ) → length (refusedText n) ≤ 32
 unfolding refusedText
 refused-short n = simp (length-append) (omega (arith, decimal-short n))
 
-accepted-room : (bytes : List ℕ) → length (acceptedText bytes) ≤ 32
+accepted-room : (bytes : List ℕ) → length bytes ≤ longest → length (acceptedText bytes) ≤ 32
 unfolding acceptedText
-accepted-room [] = omega arith
-accepted-room (a ∷ []) = omega arith
-accepted-room (a ∷ b ∷ bytes) =
-    simp (length-append) (omega (arith, direction-short a, decimal-short (indexIn b), decimal-short (length bytes)))
+accepted-room [] h = omega arith
+accepted-room (a ∷ []) h = omega arith
+accepted-room (a ∷ b ∷ bytes) h =
+    simp (length-append)
+    (omega (arith, direction-short a, three-digits (indexIn b) (omega arith), three-digits (length bytes) (omega arith)))
 
-outcome-short : (o : Outcome) (bytes : List ℕ) → length (outcomeText o bytes) ≤ 32
-outcome-short (accepted s) bytes = accepted-room bytes
-outcome-short (refused n) bytes = refused-short n
+outcome-short : (o : Outcome) (bytes : List ℕ) → length bytes ≤ longest → length (outcomeText o bytes) ≤ 32
+outcome-short (accepted s) bytes h = accepted-room bytes h
+outcome-short (refused n) bytes h = refused-short n
 
 message-short : (s : Sensor) (line : List ℕ) → length (messageText s line) ≤ 32
 unfolding messageText
-message-short s line =
-    shorter (leb longest (length line / 3)) _ _ 32 (refused-short noRoom) (outcome-short (messageOn s (bytesOf line)) (bytesOf line))
+message-short s line = either (leb longest (length line / 3)) refl
+  where
+    either : (t : Bool) → leb longest (length line / 3) ≡ t → length (cond t (refusedText noRoom) (outcomeText (messageOn s (bytesOf line)) (bytesOf line))) ≤ 32
+    either true e = refused-short noRoom
+    either false e = outcome-short (messageOn s (bytesOf line)) (bytesOf line) (omega (arith, leb-false longest (length line / 3) e, bytes-length line))
 
 by-short : (asked : Setting) (s : Sensor) (line : List ℕ) → length (textBy asked s line) ≤ 32
 unfolding textBy

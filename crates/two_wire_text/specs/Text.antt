@@ -1,24 +1,12 @@
--- Bytes in hex, numbers in decimal, and lines of them, in ASCII.
+-- Messages in hex, numbers in decimal, and lines of them.
 use mathlib.Core.Bool.{Bool, true, false, _&&_, cond}
 use mathlib.Core.List.{List, [], _∷_, _++_}
-use Prim.Native.Nat.{ℕ, suc, _+_, _-_, _*_, _/_, _%_}
+use Prim.Native.Nat.{ℕ, suc, _+_, _-_, _*_, _%_}
 use lib.Dec.{eqb, leb, ltb}
 use lib.ListN.{length}
-
-abbrev pub space : ℕ
-space = 0x20
-
-abbrev pub newline : ℕ
-newline = 0x0A
+use Rattle.text.specs.Text.{space, newline, hexByte}
 
 -- ---- written
-
--- the digit of a number below 16: 0 to 9, a to f
-unfoldable pub hexDigit : ℕ → ℕ
-hexDigit n = cond (ltb n 10) (0x30 + n) (0x57 + n)
-
-abbrev pub hexByte : ℕ → List ℕ
-hexByte b = hexDigit (b / 16) ∷ hexDigit (b % 16) ∷ []
 
 -- a message: its bytes, one space between two
 abbrev pub hexBytes : List ℕ → List ℕ
@@ -34,17 +22,6 @@ allBytes (b ∷ bytes) = ltb b 256 && allBytes bytes
 -- on a line of its own
 abbrev pub hexText : List ℕ → List ℕ
 hexText bytes = hexBytes bytes ++ (newline ∷ [])
-
--- the digit of a number below 10
-abbrev pub decimalDigit : ℕ → ℕ
-decimalDigit n = 0x30 + n
-
--- a number below 1,000, in as few digits as hold it
-unfoldable pub decimal : ℕ → List ℕ
-decimal n =
-    cond (ltb n 10) (decimalDigit n ∷ [])
-    (cond (ltb n 100) (decimalDigit (n / 10) ∷ decimalDigit (n % 10) ∷ [])
-    (decimalDigit (n / 100) ∷ decimalDigit (n / 10 % 10) ∷ decimalDigit (n % 10) ∷ []))
 
 -- ---- read
 

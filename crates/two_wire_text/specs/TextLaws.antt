@@ -10,7 +10,8 @@ use lib.Dec.{eqb, ltb}
 use lib.ListN.{length, drop, getD, set, length-drop, drop-of-length-le}
 use lib.Seq.{drop-cons, drop-drop, sets}
 use Rattle.bits.specs.Every.{and-left, and-right, each}
-use Rattle.two_wire_text.specs.Text.{space, newline, hexDigit, hexBytes, allBytes, digitOf, charFits, charsFit, isMessage, byteOf, bytesOf, startsWith, digitOnto, digitsOnto, numberIn, lineLength}
+use Rattle.text.specs.Text.{space, newline, hexDigit}
+use Rattle.two_wire_text.specs.Text.{hexBytes, allBytes, digitOf, charFits, charsFit, isMessage, byteOf, bytesOf, startsWith, digitOnto, digitsOnto, numberIn, lineLength}
 
 -- ---- words
 

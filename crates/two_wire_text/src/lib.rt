@@ -12,9 +12,10 @@ ghost use mathlib.Core.List.{_∷_, [], _++_};
 ghost use Prim.Native.Nat.{_+_, _/_, _≤_, _<_};
 ghost use lib.ListN.{length, drop};
 ghost use lib.Seq.{sets};
+ghost use Rattle.text.specs.Text.{hexDigit, hexByte, digit, decimal};
 ghost use Rattle.two_wire.specs.Messages.{sensorAfter, messageOn};
 ghost use Rattle.two_wire.specs.Writing.{message};
-ghost use Rattle.two_wire_text.specs.Text.{hexDigit, hexByte, hexText, decimalDigit, decimal, digitOf, charFits, isMessage, byteOf, bytesOf, startsWith, digitOnto, numberIn, lineLength};
+ghost use Rattle.two_wire_text.specs.Text.{hexText, digitOf, charFits, isMessage, byteOf, bytesOf, startsWith, digitOnto, numberIn, lineLength};
 ghost use Rattle.two_wire_text.specs.Lines.{single, double, setupSetting, settingOf, directionWord, acceptedText, refusedText, outcomeText, messageText, messageSensor, textBy, sensorBy, textOf, sensorOf, Tells};
 ghost use Rattle.two_wire_text.specs.Put.{Put};
 ghost use Rattle.two_wire_text.specs.declared.Setting.the-variants.{Unknown};
@@ -400,7 +401,7 @@ fn put_decimal(n: usize, at: usize, out: &mut [u8; 32]) -> usize
 
 fn put_digit(n: usize, at: usize, out: &mut [u8; 32]) -> usize
     requires { ⌜ (n < 10) × (at < 32) ⌝ }
-    ensures { λ r. ⌜ Put (decimalDigit n ∷ []) (now (out .entry)) at r (now (out .exit)) ⌝ }
+    ensures { λ r. ⌜ Put (digit n ∷ []) (now (out .entry)) at r (now (out .exit)) ⌝ }
 {
     out[at] = b'0' + n as u8;
     at + 1

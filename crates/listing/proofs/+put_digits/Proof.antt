@@ -6,7 +6,7 @@ use borrow.Fn.Kinds.{In}
 use borrow.Fn.PlainCycle.{Measures, is, falls, and}
 use Rattle.listing.specs.Put.{Put}
 use Rattle.listing.specs.PutLaws.{none, joined}
-use Rattle.listing.specs.RowLaws.{no-digits, last-digit, more-digits, digits-short}
+use Rattle.text.specs.TextLaws.{no-digits, last-digit, more-digits, digits-short}
 use Rattle.listing.proofs.put_digits.Reads as put-digits
 use Rattle.listing.proofs.put_digits.Kinds as put-digits-kinds
 use Rattle.listing.proofs.+put_digits.Lts-put_digits as put-digits-lts

@@ -1,7 +1,7 @@
 use native.Mathlib.Omega.{arith}
 use borrow.Author.Needs.{needs}
 use Rattle.listing.specs.PutLaws.{joined}
-use Rattle.listing.specs.RowLaws.{decimal-short}
+use Rattle.text.specs.TextLaws.{decimal-short}
 use Rattle.listing.proofs.gap_row.Statement.{statement}
 use Rattle.listing.proofs.gap_row.Tie as tie
 

@@ -1,7 +1,8 @@
 use native.Mathlib.Omega.{arith}
 use borrow.Author.Needs.{needs}
 use Rattle.listing.specs.PutLaws.{joined}
-use Rattle.listing.specs.RowLaws.{decimal-short, line-short}
+use Rattle.text.specs.TextLaws.{decimal-short}
+use Rattle.listing.specs.RowLaws.{line-short}
 use Rattle.listing.proofs.line_row.Statement.{statement}
 use Rattle.listing.proofs.line_row.Tie as tie
 

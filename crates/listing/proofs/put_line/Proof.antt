@@ -2,7 +2,8 @@ use native.Mathlib.Omega.{arith}
 use borrow.Author.Needs.{needs}
 use Rattle.listing.specs.Rows.{lineWords}
 use Rattle.listing.specs.PutLaws.{joined}
-use Rattle.listing.specs.RowLaws.{kind-short, decimal-short}
+use Rattle.text.specs.TextLaws.{decimal-short}
+use Rattle.listing.specs.RowLaws.{kind-short}
 use Rattle.listing.proofs.put_line.Statement.{statement}
 use Rattle.listing.proofs.put_line.Tie as tie
 

@@ -2,7 +2,7 @@ use native.Mathlib.Omega.{arith}
 use borrow.Author.Needs.{needs}
 use Rattle.listing.specs.Rows.{refusedWords}
 use Rattle.listing.specs.PutLaws.{joined}
-use Rattle.listing.specs.RowLaws.{decimal-short}
+use Rattle.text.specs.TextLaws.{decimal-short}
 use Rattle.listing.proofs.refused_row.Statement.{statement}
 use Rattle.listing.proofs.refused_row.Tie as tie
 

@@ -1,5 +1,5 @@
 use borrow.Author.Tests.{lt-ltb, le-ltb}
-use Rattle.two_wire_text.specs.Text.{hexDigit}
+use Rattle.text.specs.Text.{hexDigit}
 use borrow.Author.Needs.{needs}
 use Rattle.two_wire_text.proofs.hex_digit.Statement.{statement}
 use Rattle.two_wire_text.proofs.hex_digit.Tie as tie

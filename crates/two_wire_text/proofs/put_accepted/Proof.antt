@@ -1,7 +1,8 @@
 use native.Mathlib.Omega.{arith}
 use Prim.Native.Nat.{_%_, _-_}
 use lib.ListN.{getD, length}
-use Rattle.two_wire_text.specs.LineLaws.{decimal-short, direction-short, accepted-short, accepted-parts}
+use Rattle.text.specs.TextLaws.{three-digits}
+use Rattle.two_wire_text.specs.LineLaws.{direction-short, accepted-short, accepted-parts}
 use Rattle.two_wire_text.specs.Put.{then}
 use borrow.Author.Needs.{needs}
 use Rattle.two_wire_text.proofs.put_accepted.Statement.{statement}
@@ -15,15 +16,15 @@ put-decimal-requires c κs = omega (arith, direction-short (getD (c .before .bef
 
 put-requires-2 : tie.Need-put-requires-2
 put-requires-2 c κs = let bytes = c .before .before .before .before .before .before .before .before .before .before .args .bytes .now in
-    omega (arith, direction-short (getD bytes 0 0), decimal-short (getD bytes 1 0 % 128))
+    omega (arith, direction-short (getD bytes 0 0), three-digits (getD bytes 1 0 % 128) (omega arith))
 
 put-decimal-requires-2 : tie.Need-put-decimal-requires-2
 put-decimal-requires-2 c κs = let bytes = c .before .before .before .before .before .before .before .before .before .before .before .before .args .bytes .now in
-    omega (arith, direction-short (getD bytes 0 0), decimal-short (getD bytes 1 0 % 128))
+    omega (arith, direction-short (getD bytes 0 0), three-digits (getD bytes 1 0 % 128) (omega arith))
 
 put-requires-3 : tie.Need-put-requires-3
 put-requires-3 c κs = let bytes = c .before .before .before .before .before .before .before .before .before .before .before .before .before .before .before .args .bytes .now in
-    omega (arith, direction-short (getD bytes 0 0), decimal-short (getD bytes 1 0 % 128), decimal-short (length bytes - 2))
+    omega (arith, direction-short (getD bytes 0 0), three-digits (getD bytes 1 0 % 128) (omega arith), three-digits (length bytes - 2) (omega arith))
 
 returns-2 : tie.Need-returns-2
 returns-2 c = simp (accepted-parts (c .before .before .before .before .before .before .before .before .before .before .before .before .before .before .before .before .args .bytes .now) (c .before .before .before .before .before .before .before .before .before .before .before .before .before .before .if1 .left)) (then (c .before .before .before .before .before .before .before .before .before .before .before .put-direction .ensures) (then (c .before .before .before .before .before .before .before .before .put-decimal .ensures) (then (c .before .before .before .before .before .put2 .ensures) (then (c .before .before .before .put-decimal2 .ensures) (c .put3 .ensures)))))

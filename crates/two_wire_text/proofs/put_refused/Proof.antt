@@ -1,6 +1,6 @@
 use native.Mathlib.Omega.{arith}
 use Rattle.two_wire_text.specs.Lines.{refusedText}
-use Rattle.two_wire_text.specs.LineLaws.{decimal-short}
+use Rattle.text.specs.TextLaws.{decimal-short}
 use Rattle.two_wire_text.specs.Put.{then}
 use borrow.Author.Needs.{needs}
 use Rattle.two_wire_text.proofs.put_refused.Statement.{statement}

@@ -1,6 +1,6 @@
 use native.Mathlib.Omega.{arith}
 use Rattle.listing.specs.PutLaws.{joined}
-use Rattle.listing.specs.RowLaws.{decimal-short}
+use Rattle.text.specs.TextLaws.{decimal-short}
 use Rattle.listing.specs.Frames.{brokenLineOf}
 use borrow.Author.Needs.{needs}
 use Rattle.listing.proofs.frames.put_broken.Statement.{statement}

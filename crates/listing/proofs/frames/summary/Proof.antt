@@ -3,7 +3,7 @@ use native.Mathlib.Omega.{arith}
 use borrow.Author.Tests.{lt-ltb, le-ltb}
 use Rattle.listing.specs.Rows.{ifRoom}
 use Rattle.listing.specs.PutLaws.{joined, on-front}
-use Rattle.listing.specs.RowLaws.{decimal-short}
+use Rattle.text.specs.TextLaws.{decimal-short}
 use Rattle.listing.specs.Frames.{summaryLines}
 use borrow.Author.Needs.{needs}
 use Rattle.listing.proofs.frames.summary.Statement.{statement}
