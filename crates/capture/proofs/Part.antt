@@ -6,9 +6,9 @@ use native.Mathlib.Omega.{arith}
 use lib.ListN.{length, take, drop, length-drop, drop-of-length-le}
 use lib.Seq.{take-all}
 use borrow.Author.Tests.{le-ltb}
-use Rattle.listing.specs.Rows.{ifRoom, rowRoom, onFront}
-use Rattle.listing.specs.Put.{Put}
-use Rattle.listing.specs.PutLaws.{in-rest}
+use Rattle.listing.specs.Rows.{ifRoom, rowRoom}
+use Rattle.text.specs.Put.{Put, onFront}
+use Rattle.text.specs.PutLaws.{in-rest}
 
 pub part-put :
     (d t last : List ℕ) (at r : ℕ)

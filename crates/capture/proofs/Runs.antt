@@ -20,8 +20,8 @@ use Rattle.tally.specs.declared.Tally.{Tally}
 use Rattle.tally.specs.declared.Told.{Told}
 use Rattle.tally.specs.Tally.{takeOf}
 use Rattle.listing.specs.Rows.{rowRoom, rowOf}
-use Rattle.listing.specs.Put.{Put}
-use Rattle.listing.specs.PutLaws.{none, joined}
+use Rattle.text.specs.Put.{Put}
+use Rattle.text.specs.PutLaws.{none, joined}
 use Rattle.listing.specs.Frames.{newsLine}
 use Rattle.capture.specs.declared.Mode.{Mode}
 use Rattle.capture.specs.declared.Mode.the-variants.{Rows, Frames}

@@ -11,9 +11,9 @@ use borrow.Author.Tests.{lt-ltb, le-ltb}
 use Rattle.stream.specs.Written.{nibbles}
 use Rattle.reader.specs.Reader.{passes}
 use Rattle.reader_laws.specs.Passing.{Ok}
-use Rattle.listing.specs.Rows.{rowRoom, onFront}
-use Rattle.listing.specs.Put.{Put}
-use Rattle.listing.specs.PutLaws.{none, joined, on-front}
+use Rattle.listing.specs.Rows.{rowRoom}
+use Rattle.text.specs.Put.{Put, onFront}
+use Rattle.text.specs.PutLaws.{none, joined, on-front}
 use Rattle.capture.specs.declared.Lister.{Lister}
 use Rattle.capture.specs.Listed.{answerTo, afterNibble, nibbleText, listAfter, listText, takenFrom, listedText, listedOf}
 use Rattle.capture.specs.ListedLaws.{text-short}

@@ -6,7 +6,7 @@ use Rattle.reader.specs.declared.Head.{Head}
 use Rattle.reader_laws.specs.Passing.{Ok}
 use Rattle.tally.specs.declared.Tally.{Tally}
 use Rattle.listing.specs.Rows.{rowRoom}
-use Rattle.listing.specs.Put.{Put}
+use Rattle.text.specs.Put.{Put}
 use Rattle.capture.specs.declared.Mode.{Mode}
 use Rattle.capture.specs.declared.Lister.{Lister}
 use Rattle.capture.specs.Listed.{listAfter, listText}

@@ -15,7 +15,7 @@ use Rattle.tally.specs.declared.News.the-variants.{Nothing, Complete, Broken, C
 use Rattle.listing.specs.Rows.{rowRoom}
 use Rattle.listing.specs.Frames.{bordersWord, goodWords, brokenLineWords, reasonWords, completeLine, brokenLineOf, newsLine, summaryLines}
 
-pub borders-short : (b : Borders) → length (bordersWord b) ≤ 9
+borders-short : (b : Borders) → length (bordersWord b) ≤ 9
 borders-short Unsettled = omega arith
 borders-short On = omega arith
 borders-short Off = omega arith
@@ -33,11 +33,11 @@ reason-short refusal own = either (eqb refusal notTheLineDue) (eqb refusal broke
     either false true = simp length-append (omega (arith, decimal-short own))
     either false false = omega arith
 
-pub complete-short : (frame : ℕ) (b : Borders) (mark : ℕ) → length (completeLine frame b mark) ≤ 94
+complete-short : (frame : ℕ) (b : Borders) (mark : ℕ) → length (completeLine frame b mark) ≤ 94
 unfolding completeLine
 complete-short frame b mark = simp length-append (omega (arith, decimal-short frame, borders-short b, decimal-short mark))
 
-pub broken-short : (frame mark refusal own : ℕ) → length (brokenLineOf frame mark refusal own) ≤ 134
+broken-short : (frame mark refusal own : ℕ) → length (brokenLineOf frame mark refusal own) ≤ 134
 unfolding brokenLineOf
 broken-short frame mark refusal own =
     simp length-append (omega (arith, decimal-short frame, decimal-short mark, decimal-short refusal, reason-short refusal own))

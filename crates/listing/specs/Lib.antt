@@ -1,6 +1,4 @@
 pub mod Rows
 pub mod RowLaws
-pub mod Put
-pub mod PutLaws
 pub mod Frames
 pub mod FramesLaws

@@ -15,18 +15,18 @@ use Rattle.stream.specs.declared.Answer.the-variants.{Nothing, Line, Gap, Refus
 use Rattle.stream.specs.Answers.{eitherRepaired}
 use Rattle.listing.specs.Rows.{kindWord, noteWord, lineWords, refusedWords, rowOf, rowRoom, ifRoom}
 
-pub kind-short : (k : Kind) → length (kindWord k) ≤ 3
+kind-short : (k : Kind) → length (kindWord k) ≤ 3
 kind-short BL = omega arith
 kind-short BK = omega arith
 kind-short VL = omega arith
 kind-short SOF = omega arith
 kind-short EOF = omega arith
 
-pub note-short : (r : Bool) → length (noteWord r) ≤ 8
+note-short : (r : Bool) → length (noteWord r) ≤ 8
 note-short true = omega arith
 note-short false = omega arith
 
-pub line-short : (f : LineFacts) → length (lineWords f) ≤ 33
+line-short : (f : LineFacts) → length (lineWords f) ≤ 33
 unfolding lineWords
 line-short f = simp length-append (omega (arith, kind-short (f .kind), decimal-short (f .number), note-short (eitherRepaired f)))
 

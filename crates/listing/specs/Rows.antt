@@ -3,7 +3,6 @@ use mathlib.Core.Bool.{Bool, cond}
 use mathlib.Core.List.{List, [], _∷_, _++_}
 use Prim.Native.Nat.{ℕ}
 use lib.Dec.{ltb}
-use lib.ListN.{length, drop}
 use Rattle.text.specs.Text.{ascii, space, newline, decimal}
 use Rattle.line_code.specs.declared.Kind.{Kind}
 use Rattle.line_code.specs.declared.Kind.the-variants.{BL, BK, VL, SOF, EOF}
@@ -59,7 +58,3 @@ rowRoom = 144
 -- a row where a buffer of so many bytes has room for any; else nothing
 unfoldable pub ifRoom : ℕ → List ℕ → List ℕ
 ifRoom room row = cond (ltb room rowRoom) [] row
-
--- a buffer with a text at its front, and the rest as it was
-abbrev pub onFront : List ℕ → List ℕ → List ℕ
-onFront text buffer = text ++ drop (length text) buffer

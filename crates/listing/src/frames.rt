@@ -1,15 +1,14 @@
 // What is told of the frames of a capture: a line for each that is complete, broken or cut off, and the last two lines.
 ghost use mathlib.Core.Path.{_≡_};
-ghost use Prim.Native.Nat.{_+_, _≤_};
 ghost use lib.ListN.{length};
-ghost use Rattle.listing.specs.Rows.{ifRoom, onFront, rowRoom};
+ghost use Rattle.text.specs.Put.{Puts, onFront};
+ghost use Rattle.listing.specs.Rows.{ifRoom};
 ghost use Rattle.listing.specs.Frames.{frameWords, bordersWord, goodWords, brokenLineWords, reasonWords, completeLine, brokenLineOf, newsLine, summaryLines};
-ghost use Rattle.listing.specs.Put.{Put};
 use super::ROW;
-use super::put;
-use super::put_decimal;
 use frame::Borders;
 use tally::News;
+use text::put;
+use text::put_decimal;
 
 // Puts the line of a frame at the front of a buffer: none where there is no news.
 pub fn news(news: News, out: &mut [u8]) -> usize
@@ -50,8 +49,7 @@ pub fn summary(complete: u64, broken: u64, good: bool, out: &mut [u8]) -> usize
 }
 
 fn put_complete(frame: u64, borders: Borders, mark: u64, out: &mut [u8]) -> usize
-    requires { ⌜ rowRoom ≤ length (now out) ⌝ }
-    ensures { λ r. ⌜ Put (now (out .entry)) 0 (completeLine frame borders mark) r (now (out .exit)) ⌝ }
+    ensures { λ r. ⌜ Puts (now (out .entry)) 0 (completeLine frame borders mark) r (now (out .exit)) ⌝ }
 {
     let at = put_frame(frame, out);
     let at = put(b" complete, borders ", out, at);
@@ -61,8 +59,7 @@ fn put_complete(frame: u64, borders: Borders, mark: u64, out: &mut [u8]) -> usiz
 }
 
 fn put_broken(frame: u64, mark: u64, refusal: u8, own: u8, out: &mut [u8]) -> usize
-    requires { ⌜ rowRoom ≤ length (now out) ⌝ }
-    ensures { λ r. ⌜ Put (now (out .entry)) 0 (brokenLineOf frame mark refusal own) r (now (out .exit)) ⌝ }
+    ensures { λ r. ⌜ Puts (now (out .entry)) 0 (brokenLineOf frame mark refusal own) r (now (out .exit)) ⌝ }
 {
     let at = put_frame(frame, out);
     let at = put(b" broken at mark ", out, at);
@@ -73,16 +70,14 @@ fn put_broken(frame: u64, mark: u64, refusal: u8, own: u8, out: &mut [u8]) -> us
 }
 
 fn put_frame(frame: u64, out: &mut [u8]) -> usize
-    requires { ⌜ rowRoom ≤ length (now out) ⌝ }
-    ensures { λ r. ⌜ Put (now (out .entry)) 0 (frameWords frame) r (now (out .exit)) ⌝ }
+    ensures { λ r. ⌜ Puts (now (out .entry)) 0 (frameWords frame) r (now (out .exit)) ⌝ }
 {
     let at = put(b"frame ", out, 0);
     put_decimal(frame, out, at)
 }
 
 fn put_borders(borders: Borders, out: &mut [u8], at: usize) -> usize
-    requires { ⌜ at + 9 ≤ length (now out) ⌝ }
-    ensures { λ r. ⌜ Put (now (out .entry)) at (bordersWord borders) r (now (out .exit)) ⌝ }
+    ensures { λ r. ⌜ Puts (now (out .entry)) at (bordersWord borders) r (now (out .exit)) ⌝ }
 {
     match borders {
         Borders::Unsettled => put(b"unsettled", out, at),
@@ -93,8 +88,7 @@ fn put_borders(borders: Borders, out: &mut [u8], at: usize) -> usize
 
 // Why a frame broke.
 fn put_reason(refusal: u8, own: u8, out: &mut [u8], at: usize) -> usize
-    requires { ⌜ at + 50 ≤ length (now out) ⌝ }
-    ensures { λ r. ⌜ Put (now (out .entry)) at (reasonWords refusal own) r (now (out .exit)) ⌝ }
+    ensures { λ r. ⌜ Puts (now (out .entry)) at (reasonWords refusal own) r (now (out .exit)) ⌝ }
 {
     if refusal == refusal::NOT_THE_LINE_DUE {
         return put(b", not the line due", out, at);
@@ -106,8 +100,7 @@ fn put_reason(refusal: u8, own: u8, out: &mut [u8], at: usize) -> usize
 }
 
 fn put_broken_line(own: u8, out: &mut [u8], at: usize) -> usize
-    requires { ⌜ at + 50 ≤ length (now out) ⌝ }
-    ensures { λ r. ⌜ Put (now (out .entry)) at (brokenLineWords own) r (now (out .exit)) ⌝ }
+    ensures { λ r. ⌜ Puts (now (out .entry)) at (brokenLineWords own) r (now (out .exit)) ⌝ }
 {
     let at = put(b", a broken line (its answer: ", out, at);
     let at = put_decimal(own as u64, out, at);
@@ -115,8 +108,7 @@ fn put_broken_line(own: u8, out: &mut [u8], at: usize) -> usize
 }
 
 fn put_good(good: bool, out: &mut [u8], at: usize) -> usize
-    requires { ⌜ at + 9 ≤ length (now out) ⌝ }
-    ensures { λ r. ⌜ Put (now (out .entry)) at (goodWords good) r (now (out .exit)) ⌝ }
+    ensures { λ r. ⌜ Puts (now (out .entry)) at (goodWords good) r (now (out .exit)) ⌝ }
 {
     if good {
         return put(b"GOOD\n", out, at);

@@ -3,18 +3,17 @@
 // In: the number of a mark and its answer. Out: the row's bytes at the front of the buffer, and how many they are. Nothing is refused:
 // a buffer of fewer than ROW bytes stays as it was, and the count is 0. Cost: linear in the row.
 ghost use mathlib.Core.Path.{_≡_};
-ghost use mathlib.Core.List.{_∷_, []};
-ghost use Prim.Native.Nat.{_+_, _<_, _≤_};
 ghost use lib.ListN.{length};
-ghost use Rattle.text.specs.Text.{digit, digits, decimal};
-ghost use Rattle.listing.specs.Rows.{headerRow, kindWord, noteWord, gapWords, lineWords, refusedWords, rowWith, rowOf, rowRoom, ifRoom, onFront};
-ghost use Rattle.listing.specs.Put.{Put};
+ghost use Rattle.text.specs.Put.{Puts, onFront};
+ghost use Rattle.listing.specs.Rows.{headerRow, kindWord, noteWord, gapWords, lineWords, refusedWords, rowWith, rowOf, ifRoom};
 
 pub mod frames;
 
 use line_code::Kind;
 use stream::Answer;
 use stream::LineFacts;
+use text::put;
+use text::put_decimal;
 
 // The bytes that no row exceeds, and nothing that is told of frames.
 pub const ROW: usize = 144;
@@ -44,12 +43,8 @@ pub fn row(mark: u64, answer: Answer, out: &mut [u8]) -> usize
     }
 }
 
-// The decimal digits of the greatest u64.
-const PLACES: usize = 20;
-
 fn line_row(mark: u64, facts: LineFacts, out: &mut [u8]) -> usize
-    requires { ⌜ rowRoom ≤ length (now out) ⌝ }
-    ensures { λ r. ⌜ Put (now (out .entry)) 0 (rowWith mark (lineWords facts)) r (now (out .exit)) ⌝ }
+    ensures { λ r. ⌜ Puts (now (out .entry)) 0 (rowWith mark (lineWords facts)) r (now (out .exit)) ⌝ }
 {
     let at = put_decimal(mark, out, 0);
     let at = put(b" ", out, at);
@@ -58,16 +53,14 @@ fn line_row(mark: u64, facts: LineFacts, out: &mut [u8]) -> usize
 }
 
 fn gap_row(mark: u64, out: &mut [u8]) -> usize
-    requires { ⌜ rowRoom ≤ length (now out) ⌝ }
-    ensures { λ r. ⌜ Put (now (out .entry)) 0 (rowWith mark gapWords) r (now (out .exit)) ⌝ }
+    ensures { λ r. ⌜ Puts (now (out .entry)) 0 (rowWith mark gapWords) r (now (out .exit)) ⌝ }
 {
     let at = put_decimal(mark, out, 0);
     put(b" GAP - ok\n", out, at)
 }
 
 fn refused_row(mark: u64, number: u64, out: &mut [u8]) -> usize
-    requires { ⌜ rowRoom ≤ length (now out) ⌝ }
-    ensures { λ r. ⌜ Put (now (out .entry)) 0 (rowWith mark (refusedWords number)) r (now (out .exit)) ⌝ }
+    ensures { λ r. ⌜ Puts (now (out .entry)) 0 (rowWith mark (refusedWords number)) r (now (out .exit)) ⌝ }
 {
     let at = put_decimal(mark, out, 0);
     let at = put(b" REFUSED - ", out, at);
@@ -77,8 +70,7 @@ fn refused_row(mark: u64, number: u64, out: &mut [u8]) -> usize
 
 // What a row says of a line: kind, number, note.
 fn put_line(facts: LineFacts, out: &mut [u8], at: usize) -> usize
-    requires { ⌜ at + 33 ≤ length (now out) ⌝ }
-    ensures { λ r. ⌜ Put (now (out .entry)) at (lineWords facts) r (now (out .exit)) ⌝ }
+    ensures { λ r. ⌜ Puts (now (out .entry)) at (lineWords facts) r (now (out .exit)) ⌝ }
 {
     let kind = facts.kind;
     let at = put_kind(kind, out, at);
@@ -89,8 +81,7 @@ fn put_line(facts: LineFacts, out: &mut [u8], at: usize) -> usize
 }
 
 fn put_kind(kind: Kind, out: &mut [u8], at: usize) -> usize
-    requires { ⌜ at + 3 ≤ length (now out) ⌝ }
-    ensures { λ r. ⌜ Put (now (out .entry)) at (kindWord kind) r (now (out .exit)) ⌝ }
+    ensures { λ r. ⌜ Puts (now (out .entry)) at (kindWord kind) r (now (out .exit)) ⌝ }
 {
     match kind {
         Kind::BL => put(b"BL", out, at),
@@ -102,55 +93,10 @@ fn put_kind(kind: Kind, out: &mut [u8], at: usize) -> usize
 }
 
 fn put_note(repaired: bool, out: &mut [u8], at: usize) -> usize
-    requires { ⌜ at + 8 ≤ length (now out) ⌝ }
-    ensures { λ r. ⌜ Put (now (out .entry)) at (noteWord repaired) r (now (out .exit)) ⌝ }
+    ensures { λ r. ⌜ Puts (now (out .entry)) at (noteWord repaired) r (now (out .exit)) ⌝ }
 {
     if repaired {
         return put(b"repaired", out, at);
     }
     put(b"clean", out, at)
-}
-
-// A number in decimal.
-fn put_decimal(n: u64, out: &mut [u8], at: usize) -> usize
-    requires { ⌜ at + 20 ≤ length (now out) ⌝ }
-    ensures { λ r. ⌜ Put (now (out .entry)) at (decimal n) r (now (out .exit)) ⌝ }
-{
-    put_digits(PLACES, n, out, at)
-}
-
-// The decimal digits of a number that has at most so many places.
-fn put_digits(places: usize, n: u64, out: &mut [u8], at: usize) -> usize
-    requires { ⌜ at + places ≤ length (now out) ⌝ }
-    ensures { λ r. ⌜ Put (now (out .entry)) at (digits places n) r (now (out .exit)) ⌝ }
-{
-    if places == 0 {
-        return at;
-    }
-    if n < 10 {
-        return put_digit(n, out, at);
-    }
-    let next = put_digits(places - 1, n / 10, out, at);
-    put_digit(n % 10, out, next)
-}
-
-fn put_digit(n: u64, out: &mut [u8], at: usize) -> usize
-    requires { ⌜ (n < 10) × (at < length (now out)) ⌝ }
-    ensures { λ r. ⌜ Put (now (out .entry)) at (digit n ∷ []) r (now (out .exit)) ⌝ }
-{
-    out[at] = b'0' + n as u8;
-    at + 1
-}
-
-// Puts a text at a place, and gives the place after it.
-fn put(text: &[u8], out: &mut [u8], at: usize) -> usize
-    requires { ⌜ at + length (now text) ≤ length (now out) ⌝ }
-    ensures { λ r. ⌜ Put (now (out .entry)) at (now (text .entry)) r (now (out .exit)) ⌝ }
-{
-    let mut i: usize = 0;
-    while i < text.len() {
-        out[at + i] = text[i];
-        i += 1;
-    }
-    at + i
 }

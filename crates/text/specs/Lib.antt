@@ -1,2 +1,4 @@
 pub mod Text
 pub mod TextLaws
+pub mod Put
+pub mod PutLaws

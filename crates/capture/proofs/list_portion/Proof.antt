@@ -10,7 +10,7 @@ use borrow.Author.Needs.{needs}
 use Rattle.profile.specs.Profile.{longest}
 use Rattle.reader_laws.specs.Passing.{Small}
 use Rattle.listing.specs.Rows.{rowRoom}
-use Rattle.listing.specs.PutLaws.{put-length}
+use Rattle.text.specs.PutLaws.{put-length}
 use Rattle.capture.specs.Portions.{lister}
 use Rattle.reader_laws.specs.ByRuns.{answer-of}
 use Rattle.stream.specs.Written.{nibbles}

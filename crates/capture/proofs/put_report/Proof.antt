@@ -1,7 +1,7 @@
 -- For rows nothing is put, and the place stays; for frames the summary is put, as its function promises.
 use mathlib.Core.Path.{refl}
 use native.Mathlib.Omega.{arith}
-use Rattle.listing.specs.PutLaws.{none}
+use Rattle.text.specs.PutLaws.{none}
 use Rattle.capture.specs.Listed.{reportOf}
 use borrow.Author.Needs.{needs}
 use Rattle.capture.proofs.put_report.Statement.{statement}

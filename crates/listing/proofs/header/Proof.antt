@@ -1,8 +1,10 @@
+-- The first row fits in ROW bytes, so it is put whole at the front; in less room nothing is put.
 use mathlib.Core.Path.{refl}
+use native.Mathlib.Omega.{arith}
 use borrow.Author.Tests.{lt-ltb, le-ltb}
 use borrow.Author.Needs.{needs}
+use Rattle.text.specs.PutLaws.{puts-front}
 use Rattle.listing.specs.Rows.{ifRoom}
-use Rattle.listing.specs.PutLaws.{on-front}
 use Rattle.listing.proofs.header.Statement.{statement}
 use Rattle.listing.proofs.header.Tie as tie
 
@@ -12,7 +14,7 @@ returns c = simp (lt-ltb _ _ (c .if1 .taken)) (refl, refl)
 
 returns-2 : tie.Need-returns-2
 unfolding ifRoom
-returns-2 c = simp (le-ltb _ _ (c .before .before .before .before .before .if1 .left)) (on-front (c .before .before .put .ensures))
+returns-2 c = simp (le-ltb _ _ (c .before .before .before .before .before .if1 .left)) (puts-front (c .before .before .put .ensures) (omega (arith, c .before .before .before .before .before .if1 .left)))
 
 pub header-spec : {M : Type 1} → statement M
 header-spec = tie.close (tie.spec returns (λ c. search needs) (λ c κs. search needs) (λ c. search needs) returns-2)

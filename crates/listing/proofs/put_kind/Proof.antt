@@ -1,3 +1,4 @@
+-- The word of each kind, by the match.
 use borrow.Author.Needs.{needs}
 use Rattle.listing.proofs.put_kind.Statement.{statement}
 use Rattle.listing.proofs.put_kind.Tie as tie

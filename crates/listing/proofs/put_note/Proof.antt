@@ -1,3 +1,4 @@
+-- `repaired` or `clean`, by the test.
 use borrow.Author.Needs.{needs}
 use Rattle.listing.proofs.put_note.Statement.{statement}
 use Rattle.listing.proofs.put_note.Tie as tie

@@ -1,8 +1,12 @@
+-- A row fits in ROW bytes, so it is put whole at the front; in less room nothing is put.
 use mathlib.Core.Path.{refl}
+use native.Mathlib.Nat.{le-trans}
 use borrow.Author.Tests.{lt-ltb, le-ltb}
 use borrow.Author.Needs.{needs}
+use Rattle.text.specs.PutLaws.{puts-front}
+use Rattle.stream.specs.declared.Answer.the-variants.{Line, Gap, Refused}
 use Rattle.listing.specs.Rows.{ifRoom, rowOf}
-use Rattle.listing.specs.PutLaws.{on-front}
+use Rattle.listing.specs.RowLaws.{row-short}
 use Rattle.listing.proofs.row.Statement.{statement}
 use Rattle.listing.proofs.row.Tie as tie
 
@@ -16,15 +20,24 @@ returns-2 c = simp (le-ltb _ _ (c .before .before .if1 .left), c .enum-told .giv
 
 returns-3 : tie.Need-returns-3
 unfolding ifRoom rowOf
-returns-3 c = simp (le-ltb _ _ (c .before .before .before .before .before .before .before .if1 .left), c .before .before .before .before .before .answer .given .1) (on-front (c .before .before .line-row .ensures))
+returns-3 c =
+    let told = c .before .before .before .before .before in
+    let room = told .before .before .if1 .left in
+    simp (le-ltb _ _ room, told .answer .given .1) (puts-front (c .before .before .line-row .ensures) (le-trans (row-short _ (Line _)) room))
 
 returns-4 : tie.Need-returns-4
 unfolding ifRoom rowOf
-returns-4 c = simp (le-ltb _ _ (c .before .before .before .before .before .before .if1 .left), c .before .before .before .before .enum-told2 .given .1) (on-front (c .before .before .gap-row .ensures))
+returns-4 c =
+    let told = c .before .before .before .before in
+    let room = told .before .before .if1 .left in
+    simp (le-ltb _ _ room, told .enum-told2 .given .1) (puts-front (c .before .before .gap-row .ensures) (le-trans (row-short _ (Gap (told .enum-told2 .given .0 .0))) room))
 
 returns-5 : tie.Need-returns-5
 unfolding ifRoom rowOf
-returns-5 c = simp (le-ltb _ _ (c .before .before .before .before .before .before .before .if1 .left), c .before .before .before .before .before .answer2 .given .1) (on-front (c .before .before .refused-row .ensures))
+returns-5 c =
+    let told = c .before .before .before .before .before in
+    let room = told .before .before .if1 .left in
+    simp (le-ltb _ _ room, told .answer2 .given .1) (puts-front (c .before .before .refused-row .ensures) (le-trans (row-short _ (Refused _)) room))
 
 pub row-spec : {M : Type 1} → statement M
 row-spec =

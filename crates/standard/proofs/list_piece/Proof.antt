@@ -9,7 +9,7 @@ use borrow.Author.Needs.{needs}
 use Rattle.capture.specs.declared.Listed.{Listed}
 use Rattle.capture.specs.Listed.{listedText, listedOf}
 use Rattle.capture.specs.ListedLaws.{taken-within}
-use Rattle.listing.specs.PutLaws.{front-within}
+use Rattle.text.specs.PutLaws.{front-within}
 use Rattle.standard.proofs.list_piece.Statement.{statement}
 use Rattle.standard.proofs.list_piece.Tie as tie
 

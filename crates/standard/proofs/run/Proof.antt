@@ -4,7 +4,7 @@ use Prim.Native.Nat.{_≤_}
 use lib.ListN.{length}
 use lib.Seq.{length-take-le}
 use Rattle.listing.specs.Rows.{ifRoom}
-use Rattle.listing.specs.PutLaws.{front-within}
+use Rattle.text.specs.PutLaws.{front-within}
 use Rattle.capture.specs.declared.Listed.{Listed}
 use Rattle.capture.specs.Listed.{headText, lastText, finishedOf}
 use borrow.Author.Needs.{needs}

@@ -2,7 +2,7 @@
 use mathlib.Core.Path.{refl}
 use native.Mathlib.Omega.{arith}
 use borrow.Author.Tests.{lt-ltb, le-ltb}
-use Rattle.listing.specs.PutLaws.{joined, on-front, put-length}
+use Rattle.text.specs.PutLaws.{joined, on-front, put-length}
 use Rattle.capture.specs.Listed.{lastText, finishedOf}
 use Rattle.capture.specs.ListedLaws.{text-short}
 use borrow.Author.Needs.{needs}

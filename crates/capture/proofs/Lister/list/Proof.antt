@@ -9,7 +9,7 @@ use borrow.Author.Needs.{needs}
 use Rattle.profile.specs.Profile.{longest}
 use Rattle.stream.specs.Written.{nibbles}
 use Rattle.reader_laws.specs.Passes.{passed}
-use Rattle.listing.specs.PutLaws.{put-length}
+use Rattle.text.specs.PutLaws.{put-length}
 use Rattle.capture.specs.Portions.{portionOf, lister}
 use Rattle.capture.proofs.Runs.{lists-of}
 use Rattle.capture.proofs.Upto.{Upto, start, next-portion, no-portion, nothing-listed}

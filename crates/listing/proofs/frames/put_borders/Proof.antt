@@ -1,3 +1,4 @@
+-- The word of each setting, by the match.
 use borrow.Author.Needs.{needs}
 use Rattle.listing.proofs.frames.put_borders.Statement.{statement}
 use Rattle.listing.proofs.frames.put_borders.Tie as tie

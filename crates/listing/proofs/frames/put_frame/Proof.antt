@@ -1,10 +1,11 @@
-use Rattle.listing.specs.PutLaws.{joined}
+-- The word, then the frame's number.
 use borrow.Author.Needs.{needs}
+use Rattle.text.specs.PutLaws.{then}
 use Rattle.listing.proofs.frames.put_frame.Statement.{statement}
 use Rattle.listing.proofs.frames.put_frame.Tie as tie
 
 returns : tie.Need-returns
-returns c = joined (c .before .before .before .before .before .before .put .ensures) (c .before .before .put-decimal .ensures)
+returns c = then (c .before .before .before .before .before .before .put .ensures) (c .before .before .put-decimal .ensures)
 
 pub put-frame-spec : {M : Type 1} → statement M
 put-frame-spec =

@@ -1,3 +1,4 @@
+-- `GOOD` or `NOT GOOD`, by the test.
 use borrow.Author.Needs.{needs}
 use Rattle.listing.proofs.frames.put_good.Statement.{statement}
 use Rattle.listing.proofs.frames.put_good.Tie as tie

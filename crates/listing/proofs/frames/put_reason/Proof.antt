@@ -1,9 +1,8 @@
-use native.Mathlib.Omega.{arith}
-use mathlib.Core.Path.{refl}
+-- Refusals 18 and 19 have their words, by the two tests; any other has none.
 use borrow.Author.Tests.{eq-eqb, ne-eqb}
-use Rattle.listing.specs.PutLaws.{none}
-use Rattle.listing.specs.Frames.{reasonWords}
 use borrow.Author.Needs.{needs}
+use Rattle.text.specs.PutLaws.{puts-none}
+use Rattle.listing.specs.Frames.{reasonWords}
 use Rattle.listing.proofs.frames.put_reason.Statement.{statement}
 use Rattle.listing.proofs.frames.put_reason.Tie as tie
 
@@ -17,7 +16,7 @@ returns-2 c = simp (ne-eqb _ _ (c .before .before .before .before .before .if1 .
 
 returns-3 : tie.Need-returns-3
 unfolding reasonWords
-returns-3 c = simp (ne-eqb _ _ (c .before .if1 .left), ne-eqb _ _ (c .if2 .left)) (none _ _ _ (omega arith) refl)
+returns-3 c = simp (ne-eqb _ _ (c .before .if1 .left), ne-eqb _ _ (c .if2 .left)) (puts-none _ _)
 
 pub put-reason-spec : {M : Type 1} → statement M
 put-reason-spec =

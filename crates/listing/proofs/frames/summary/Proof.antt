@@ -1,11 +1,12 @@
+-- The two lines fit in ROW bytes, so they are put whole at the front; in less room nothing is put.
 use mathlib.Core.Path.{refl}
-use native.Mathlib.Omega.{arith}
+use native.Mathlib.Nat.{le-trans}
 use borrow.Author.Tests.{lt-ltb, le-ltb}
-use Rattle.listing.specs.Rows.{ifRoom}
-use Rattle.listing.specs.PutLaws.{joined, on-front}
-use Rattle.text.specs.TextLaws.{decimal-short}
-use Rattle.listing.specs.Frames.{summaryLines}
 use borrow.Author.Needs.{needs}
+use Rattle.text.specs.PutLaws.{then, puts-front}
+use Rattle.listing.specs.Rows.{ifRoom}
+use Rattle.listing.specs.Frames.{summaryLines}
+use Rattle.listing.specs.FramesLaws.{summary-short}
 use Rattle.listing.proofs.frames.summary.Statement.{statement}
 use Rattle.listing.proofs.frames.summary.Tie as tie
 
@@ -13,21 +14,20 @@ returns : tie.Need-returns
 unfolding ifRoom
 returns c = simp (lt-ltb _ _ (c .if1 .taken)) (refl, refl)
 
-put-requires : tie.Need-put-requires
-put-requires c κs = omega (arith, decimal-short (c .before .before .before .before .before .before .before .before .args .complete))
-
-put-decimal-requires-2 : tie.Need-put-decimal-requires-2
-put-decimal-requires-2 c κs = omega (arith, decimal-short (c .before .before .before .before .before .before .before .before .before .before .before .before .args .complete))
-
-put-requires-2 : tie.Need-put-requires-2
-put-requires-2 c κs = omega (arith, decimal-short (c .before .before .before .before .before .before .before .before .before .before .before .before .before .before .before .before .before .args .complete), decimal-short (c .before .before .before .before .before .before .before .before .before .before .before .before .before .before .before .before .before .args .broken))
-
-put-good-requires : tie.Need-put-good-requires
-put-good-requires c κs = omega (arith, decimal-short (c .before .before .before .before .before .before .before .before .before .before .before .before .before .before .before .before .before .before .before .before .before .args .complete), decimal-short (c .before .before .before .before .before .before .before .before .before .before .before .before .before .before .before .before .before .before .before .before .before .args .broken))
-
 returns-2 : tie.Need-returns-2
 unfolding ifRoom summaryLines
-returns-2 c = simp (le-ltb _ _ (c .before .before .before .before .before .before .before .before .before .before .before .before .before .before .before .before .before .before .before .before .before .before .if1 .left)) (on-front (joined (c .before .before .before .before .before .before .before .before .before .before .before .before .before .before .before .before .before .before .before .before .put-decimal .ensures) (joined (c .before .before .before .before .before .before .before .before .before .before .before .before .before .before .before .put .ensures) (joined (c .before .before .before .before .before .before .before .before .before .before .before .put-decimal2 .ensures) (joined (c .before .before .before .before .before .before .put2 .ensures) (c .before .before .put-good .ensures))))))
+returns-2 c =
+    let good = c .before .before in
+    let words = good .before .before .before .before in
+    let broken = words .before .before .before .before .before in
+    let count = broken .before .before .before .before in
+    let complete = count .before .before .before .before .before in
+    let room = complete .before .before .if1 .left in
+    simp (le-ltb _ _ room)
+    (puts-front
+    (then (complete .put-decimal .ensures)
+    (then (count .put .ensures) (then (broken .put-decimal2 .ensures) (then (words .put2 .ensures) (good .put-good .ensures)))))
+    (le-trans (summary-short _ _ (complete .before .before .before .before .args .good)) room))
 
 pub summary-spec : {M : Type 1} → statement M
 summary-spec =
@@ -36,10 +36,10 @@ summary-spec =
     returns
     (λ c κs. search needs)
     (λ c. search needs)
-    put-requires
-    put-decimal-requires-2
+    (λ c κs. search needs)
+    (λ c κs. search needs)
     (λ c. search needs)
-    put-requires-2
-    put-good-requires
+    (λ c κs. search needs)
+    (λ c κs. search needs)
     (λ c. search needs)
     returns-2)

@@ -1,7 +1,8 @@
+-- The greatest u64 has 20 digits: so many places hold any number.
 use borrow.Author.Needs.{needs}
 use Rattle.text.specs.Text.{decimal}
-use Rattle.listing.proofs.put_decimal.Statement.{statement}
-use Rattle.listing.proofs.put_decimal.Tie as tie
+use Rattle.text.proofs.put_decimal.Statement.{statement}
+use Rattle.text.proofs.put_decimal.Tie as tie
 
 returns : tie.Need-returns
 unfolding decimal
