@@ -2,10 +2,10 @@
 use mathlib.Core.Path.{_≡_}
 use mathlib.Core.Bool.{Bool, true, false, _&&_, cond}
 use mathlib.Core.List.{List, [], _∷_, _++_}
-use Prim.Native.Nat.{ℕ, _*_}
+use Prim.Native.Nat.{ℕ, _*_, _/_, _%_}
 use lib.Dec.{eqb}
 use lib.ListN.{length, drop}
-use Rattle.text.specs.Text.{ascii, space, newline, decimal}
+use Rattle.text.specs.Text.{ascii, space, newline, digit, decimal}
 use Rattle.refusal.specs.Refusal.{badHeader, wrongPictureLength, badPixel}
 use Rattle.profile.specs.declared.Profile.the-variants.{VV5404}
 use Rattle.profile.specs.Profile.{bodyLength}
@@ -34,6 +34,10 @@ maxval = 255
 -- the format's name, width and height, the greatest value, each line with its newline
 unfoldable pub header : Borders → List ℕ
 header b = ascii "P5\n" ++ (decimal width ++ (space ∷ (decimal (height b) ++ (newline ∷ (decimal maxval ++ (newline ∷ []))))))
+
+-- a number in three decimal digits, as each number of the header has
+abbrev pub threeDigits : ℕ → List ℕ
+threeDigits n = digit (n / 100 % 10) ∷ digit (n / 10 % 10) ∷ digit (n % 10) ∷ []
 
 abbrev pub headerLength : ℕ
 headerLength = 15

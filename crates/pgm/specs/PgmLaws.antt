@@ -3,7 +3,7 @@
 use mathlib.Core.Path.{_≡_, refl, sym, ap, _∙_}
 use mathlib.Core.Bool.{Bool, true, false, _&&_, cond, true≢false, and-false}
 use mathlib.Core.List.{List, [], _∷_, _++_}
-use Prim.Native.Nat.{ℕ, _+_, _/_, _%_, _<_, _≤_}
+use Prim.Native.Nat.{ℕ, _+_, _<_, _≤_}
 use native.Mathlib.Nat.{not-suc-le-zero, le-of-suc-le-suc}
 use native.Mathlib.Omega.{arith}
 use borrow.Author.Tests.{eqb-true, eq-eqb}
@@ -11,7 +11,7 @@ use lib.Dec.{eqb, lit≤}
 use lib.ListN.{length, drop, length-append, length-take}
 use lib.Seq.{drop-at}
 use Rattle.bits.specs.Every.{and-left, and-right}
-use Rattle.text.specs.Text.{ascii, space, newline, digit, decimal}
+use Rattle.text.specs.Text.{ascii, space, newline, decimal}
 use Rattle.refusal.specs.Refusal.{badHeader, wrongPictureLength}
 use Rattle.lent_buffer.specs.declared.Filled.{Filled}
 use Rattle.lent_buffer.specs.declared.Filled.the-variants as filled
@@ -19,7 +19,7 @@ use Rattle.lent_buffer.specs.Filled.{Output, used, refused, outputOf, Gives, re
 use Rattle.lent_buffer.specs.FilledLaws.{fitted-used, passed, used-fitted}
 use Rattle.pgm.specs.declared.Borders.{Borders}
 use Rattle.pgm.specs.declared.Borders.the-variants.{On, Off}
-use Rattle.pgm.specs.Pgm.{width, height, size, maxval, header, headerLength, imageOf, pixels, Picture, starts, either, writeAs, writeOf, readAs, readOf}
+use Rattle.pgm.specs.Pgm.{width, height, size, maxval, threeDigits, header, headerLength, imageOf, pixels, Picture, starts, either, writeAs, writeOf, readAs, readOf}
 
 -- The header.
 
@@ -30,10 +30,6 @@ header-on = refl
 pub header-off : header Off ≡ ascii "P5\n356 288\n255\n"
 unfolding header decimal
 header-off = refl
-
--- a number in three decimal digits
-abbrev pub threeDigits : ℕ → List ℕ
-threeDigits n = digit (n / 100 % 10) ∷ digit (n / 10 % 10) ∷ digit (n % 10) ∷ []
 
 -- each of its numbers has three digits
 pub header-digits : (b : Borders)

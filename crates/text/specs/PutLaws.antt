@@ -8,7 +8,7 @@ use native.Mathlib.Omega.{arith}
 use borrow.Author.Tests.{leb-true, leb-false}
 use lib.Dec.{leb}
 use lib.ListN.{length, take, drop, set, getD, length-append, length-drop}
-use lib.Seq.{sets, length-sets, sets-eq, set-out, drop-drop, take-suc, take-all}
+use lib.Seq.{sets, length-sets, sets-eq, set-out, drop-drop, take-suc, take-all, take-append-seam}
 use Rattle.lent_buffer.specs.StoringLaws.{sets-append, sets-front}
 use Rattle.text.specs.Put.{Puts, Put, onFront}
 
@@ -71,6 +71,10 @@ whole p h = record { room = h; place = omega (arith, p .place); stored = p .stor
 pub put-length : {d d₁ v : List ℕ} {at r : ℕ} → Put d at v r d₁ → length d₁ ≡ length d
 put-length {d} {d₁} {v} {at} p = ap length (p .stored) ∙ length-sets d at v
 
+-- the place after a text lies within the buffer
+pub put-within : {d d₁ v : List ℕ} {at r : ℕ} → Put d at v r d₁ → r ≤ length d₁
+put-within p = omega (arith, p .place, p .room, put-length p)
+
 pub joined :
     {d d₁ d₂ v w : List ℕ} {at r₁ r₂ : ℕ}
     → Put d at v r₁ d₁ → Put d₁ r₁ w r₂ d₂ → Put d at (v ++ w) r₂ d₂
@@ -92,6 +96,10 @@ on-front {d} {d₁} {t} p = (omega (arith, p .place), p .stored ∙ sets-front t
 
 pub puts-front : {d d₁ t : List ℕ} {r : ℕ} → Puts d 0 t r d₁ → length t ≤ length d → (r ≡ length t) × (d₁ ≡ onFront t d)
 puts-front p h = on-front (whole p (omega arith))
+
+-- what then stands at the front is the text
+pub front-text : {d d₁ t : List ℕ} {r : ℕ} → Put d 0 t r d₁ → take r d₁ ≡ t
+front-text {d} {d₁} {t} p = rw (on-front p .0, on-front p .1) (take-append-seam t (drop (length t) d))
 
 -- a text put at the front of what follows a place
 pub in-rest :

@@ -30,7 +30,7 @@ digits-step k n = either (ltb n 10)
     either true = omega arith
     either false = simp length-append (omega arith)
 
-pub digits-short : (k n : ℕ) → length (digits k n) ≤ k
+digits-short : (k n : ℕ) → length (digits k n) ≤ k
 digits-short zero n = omega arith
 digits-short (suc k) n = omega (arith, digits-step k n, digits-short k (n / 10))
 

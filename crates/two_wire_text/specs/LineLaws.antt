@@ -1,5 +1,5 @@
 -- Laws of the program's texts: how long they are, and an accepted message by its parts.
-use mathlib.Core.Path.{_≡_, refl, ap}
+use mathlib.Core.Path.{_≡_, refl}
 use mathlib.Core.Bool.{Bool, true, false, cond}
 use mathlib.Core.List.{List, [], _∷_, _++_}
 use Prim.Native.Nat.{ℕ, suc, _+_, _-_, _/_, _<_, _≤_}
@@ -7,24 +7,22 @@ use native.Mathlib.Omega.{arith}
 use borrow.Author.Tests.{leb-false}
 use lib.Dec.{eqb, leb}
 use lib.ListN.{length, getD, drop, length-append, length-drop}
-use lib.Seq.{length-sets}
 use Rattle.text.specs.Text.{ascii, space, newline, decimal}
 use Rattle.text.specs.TextLaws.{decimal-short, three-digits}
 use Rattle.refusal.specs.Refusal.{noRoom}
 use Rattle.two_wire.specs.declared.Sensor.{Sensor}
 use Rattle.two_wire.specs.Messages.{writeAddress, indexIn, Outcome, accepted, refused, messageOn}
-use Rattle.two_wire_text.specs.declared.Told.{Told}
 use Rattle.two_wire_text.specs.declared.Setting.{Setting}
 use Rattle.two_wire_text.specs.declared.Setting.the-variants.{Single, Double, Unknown}
 use Rattle.two_wire_text.specs.Text.{lineLength, isMessage, bytesOf}
 use Rattle.two_wire_text.specs.TextLaws.{bytes-length}
-use Rattle.two_wire_text.specs.Lines.{longest, unknownText, directionWord, acceptedText, refusedText, outcomeText, messageText, settingOf, textBy, textOf, Tells}
+use Rattle.two_wire_text.specs.Lines.{longest, unknownText, directionWord, acceptedText, refusedText, outcomeText, messageText, settingOf, textBy, textOf}
 
 shorter : (t : Bool) (v w : List ℕ) (n : ℕ) → length v ≤ n → length w ≤ n → length (cond t v w) ≤ n
 shorter true v w n h g = h
 shorter false v w n h g = g
 
-pub direction-short : (address : ℕ) → length (directionWord address) ≤ 6
+direction-short : (address : ℕ) → length (directionWord address) ≤ 6
 unfolding directionWord
 direction-short address = shorter (eqb address writeAddress) _ _ 6 (omega arith) (omega arith)
 
@@ -77,12 +75,6 @@ by-short Unknown s line = shorter (isMessage line) _ _ 32 (message-short s line)
 -- the buffer of 32 bytes has room for every text
 pub text-short : (s : Sensor) (line : List ℕ) → length (textOf s line) ≤ 32
 text-short s line = by-short (settingOf line) s line
-
--- what a call tells lies within its buffer
-pub told-within : (s t : Sensor) (line before after : List ℕ) (told : Told) → length before ≡ 32
-    → Tells t (textOf s line) before after told → told .length ≤ length after
-told-within s t line before after told h e =
-    omega (arith, e .1, ap length (e .2), length-sets before 0 (textOf s line), text-short s line)
 
 line-short : (text : List ℕ) → lineLength text ≤ length text
 line-short [] = omega arith

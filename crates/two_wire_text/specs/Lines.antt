@@ -5,9 +5,9 @@ use mathlib.Core.List.{List, [], _∷_, _++_}
 use Prim.Native.Nat.{ℕ, _/_, _%_}
 use lib.Dec.{eqb, leb, ltb}
 use lib.ListN.{length, drop}
-use lib.Seq.{sets}
 use Rattle.refusal.specs.Refusal.{noRoom}
 use Rattle.text.specs.Text.{ascii, space, newline, decimal}
+use Rattle.text.specs.Put.{Puts, Put}
 use Rattle.two_wire.specs.declared.Sensor.{Sensor}
 use Rattle.two_wire.specs.RegisterNames.{setup0, setup1, setup2, setup4, setup5, fineHigh, fineLow, coarseHigh, coarseLow, gain, clockDivisor}
 use Rattle.two_wire.specs.Messages.{writeAddress, indexIn, Outcome, accepted, refused, sensorAfter, messageOn}
@@ -95,6 +95,10 @@ textOf s line = textBy (settingOf line) s line
 abbrev pub sensorOf : Sensor → List ℕ → Sensor
 sensorOf s line = sensorBy (settingOf line) s line
 
--- what a call tells: the state after, a text's length, and the buffer with the text stored at its front
+-- what a call tells: the state after, and a text, put whole at the front of a buffer
 abbrev pub Tells : Sensor → List ℕ → List ℕ → List ℕ → Told → Type 0
-Tells s text before after told = (told .sensor ≡ s) × (told .length ≡ length text) × (after ≡ sets before 0 text)
+Tells s text before after told = (told .sensor ≡ s) × Put before 0 text (told .length) after
+
+-- as far as the buffer has room
+abbrev pub TellsIn : Sensor → List ℕ → List ℕ → List ℕ → Told → Type 0
+TellsIn s text before after told = (told .sensor ≡ s) × Puts before 0 text (told .length) after

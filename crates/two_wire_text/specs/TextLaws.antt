@@ -7,8 +7,8 @@ use native.Mathlib.Numerals.{add-one}
 use native.Mathlib.Omega.{arith}
 use borrow.Author.Tests.{ltb-true, eqb-true}
 use lib.Dec.{eqb, ltb}
-use lib.ListN.{length, drop, getD, set, length-drop, drop-of-length-le}
-use lib.Seq.{drop-cons, drop-drop, sets}
+use lib.ListN.{length, drop, getD, length-drop, drop-of-length-le}
+use lib.Seq.{drop-cons, drop-drop}
 use Rattle.bits.specs.Every.{and-left, and-right, each}
 use Rattle.text.specs.Text.{space, newline, hexDigit}
 use Rattle.two_wire_text.specs.Text.{hexBytes, allBytes, digitOf, charFits, charsFit, isMessage, byteOf, bytesOf, startsWith, digitOnto, digitsOnto, numberIn, lineLength}
@@ -76,16 +76,6 @@ bytes-length (a ∷ b ∷ c ∷ line) = omega (arith, bytes-length line)
 module _ (text : List ℕ) (i : ℕ) (h : i < length text) where
   pub line-step : lineLength (drop i text) ≡ cond (eqb (getD text i 0) newline) 0 (suc (lineLength (drop (i + 1) text)))
   line-step = rw (add-one i, drop-cons text i 0)
-
--- ---- storing
-
-pub sets-step : (text out : List ℕ) (at i : ℕ) → i < length text
-    → sets (set out (at + i) (getD text i 0)) (at + (i + 1)) (drop (i + 1) text) ≡ sets out (at + i) (drop i text)
-sets-step text out at i h =
-    let e : at + (i + 1) ≡ suc (at + i) = omega arith in
-    ap (λ (k : ℕ). sets (set out (at + i) (getD text i 0)) k (drop (i + 1) text)) e
-    ∙ ap (λ (k : ℕ). sets (set out (at + i) (getD text i 0)) (suc (at + i)) (drop k text)) (add-one i)
-    ∙ ap (λ (t : List ℕ). sets out (at + i) t) (sym (drop-cons text i 0 h))
 
 -- ---- what is written is read
 

@@ -8,17 +8,18 @@
 //   index and the count of data bytes, `REFUSED 27` the refusal. A line of more than 256 bytes is refused with 12.
 // Any other line gives `?`. Cost: linear in the line.
 ghost use mathlib.Core.Path.{_≡_};
-ghost use mathlib.Core.List.{_∷_, [], _++_};
-ghost use Prim.Native.Nat.{_+_, _/_, _≤_, _<_};
+ghost use Prim.Native.Nat.{_+_, _/_, _<_};
 ghost use lib.ListN.{length, drop};
 ghost use lib.Seq.{sets};
-ghost use Rattle.text.specs.Text.{hexDigit, hexByte, digit, decimal};
+ghost use Rattle.text.specs.Put.{Puts};
 ghost use Rattle.two_wire.specs.Messages.{sensorAfter, messageOn};
 ghost use Rattle.two_wire.specs.Writing.{message};
 ghost use Rattle.two_wire_text.specs.Text.{hexText, digitOf, charFits, isMessage, byteOf, bytesOf, startsWith, digitOnto, numberIn, lineLength};
-ghost use Rattle.two_wire_text.specs.Lines.{single, double, setupSetting, settingOf, directionWord, acceptedText, refusedText, outcomeText, messageText, messageSensor, textBy, sensorBy, textOf, sensorOf, Tells};
-ghost use Rattle.two_wire_text.specs.Put.{Put};
+ghost use Rattle.two_wire_text.specs.Lines.{single, double, setupSetting, settingOf, directionWord, acceptedText, refusedText, outcomeText, messageText, messageSensor, textBy, sensorBy, textOf, sensorOf, Tells, TellsIn};
 ghost use Rattle.two_wire_text.specs.declared.Setting.the-variants.{Unknown};
+use text::put;
+use text::put_decimal;
+use text::put_hex;
 use two_wire::Answer;
 use two_wire::Sensor;
 use two_wire::register;
@@ -46,19 +47,7 @@ const NO_NUMBER: u32 = 65536;
 pub fn answer(sensor: Sensor, line: &[u8], out: &mut [u8; 32]) -> Told
     ensures { λ r. ⌜ Tells (sensorOf sensor (now (line .entry))) (textOf sensor (now (line .entry))) (now (out .entry)) (now (out .exit)) r ⌝ }
 {
-    let asked = read_setting(line);
-    match asked {
-        Setting::Single(index, value) => {
-            let length = put_message(index, value, 0, out);
-            Told { sensor, length }
-        }
-        Setting::Double(index, high, next, low) => {
-            let at = put_message(index, high, 0, out);
-            let length = put_message(next, low, at, out);
-            Told { sensor, length }
-        }
-        Setting::Unknown => explain(sensor, line, out),
-    }
+    tell(sensor, line, out)
 }
 
 // The place where a text's line ends that starts at a place: of its newline, or of the text's end.
@@ -73,6 +62,25 @@ pub fn line_end(text: &[u8], start: usize) -> usize
         i += 1;
     }
     i
+}
+
+// The text for a line, as far as a buffer has room, and the state after it.
+fn tell(sensor: Sensor, line: &[u8], out: &mut [u8]) -> Told
+    ensures { λ r. ⌜ TellsIn (sensorOf sensor (now (line .entry))) (textOf sensor (now (line .entry))) (now (out .entry)) (now (out .exit)) r ⌝ }
+{
+    let asked = read_setting(line);
+    match asked {
+        Setting::Single(index, value) => {
+            let length = put_message(index, value, out, 0);
+            Told { sensor, length }
+        }
+        Setting::Double(index, high, next, low) => {
+            let at = put_message(index, high, out, 0);
+            let length = put_message(next, low, out, at);
+            Told { sensor, length }
+        }
+        Setting::Unknown => explain(sensor, line, out),
+    }
 }
 
 // The setting that a line is: `settingOf`.
@@ -136,18 +144,18 @@ fn double(high: u8, low: u8, value: u32) -> Setting
 }
 
 // The text for a line that is no setting.
-fn explain(sensor: Sensor, line: &[u8], out: &mut [u8; 32]) -> Told
-    ensures { λ r. ⌜ Tells (sensorBy Unknown sensor (now (line .entry))) (textBy Unknown sensor (now (line .entry))) (now (out .entry)) (now (out .exit)) r ⌝ }
+fn explain(sensor: Sensor, line: &[u8], out: &mut [u8]) -> Told
+    ensures { λ r. ⌜ TellsIn (sensorBy Unknown sensor (now (line .entry))) (textBy Unknown sensor (now (line .entry))) (now (out .entry)) (now (out .exit)) r ⌝ }
 {
     if is_message(line) {
         return explain_message(sensor, line, out);
     }
-    let length = put(b"?\n", 0, out);
+    let length = put(b"?\n", out, 0);
     Told { sensor, length }
 }
 
-fn explain_message(sensor: Sensor, line: &[u8], out: &mut [u8; 32]) -> Told
-    ensures { λ r. ⌜ Tells (messageSensor sensor (now (line .entry))) (messageText sensor (now (line .entry))) (now (out .entry)) (now (out .exit)) r ⌝ }
+fn explain_message(sensor: Sensor, line: &[u8], out: &mut [u8]) -> Told
+    ensures { λ r. ⌜ TellsIn (messageSensor sensor (now (line .entry))) (messageText sensor (now (line .entry))) (now (out .entry)) (now (out .exit)) r ⌝ }
 {
     if LONGEST <= line.len() / 3 {
         let length = put_refused(refusal::NO_ROOM, out);
@@ -158,9 +166,8 @@ fn explain_message(sensor: Sensor, line: &[u8], out: &mut [u8; 32]) -> Told
     read_message(sensor, &bytes[..n], out)
 }
 
-fn read_message(sensor: Sensor, bytes: &[u8], out: &mut [u8; 32]) -> Told
-    requires { ⌜ length (now bytes) ≤ 256 ⌝ }
-    ensures { λ r. ⌜ Tells (sensorAfter (messageOn sensor (now (bytes .entry))) sensor) (outcomeText (messageOn sensor (now (bytes .entry))) (now (bytes .entry))) (now (out .entry)) (now (out .exit)) r ⌝ }
+fn read_message(sensor: Sensor, bytes: &[u8], out: &mut [u8]) -> Told
+    ensures { λ r. ⌜ TellsIn (sensorAfter (messageOn sensor (now (bytes .entry))) sensor) (outcomeText (messageOn sensor (now (bytes .entry))) (now (bytes .entry))) (now (out .entry)) (now (out .exit)) r ⌝ }
 {
     let seen = sensor.read(bytes);
     let after = seen.sensor;
@@ -270,7 +277,7 @@ fn char_fits(place: usize, c: u8) -> bool
 // The bytes of a message's line, and how many they are.
 fn decode(line: &[u8], bytes: &mut [u8; 256]) -> usize
     requires { ⌜ length (now line) / 3 < 256 ⌝ }
-    ensures { λ r. ⌜ Put (bytesOf (now (line .entry))) (now (bytes .entry)) 0 r (now (bytes .exit)) ⌝ }
+    ensures { λ r. ⌜ (r ≡ length (bytesOf (now (line .entry)))) × (now (bytes .exit) ≡ sets (now (bytes .entry)) 0 (bytesOf (now (line .entry)))) ⌝ }
 {
     let mut n: usize = 0;
     let mut i: usize = 0;
@@ -316,105 +323,47 @@ fn digit(c: u8) -> u8
     16
 }
 
-// Writing text. Each function stores a text from a place on, and gives the place after it.
+// Writing text. Each function puts a text at a place, as far as there is room, and gives the place after it.
 
 // An accepted message: its direction, index and count of data bytes.
-fn put_accepted(bytes: &[u8], out: &mut [u8; 32]) -> usize
-    requires { ⌜ length (now bytes) ≤ 256 ⌝ }
-    ensures { λ r. ⌜ Put (acceptedText (now (bytes .entry))) (now (out .entry)) 0 r (now (out .exit)) ⌝ }
+fn put_accepted(bytes: &[u8], out: &mut [u8]) -> usize
+    ensures { λ r. ⌜ Puts (now (out .entry)) 0 (acceptedText (now (bytes .entry))) r (now (out .exit)) ⌝ }
 {
     if bytes.len() < 2 {
-        return put(b"?\n", 0, out);
+        return put(b"?\n", out, 0);
     }
-    let a = put_direction(bytes[0], 0, out);
-    let b = put_decimal((bytes[1] % 128) as usize, a, out);
-    let c = put(b" ", b, out);
-    let d = put_decimal(bytes.len() - 2, c, out);
-    put(b" ok\n", d, out)
+    let a = put_direction(bytes[0], out, 0);
+    let b = put_decimal((bytes[1] % 128) as u64, out, a);
+    let c = put(b" ", out, b);
+    let d = put_decimal((bytes.len() - 2) as u64, out, c);
+    put(b" ok\n", out, d)
 }
 
-fn put_direction(address: u8, at: usize, out: &mut [u8; 32]) -> usize
-    requires { ⌜ at + 6 ≤ 32 ⌝ }
-    ensures { λ r. ⌜ Put (directionWord address) (now (out .entry)) at r (now (out .exit)) ⌝ }
+fn put_direction(address: u8, out: &mut [u8], at: usize) -> usize
+    ensures { λ r. ⌜ Puts (now (out .entry)) at (directionWord address) r (now (out .exit)) ⌝ }
 {
     if address == two_wire::WRITE_ADDRESS {
-        return put(b"WRITE ", at, out);
+        return put(b"WRITE ", out, at);
     }
-    put(b"READ ", at, out)
+    put(b"READ ", out, at)
 }
 
-fn put_refused(number: u8, out: &mut [u8; 32]) -> usize
-    ensures { λ r. ⌜ Put (refusedText number) (now (out .entry)) 0 r (now (out .exit)) ⌝ }
+fn put_refused(number: u8, out: &mut [u8]) -> usize
+    ensures { λ r. ⌜ Puts (now (out .entry)) 0 (refusedText number) r (now (out .exit)) ⌝ }
 {
-    let a = put(b"REFUSED ", 0, out);
-    let b = put_decimal(number as usize, a, out);
-    put(b"\n", b, out)
+    let a = put(b"REFUSED ", out, 0);
+    let b = put_decimal(number as u64, out, a);
+    put(b"\n", out, b)
 }
 
 // The message of a pair in hex, on a line of its own.
-fn put_message(index: u8, value: u8, at: usize, out: &mut [u8; 32]) -> usize
-    requires { ⌜ at + 9 ≤ 32 ⌝ }
-    ensures { λ r. ⌜ Put (hexText (message index value)) (now (out .entry)) at r (now (out .exit)) ⌝ }
+fn put_message(index: u8, value: u8, out: &mut [u8], at: usize) -> usize
+    ensures { λ r. ⌜ Puts (now (out .entry)) at (hexText (message index value)) r (now (out .exit)) ⌝ }
 {
-    let a = put_hex(two_wire::WRITE_ADDRESS, at, out);
-    let b = put(b" ", a, out);
-    let c = put_hex(index, b, out);
-    let d = put(b" ", c, out);
-    let e = put_hex(value, d, out);
-    put(b"\n", e, out)
-}
-
-fn put_hex(byte: u8, at: usize, out: &mut [u8; 32]) -> usize
-    requires { ⌜ at + 2 ≤ 32 ⌝ }
-    ensures { λ r. ⌜ Put (hexByte byte) (now (out .entry)) at r (now (out .exit)) ⌝ }
-{
-    out[at] = hex_digit(byte / 16);
-    out[at + 1] = hex_digit(byte % 16);
-    at + 2
-}
-
-fn hex_digit(n: u8) -> u8
-    requires { ⌜ n < 16 ⌝ }
-    ensures { λ r. ⌜ r ≡ hexDigit n ⌝ }
-{
-    if n < 10 {
-        return b'0' + n;
-    }
-    87 + n
-}
-
-fn put_decimal(n: usize, at: usize, out: &mut [u8; 32]) -> usize
-    requires { ⌜ (n < 1000) × (at + 3 ≤ 32) ⌝ }
-    ensures { λ r. ⌜ Put (decimal n) (now (out .entry)) at r (now (out .exit)) ⌝ }
-{
-    if n < 10 {
-        return put_digit(n, at, out);
-    }
-    if n < 100 {
-        let a = put_digit(n / 10, at, out);
-        return put_digit(n % 10, a, out);
-    }
-    let a = put_digit(n / 100, at, out);
-    let b = put_digit(n / 10 % 10, a, out);
-    put_digit(n % 10, b, out)
-}
-
-fn put_digit(n: usize, at: usize, out: &mut [u8; 32]) -> usize
-    requires { ⌜ (n < 10) × (at < 32) ⌝ }
-    ensures { λ r. ⌜ Put (digit n ∷ []) (now (out .entry)) at r (now (out .exit)) ⌝ }
-{
-    out[at] = b'0' + n as u8;
-    at + 1
-}
-
-fn put(text: &[u8], at: usize, out: &mut [u8; 32]) -> usize
-    requires { ⌜ at + length (now text) ≤ 32 ⌝ }
-    ensures { λ r. ⌜ Put (now (text .entry)) (now (out .entry)) at r (now (out .exit)) ⌝ }
-{
-    let mut i: usize = 0;
-    while i < text.len() {
-        out[at + i] = text[i];
-        i += 1;
-    }
-    at + i
+    let a = put_hex(two_wire::WRITE_ADDRESS, out, at);
+    let b = put(b" ", out, a);
+    let c = put_hex(index, out, b);
+    let d = put(b" ", out, c);
+    let e = put_hex(value, out, d);
+    put(b"\n", out, e)
 }

@@ -5,7 +5,9 @@ use Rattle.listing.proofs.gap_row.Statement.{statement}
 use Rattle.listing.proofs.gap_row.Tie as tie
 
 returns : tie.Need-returns
-returns c = then (c .before .before .before .before .before .before .before .put-decimal .ensures) (c .before .before .put .ensures)
+returns c =
+    let words = c .before .before in
+    then (words .before .before .before .before .before .put-decimal .ensures) (words .put .ensures)
 
 pub gap-row-spec : {M : Type 1} → statement M
 gap-row-spec =

@@ -1,16 +1,16 @@
 -- The text told for a line is within the buffer that it was put in, so the front that is written has its length.
-use mathlib.Core.Path.{refl, sym}
+use mathlib.Core.Path.{sym}
 use lib.Seq.{length-take-le}
-use Rattle.two_wire_text.specs.LineLaws.{told-within}
+use Rattle.text.specs.PutLaws.{put-within}
 use borrow.Author.Needs.{needs}
 use Rattle.registers.proofs.answer.Statement.{statement}
 use Rattle.registers.proofs.answer.Tie as tie
 
 array-share-prefix-out : tie.Need-array-share-prefix-out
-array-share-prefix-out c = told-within _ _ (c .before .before .before .args .line .now) _ _ _ refl (c .answer .ensures)
+array-share-prefix-out c = put-within (c .answer .ensures .1)
 
 slice-aggregate-write-all : tie.Need-slice-aggregate-write-all
-slice-aggregate-write-all c = sym (length-take-le _ _ (told-within _ _ (c .before .before .before .before .args .line .now) _ _ _ refl (c .before .answer .ensures)))
+slice-aggregate-write-all c = sym (length-take-le _ _ (put-within (c .before .answer .ensures .1)))
 
 pub answer-spec : {M : Type 1} → statement M
 answer-spec =

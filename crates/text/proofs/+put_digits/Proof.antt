@@ -41,9 +41,10 @@ put-digits-returns-2 : (t : ℕ) → put-digits-lts.Need-returns-2 (
 ) (put-digits-at t) put-digits.Post
 put-digits-returns-2 t c =
     let put = c .before .before .put-byte in
-    let a = c .before .before .before .before .before .before .before .args in
+    let test = c .before .before .before .before in
+    let a = test .before .before .before .args in
     subst (λ v. Puts (a .out .now) (a .at) v (put .result) (put .last .1 .0))
-    (sym (last-digit (a .places) (a .n) (c .before .before .before .before .before .if1 .left) (c .before .before .before .before .if2 .taken)))
+    (sym (last-digit (a .places) (a .n) (test .before .if1 .left) (test .if2 .taken)))
     (put .ensures)
 
 put-digits-returns-3 : (t : ℕ) → put-digits-lts.Need-returns-3 (

@@ -1,8 +1,7 @@
+-- Two digits a turn: what is still to be stored of the line's bytes, stored after those that are, gives them all.
 use mathlib.Core.Path.{_≡_, refl, sym, ap, _∙_}
 use mathlib.Core.List.{List}
-use Prim.Native.Nat.{ℕ}
-use mathlib.Core.Path.{_≡_, refl, sym, _∙_}
-use Prim.Native.Nat.{_+_, _*_, _≤_, _-_}
+use Prim.Native.Nat.{ℕ, _+_, _*_, _≤_, _-_}
 use native.Mathlib.Omega.{arith}
 use native.Mathlib.Numerals.{add-one}
 use borrow.Author.Needs.{needs}
@@ -31,7 +30,7 @@ loop-again c = let l = c .before .before .before .before .loop in
 returns : tie.Need-returns Inv-loop μ-loop
 returns c = let l = c .before .loop in
     let e = bytes-end (c .before .before .before .args .line .now) (l .i) (c .loop-test .left) in
-    record { place = omega (arith, rw e at (l .inv .2)); stored = rw e at (l .inv .3) }
+    (omega (arith, rw e at (l .inv .2)), rw e at (l .inv .3))
 
 pub decode-spec : {M : Type 1} → statement M
 decode-spec =

@@ -1,18 +1,17 @@
+-- A message's line is explained as one; any other line is unknown.
 use mathlib.Core.Path.{refl}
-use Rattle.two_wire_text.specs.Lines.{textBy, sensorBy}
-use Rattle.two_wire_text.specs.Put.{at-front}
 use borrow.Author.Needs.{needs}
+use Rattle.two_wire_text.specs.Lines.{textBy, sensorBy}
 use Rattle.two_wire_text.proofs.explain.Statement.{statement}
 use Rattle.two_wire_text.proofs.explain.Tie as tie
 
 returns : tie.Need-returns
 unfolding textBy sensorBy
-returns c = simp (← c .before .before .before .is-message .ensures, c .before .before .if1 .taken) (c .explain-message .ensures)
+returns c = simp (← c .before .before .before .before .before .is-message .ensures, c .before .before .before .before .if1 .taken) (c .before .before .explain-message .ensures)
 
 returns-2 : tie.Need-returns-2
 unfolding textBy sensorBy
-returns-2 c = let p = at-front (c .put .ensures) in
-    simp (← c .before .before .before .before .is-message .ensures, c .before .before .before .if1 .left) (refl, p .0, p .1)
+returns-2 c = simp (← c .before .before .before .before .before .before .is-message .ensures, c .before .before .before .before .before .if1 .left) (refl, c .before .before .put .ensures)
 
 pub explain-spec : {M : Type 1} → statement M
 explain-spec =
@@ -20,7 +19,9 @@ explain-spec =
     (tie.spec
     (λ c κs. search needs)
     (λ c κs. search needs)
+    (λ c. search needs)
     returns
     (λ c. search needs)
     (λ c κs. search needs)
+    (λ c. search needs)
     returns-2)

@@ -1,17 +1,16 @@
-use native.Mathlib.Omega.{arith}
-use Rattle.two_wire_text.specs.Lines.{refusedText}
-use Rattle.text.specs.TextLaws.{decimal-short}
-use Rattle.two_wire_text.specs.Put.{then}
+-- The word, the number and a newline, one after another.
 use borrow.Author.Needs.{needs}
+use Rattle.text.specs.PutLaws.{then}
+use Rattle.two_wire_text.specs.Lines.{refusedText}
 use Rattle.two_wire_text.proofs.put_refused.Statement.{statement}
 use Rattle.two_wire_text.proofs.put_refused.Tie as tie
 
-put-requires-2 : tie.Need-put-requires-2
-put-requires-2 c κs = omega (arith, decimal-short (c .before .before .before .before .before .before .before .args .number))
-
 returns : tie.Need-returns
 unfolding refusedText
-returns c = then (c .before .before .before .before .before .put .ensures) (then (c .before .before .before .put-decimal .ensures) (c .put2 .ensures))
+returns c =
+    let end = c .before .before in
+    let number = end .before .before .before .before .before in
+    then (number .before .before .before .before .put .ensures) (then (number .put-decimal .ensures) (end .put2 .ensures))
 
 pub put-refused-spec : {M : Type 1} → statement M
 put-refused-spec =
@@ -21,5 +20,6 @@ put-refused-spec =
     (λ c κs. search needs)
     (λ c κs. search needs)
     (λ c. search needs)
-    put-requires-2
+    (λ c κs. search needs)
+    (λ c. search needs)
     returns)

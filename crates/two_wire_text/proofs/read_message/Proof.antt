@@ -1,19 +1,19 @@
-use Rattle.two_wire_text.specs.Put.{at-front}
+-- The text of the outcome that the sensor's reading gave, by the match on its answer.
 use borrow.Author.Needs.{needs}
 use Rattle.two_wire_text.proofs.read_message.Statement.{statement}
 use Rattle.two_wire_text.proofs.read_message.Tie as tie
 
 returns : tie.Need-returns
-returns c = let p = at-front (c .put-accepted .ensures) in
-    let o = c .before .before .before .before .before .read .ensures in
-    let k = c .before .before .enum-told .given .1 in
-    (o .1, simp (← o .0, k) (p .0), simp (← o .0, k) (p .1))
+returns c =
+    let told = c .before .before .before .before in
+    let read = told .before .before .before .read .ensures in
+    (read .1, simp (← read .0, told .enum-told .given .1) (c .before .before .put-accepted .ensures))
 
 returns-2 : tie.Need-returns-2
-returns-2 c = let p = at-front (c .put-refused .ensures) in
-    let o = c .before .before .before .before .before .before .read .ensures in
-    let k = c .before .before .before .answered .given .1 in
-    (o .1, simp (← o .0, k) (p .0), simp (← o .0, k) (p .1))
+returns-2 c =
+    let told = c .before .before .before .before .before in
+    let read = told .before .before .before .read .ensures in
+    (read .1, simp (← read .0, told .answered .given .1) (c .before .before .put-refused .ensures))
 
 pub read-message-spec : {M : Type 1} → statement M
 read-message-spec =
@@ -24,5 +24,7 @@ read-message-spec =
     (λ c κs. search needs)
     (λ c. search needs)
     (λ c κs. search needs)
+    (λ c. search needs)
     returns
+    (λ c. search needs)
     returns-2)

@@ -22,29 +22,32 @@ returns-2 c = simp (le-ltb _ _ (c .before .before .if1 .left), c .enum-told .giv
 returns-3 : tie.Need-returns-3
 unfolding ifRoom newsLine
 returns-3 c =
-    let line = c .before .before .before .before .before .before .before in
+    let end = c .before .before in
+    let line = end .before .before .before .before .before in
     let told = line .before .before .before in
     let room = told .before .before .if1 .left in
     simp (le-ltb _ _ room, told .news .given .1)
-    (puts-front (then (line .put-complete .ensures) (c .before .before .put .ensures)) (le-trans (news-short (Complete _ _ _)) room))
+    (puts-front (then (line .put-complete .ensures) (end .put .ensures)) (le-trans (news-short (Complete _ _ _)) room))
 
 returns-4 : tie.Need-returns-4
 unfolding ifRoom newsLine
 returns-4 c =
-    let line = c .before .before .before .before .before .before .before in
+    let end = c .before .before in
+    let line = end .before .before .before .before .before in
     let told = line .before .before .before in
     let room = told .before .before .if1 .left in
     simp (le-ltb _ _ room, told .news2 .given .1)
-    (puts-front (then (line .put-broken .ensures) (c .before .before .put2 .ensures)) (le-trans (news-short (Broken _ _ _ _)) room))
+    (puts-front (then (line .put-broken .ensures) (end .put2 .ensures)) (le-trans (news-short (Broken _ _ _ _)) room))
 
 returns-5 : tie.Need-returns-5
 unfolding ifRoom newsLine
 returns-5 c =
-    let line = c .before .before .before .before .before .before .before in
+    let end = c .before .before in
+    let line = end .before .before .before .before .before in
     let told = line .before .before .before in
     let room = told .before .before .if1 .left in
     simp (le-ltb _ _ room, told .news3 .given .1)
-    (puts-front (then (line .put-frame .ensures) (c .before .before .put3 .ensures)) (le-trans (news-short (Cut _)) room))
+    (puts-front (then (line .put-frame .ensures) (end .put3 .ensures)) (le-trans (news-short (Cut _)) room))
 
 pub news-spec : {M : Type 1} → statement M
 news-spec =

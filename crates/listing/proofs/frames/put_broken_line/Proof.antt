@@ -5,7 +5,10 @@ use Rattle.listing.proofs.frames.put_broken_line.Statement.{statement}
 use Rattle.listing.proofs.frames.put_broken_line.Tie as tie
 
 returns : tie.Need-returns
-returns c = then (c .before .before .before .before .before .before .before .before .before .before .before .put .ensures) (then (c .before .before .before .before .before .before .before .put-decimal .ensures) (c .before .before .put2 .ensures))
+returns c =
+    let end = c .before .before in
+    let own = end .before .before .before .before .before in
+    then (own .before .before .before .before .put .ensures) (then (own .put-decimal .ensures) (end .put2 .ensures))
 
 pub put-broken-line-spec : {M : Type 1} → statement M
 put-broken-line-spec =
