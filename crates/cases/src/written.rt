@@ -9,7 +9,7 @@ use crate::text::say;
 use crate::text::say_number;
 use crate::text::short;
 use crate::text::word;
-use writer::Written;
+use lent_buffer::Filled;
 
 // Writes a line, whose body is the front of a text, into a buffer of a size, and tells what came of it. The numbers: profile, kind, number,
 // two gap bytes, nulls, size.
@@ -32,9 +32,9 @@ pub fn read_back(text: &[u8], length: usize, n: Numbers) {
     }
 }
 
-fn put_line(body: &[u8], n: Numbers, room: &mut [u8]) -> Written {
+fn put_line(body: &[u8], n: Numbers, room: &mut [u8]) -> Filled {
     if (room.len() as u64) < n.n6 {
-        return Written::Refused(0);
+        return Filled::Refused(0);
     }
     writer::write(
         byte(n.n0),
@@ -48,15 +48,15 @@ fn put_line(body: &[u8], n: Numbers, room: &mut [u8]) -> Written {
     )
 }
 
-fn tell(written: Written) {
+fn tell(written: Filled) {
     match written {
-        Written::Nibbles(count) => {
+        Filled::Length(count) => {
             say_number(count as u64);
             say(b" nibbles, ");
             say_number((count / 2) as u64);
             say(b" bytes\n");
         }
-        Written::Refused(number) => {
+        Filled::Refused(number) => {
             say(b"REFUSED ");
             say_number(number as u64);
             say(b"\n");

@@ -14,8 +14,8 @@ use Rattle.stream.specs.declared.Answer.the-variants as answers
 use Rattle.stream.specs.Answers.{eitherRepaired, refused, answerFor, bufferAfter}
 use Rattle.reader.specs.Reader.{freshReader, finishOf}
 use Rattle.run.specs.Run.{Ran, ran, runOf}
-use Rattle.writer.specs.Writer as writer
-use Rattle.writer.specs.Writer.{Output}
+use Rattle.lent_buffer.specs.Filled as filled
+use Rattle.lent_buffer.specs.Filled.{Output}
 use Rattle.frame.specs.declared.Borders.{Borders}
 use Rattle.frame.specs.declared.Borders.the-variants.{Unsettled, On, Off}
 use Rattle.frame.specs.declared.Judge.{Judge}
@@ -81,15 +81,15 @@ feedCall s w line = feedRan (cond (holdsReader s) (runOf (readerIn s) w (length 
 -- Writing: 0 or the refusal, how many nibbles, and the buffer afterwards.
 
 abbrev pub writtenNumber : Output → ℕ
-writtenNumber (writer.nibbles w) = 0
-writtenNumber (writer.refused n) = n
+writtenNumber (filled.used n w) = 0
+writtenNumber (filled.refused n) = n
 
 abbrev pub writtenCount : Output → ℕ
-writtenCount (writer.nibbles w) = length w
-writtenCount (writer.refused n) = 0
+writtenCount (filled.used n w) = n
+writtenCount (filled.refused n) = 0
 
 abbrev pub writtenTo : Output → List ℕ → List ℕ
-writtenTo = writer.bufferAfter
+writtenTo = filled.bufferAfter
 
 -- Judging.
 

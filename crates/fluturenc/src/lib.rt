@@ -31,6 +31,7 @@ ghost use Rattle.fluturenc.specs.Calls.{answerNumber, openCall, feedCall
 use frame::Borders;
 use frame::Judge;
 use frame::Verdict;
+use lent_buffer::Filled;
 use line_code::Kind;
 use mark_answer::Kept;
 use profile::Numbered;
@@ -40,7 +41,6 @@ use reader::Reader;
 use stream::Answer;
 use stream::Before;
 use stream::Mark;
-use writer::Written;
 
 // The bytes of a reader's state: its head's, and its body's.
 const STATE: usize = HEAD + Profile::LONGEST;
@@ -133,11 +133,11 @@ pub extern "C" fn fluturenc_write(
 {
     let w = writer::write(profile, kind, number, body, first, second, nulls, nibbles);
     match w {
-        Written::Nibbles(n) => {
+        Filled::Length(n) => {
             *written = n;
             0
         }
-        Written::Refused(n) => {
+        Filled::Refused(n) => {
             *written = 0;
             n
         }

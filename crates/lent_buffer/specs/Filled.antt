@@ -19,6 +19,11 @@ abbrev pub outputOf : Filled → List ℕ → Output
 outputOf (filled.Length n) buffer = used n (take n buffer)
 outputOf (filled.Refused n) buffer = refused n
 
+-- the program's answer that says this
+abbrev pub answerFor : Output → Filled
+answerFor (used n bytes) = filled.Length n
+answerFor (refused n) = filled.Refused n
+
 -- the buffer afterwards: the bytes at its front, and the room beyond them as it was; or nothing written
 abbrev pub bufferAfter : Output → List ℕ → List ℕ
 bufferAfter (used n bytes) buffer = bytes ++ drop n buffer

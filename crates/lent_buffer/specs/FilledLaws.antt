@@ -1,4 +1,4 @@
--- Laws of lent buffers: how an answer is reached, and what a filled buffer tells of the tests before it.
+-- Laws of lent buffers: how an answer is reached, that the output determines it, and what a filled buffer tells of the tests before it.
 use mathlib.Core.Path.{_≡_, refl, sym, ap, _∙_}
 use mathlib.Core.Bool.{Bool, true, false}
 use mathlib.Core.List.{List, _++_}
@@ -7,8 +7,9 @@ use borrow.Author.Tests.{le-leb, leb-true}
 use lib.ListN.{length, take, drop}
 use lib.Seq.{take-at}
 use lib.Dec.{leb}
+use Rattle.lent_buffer.specs.declared.Filled.{Filled}
 use Rattle.lent_buffer.specs.declared.Filled.the-variants as filled
-use Rattle.lent_buffer.specs.Filled.{Output, used, refused, bufferAfter, Gives, require, fitted}
+use Rattle.lent_buffer.specs.Filled.{Output, used, refused, outputOf, answerFor, bufferAfter, Gives, require, fitted}
 
 -- Reaching an answer.
 
@@ -26,7 +27,15 @@ pub fitted-used : (bytes : List ℕ) (room : ℕ) → length bytes ≤ room → 
 unfolding require
 fitted-used bytes room h = simp (le-leb _ _ h)
 
--- What a filled buffer tells.
+-- What an answer and a filled buffer tell.
+
+answer-back : (r : Filled) (after : List ℕ) → answerFor (outputOf r after) ≡ r
+answer-back (filled.Length n) after = refl
+answer-back (filled.Refused n) after = refl
+
+-- the output determines the answer
+pub answered : (o : Output) (r : Filled) (b after : List ℕ) → Gives o r b after → r ≡ answerFor o
+answered o r b after g = sym (answer-back r after) ∙ ap answerFor (g .says)
 
 pub passed : (t : Bool) (n : ℕ) (o : Output) {m : ℕ} {w : List ℕ} → require t n o ≡ used m w → (t ≡ true) × (o ≡ used m w)
 unfolding require

@@ -1,8 +1,8 @@
 // Writes the sample capture: one whole profile 0 frame with borders on, each line with 25 null bytes, as bytes of an 8-wire bus.
+use lent_buffer::Filled;
 use libc::STDOUT_FILENO;
 use line_code::Kind;
 use profile::Profile;
-use writer::Written;
 
 // The lines of a frame, its null bytes a line, and the bytes of such a line.
 const LINES: u16 = 304;
@@ -32,7 +32,7 @@ fn write_line(number: u16) {
 }
 
 // The nibbles of the line.
-fn put_nibbles(kind: u8, number: u16, body: &[u8; 356], nibbles: &mut [u8]) -> Written {
+fn put_nibbles(kind: u8, number: u16, body: &[u8; 356], nibbles: &mut [u8]) -> Filled {
     let all: &[u8] = body;
     writer::write(
         0,

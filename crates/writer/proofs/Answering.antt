@@ -1,5 +1,5 @@
 -- From the steps of `write` to its answer.
-use mathlib.Core.Path.{_≡_, refl, sym, ap, _∙_}
+use mathlib.Core.Path.{_≡_, refl, ap, _∙_}
 use mathlib.Core.Bool.{Bool, true, false, cond}
 use mathlib.Core.List.{List, [], _∷_, _++_}
 use Prim.Native.Nat.{ℕ, _*_, _/_, _%_, _≤_, _<_}
@@ -7,6 +7,9 @@ use native.Mathlib.Omega.{arith}
 use borrow.Author.Tests.{leb-true, leb-false}
 use lib.Dec.{leb}
 use lib.ListN.{length, drop, replicate}
+use Rattle.lent_buffer.specs.declared.Filled.the-variants as filled
+use Rattle.lent_buffer.specs.Filled.{Output, used, Gives}
+use Rattle.lent_buffer.specs.FilledLaws.{fills}
 use Rattle.line_code.specs.declared.Meaning.the-variants.{EndOfLine}
 use Rattle.line_code.specs.LineCode.{cleanByte}
 use Rattle.line_number.specs.declared.Encoded.the-variants.{Bytes, TooLarge}
@@ -14,11 +17,9 @@ use Rattle.line_number.specs.LineNumber.{greatest, numberByte, encodeOf}
 use Rattle.profile.specs.Profile.{nullByte}
 use Rattle.stream.specs.Written as stream
 use Rattle.stream.specs.Written.{Sent, written, startMark}
-use Rattle.writer.specs.declared.Written.the-variants as answer
-use Rattle.writer.specs.Writer.{Output, nibbles, refused, outputOf, answerFor, bufferAfter}
 use Rattle.writer.specs.WriterLaws.{nibbles-append, nibbles-length}
 use Rattle.writer.specs.Parts.{Put, markBytes, lineBytes}
-use Rattle.writer.proofs.Putting.{put-front, take-front}
+use Rattle.writer.proofs.Putting.{put-front}
 
 -- A number's two bytes.
 
@@ -43,10 +44,7 @@ not-known false a b h = refl
 pub encoded-not : (n : ℕ) → encodeOf n ≡ TooLarge → greatest < n
 encoded-not n e = leb-false n greatest (not-known (leb n greatest) _ _ e)
 
--- Answers.
-
-pub refuses : (o : Output) (n : ℕ) (b : List ℕ) → o ≡ refused n → (outputOf (answer.Refused n) b ≡ o) × (b ≡ bufferAfter o b) × (answer.Refused n ≡ answerFor o)
-refuses o n b e = (sym e, ap (λ (x : Output). bufferAfter x b) (sym e), ap answerFor (sym e))
+-- The line.
 
 -- a line's bytes, as it is written
 line-nibbles : (s : Sent) (high low : ℕ) → encodeOf (s .number) ≡ Bytes high low
@@ -56,17 +54,15 @@ line-nibbles s high low e =
     (ap (λ (w : List ℕ). startMark s ++ (stream.nibbles (high ∷ low ∷ []) ++ w))
     (nibbles-append (s .body) (markBytes (cleanByte EndOfLine) ++ (s .gap-one ∷ s .gap-two ∷ replicate (s .nulls) nullByte))))
 
-front : (o : Output) (w bytes b d : List ℕ) (n : ℕ) → o ≡ nibbles w → stream.nibbles bytes ≡ w → length w ≤ length b → Put bytes b 0 n d
-    → (outputOf (answer.Nibbles n) d ≡ o) × (d ≡ bufferAfter o b) × (answer.Nibbles n ≡ answerFor o)
+front : (o : Output) (w bytes b d : List ℕ) (n : ℕ) → o ≡ used (length w) w → stream.nibbles bytes ≡ w → length w ≤ length b → Put bytes b 0 n d
+    → Gives o (filled.Length n) b d
 front o w bytes b d n e f room p =
-    let r : 2 * length bytes ≤ length b = omega (arith, nibbles-length bytes, ap length f) in (
-      ap nibbles (take-front p r ∙ f) ∙ sym e,
-      put-front p r ∙ ap (λ (u : List ℕ). u ++ drop (length u) b) f ∙ ap (λ (x : Output). bufferAfter x b) (sym e),
-      ap (λ (k : ℕ). answer.Nibbles k) (omega (arith, p .place, nibbles-length bytes, ap length f)) ∙ ap answerFor (sym e),
-    )
+    let r : 2 * length bytes ≤ length b = omega (arith, nibbles-length bytes, ap length f) in
+    let count : length w ≡ n = omega (arith, p .place, nibbles-length bytes, ap length f) in
+    fills o n w b d (e ∙ ap (λ (k : ℕ). used k w) count) count (put-front p r ∙ ap (λ (u : List ℕ). u ++ drop (length u) b) f ∙ ap (λ (k : ℕ). w ++ drop k b) count)
 
 pub writes : (o : Output) (s : Sent) (high low : ℕ) (b d : List ℕ) (n : ℕ) → encodeOf (s .number) ≡ Bytes high low
-    → o ≡ nibbles (written s) → length (written s) ≤ length b
+    → o ≡ used (length (written s)) (written s) → length (written s) ≤ length b
     → Put (lineBytes (s .kind) high low (s .body) (s .gap-one) (s .gap-two) (s .nulls)) b 0 n d
-    → (outputOf (answer.Nibbles n) d ≡ o) × (d ≡ bufferAfter o b) × (answer.Nibbles n ≡ answerFor o)
+    → Gives o (filled.Length n) b d
 writes o s high low b d n e f room p = front o (written s) _ b d n f (line-nibbles s high low e) room p

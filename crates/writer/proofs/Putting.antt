@@ -5,7 +5,7 @@ use Prim.Native.Nat.{ℕ, _+_, _*_, _≤_, _<_}
 use native.Mathlib.Numerals.{add-one}
 use native.Mathlib.Omega.{arith}
 use lib.ListN.{length, getD, take, drop, replicate, length-append, replicate-append-replicate}
-use lib.Seq.{sets, take-suc, take-all, take-at}
+use lib.Seq.{sets, take-suc, take-all}
 use Rattle.lent_buffer.specs.StoringLaws.{sets-append, sets-front}
 use Rattle.stream.specs.Written.{nibbles}
 use Rattle.writer.specs.WriterLaws.{nibbles-length, nibbles-append}
@@ -40,9 +40,5 @@ pub put-all : {b d : List ℕ} {at n : ℕ} (bytes : List ℕ) (i : ℕ) → len
 put-all {b} {d} {at} {n} bytes i h = subst (λ (u : List ℕ). Put u b at n d) (take-all i bytes h)
 
 -- bytes put at the front of a buffer that has room for them
-module _ {bytes b d : List ℕ} {n : ℕ} (p : Put bytes b 0 n d) (room : 2 * length bytes ≤ length b) where
-  pub put-front : d ≡ nibbles bytes ++ drop (length (nibbles bytes)) b
-  put-front = p .stored ∙ sets-front (nibbles bytes) b (omega (arith, nibbles-length bytes))
-
-  pub take-front : take n d ≡ nibbles bytes
-  take-front = ap (take n) put-front ∙ take-at (nibbles bytes) _ n (omega (arith, nibbles-length bytes))
+pub put-front : {bytes b d : List ℕ} {n : ℕ} → Put bytes b 0 n d → 2 * length bytes ≤ length b → d ≡ nibbles bytes ++ drop (length (nibbles bytes)) b
+put-front {bytes} {b} p room = p .stored ∙ sets-front (nibbles bytes) b (omega (arith, nibbles-length bytes))

@@ -1,10 +1,11 @@
 -- The writer (01, the writer's paragraph): one line, its end, its two gap bytes and its null bytes, into a lent buffer of nibbles.
-use mathlib.Core.Bool.{Bool, true, false, _&&_}
-use mathlib.Core.List.{List, _++_}
+use mathlib.Core.Bool.{Bool, _&&_}
+use mathlib.Core.List.{List}
 use Prim.Native.Nat.{ℕ, _+_, _*_}
 use lib.Dec.{eqb, leb}
-use lib.ListN.{length, take, drop}
+use lib.ListN.{length}
 use Rattle.refusal.specs.Refusal.{badState, noRoom, badKind, numberTooLarge, wrongBodyLength, byteNotAllowed, tooManyNulls}
+use Rattle.lent_buffer.specs.Filled.{Output, used, refused, require}
 use Rattle.line_code.specs.declared.Kind.{Kind}
 use Rattle.line_code.specs.declared.LineKind.{LineKind}
 use Rattle.line_code.specs.declared.LineKind.the-variants.{NotLine, LineOf}
@@ -16,33 +17,6 @@ use Rattle.profile.specs.declared.Numbered.the-variants as numbered
 use Rattle.profile.specs.Profile.{profileNumbered, bodyLength}
 use Rattle.profile.specs.Layout.{rules, fits, gapFits}
 use Rattle.stream.specs.Written.{Sent, mostNulls, written}
-use Rattle.writer.specs.declared.Written.{Written}
-use Rattle.writer.specs.declared.Written.the-variants as answer
-
--- what an answer says: the nibbles of the line, or a refusal with its number
-pub data Output : Type 0 where
-  nibbles : List ℕ → Output
-  refused : ℕ → Output
-
--- the paper's number and values of each case of the program's answer: the nibbles are the front of the lent buffer
-abbrev pub outputOf : Written → List ℕ → Output
-outputOf (answer.Nibbles n) buffer = nibbles (take n buffer)
-outputOf (answer.Refused n) buffer = refused n
-
--- the program's answer that says this
-abbrev pub answerFor : Output → Written
-answerFor (nibbles w) = answer.Nibbles (length w)
-answerFor (refused n) = answer.Refused n
-
--- the lent buffer afterwards: the line at its front, and the rest as it was
-abbrev pub bufferAfter : Output → List ℕ → List ℕ
-bufferAfter (nibbles w) buffer = w ++ drop (length w) buffer
-bufferAfter (refused n) buffer = buffer
-
--- a refusal where the test fails
-unfoldable pub require : Bool → ℕ → Output → Output
-require true n o = o
-require false n o = refused n
 
 -- the nibbles around a body: two marks of eight, two number bytes and two gap bytes
 abbrev pub around : ℕ
@@ -62,7 +36,7 @@ writeLine p s room =
     require (leb (s .number) greatest) numberTooLarge
     (require (eqb (length (s .body)) (bodyLength p)) wrongBodyLength
     (require (bytesFit p s) byteNotAllowed
-    (require (leb (s .nulls) mostNulls) tooManyNulls (require (leb (roomFor p (s .nulls)) room) noRoom (nibbles (written s))))))
+    (require (leb (s .nulls) mostNulls) tooManyNulls (require (leb (roomFor p (s .nulls)) room) noRoom (used (length (written s)) (written s))))))
 
 -- what is given, as one record
 abbrev pub sent : Kind → ℕ → List ℕ → ℕ → ℕ → ℕ → Sent

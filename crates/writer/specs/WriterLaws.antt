@@ -9,6 +9,7 @@ use borrow.Author.Tests.{leb-true, leb-false, eqb-true, eqb-false, le-leb, lt-le
 use lib.ListN.{length, replicate, length-append, length-replicate}
 use Rattle.bits.specs.Every.{and-left, and-right}
 use Rattle.refusal.specs.Refusal.{badState, noRoom, badKind, numberTooLarge, wrongBodyLength, byteNotAllowed, tooManyNulls}
+use Rattle.lent_buffer.specs.Filled.{Output, used, refused, require}
 use Rattle.line_code.specs.declared.Kind.{Kind}
 use Rattle.line_code.specs.declared.Kind.the-variants.{BL, BK, VL, SOF, EOF}
 use Rattle.line_code.specs.declared.LineKind.{LineKind}
@@ -24,7 +25,7 @@ use Rattle.profile.specs.Layout.{rules, fits}
 use Rattle.profile.specs.LayoutLaws.{rules-length, fits-length}
 use Rattle.stream.specs.Written as stream
 use Rattle.stream.specs.Written.{Sent, Writable, mostNulls, endMark, tail, written}
-use Rattle.writer.specs.Writer.{Output, nibbles, refused, require, roomFor, bytesFit, writeLine, sent, writeKind, writeProfile, writeOf}
+use Rattle.writer.specs.Writer.{roomFor, bytesFit, writeLine, sent, writeKind, writeProfile, writeOf}
 
 -- Lengths.
 
@@ -61,7 +62,7 @@ pub data LineAnswer (p : Profile) (s : Sent) (room : ℕ) : Output → Type 0 wh
   too-many-nulls : s .number ≤ greatest → length (s .body) ≡ bodyLength p → bytesFit p s ≡ true → mostNulls < s .nulls
       → LineAnswer p s room (refused tooManyNulls)
   no-room : Writable p s → room < roomFor p (s .nulls) → LineAnswer p s room (refused noRoom)
-  line : Writable p s → roomFor p (s .nulls) ≤ room → LineAnswer p s room (nibbles (written s))
+  line : Writable p s → roomFor p (s .nulls) ≤ room → LineAnswer p s room (used (length (written s)) (written s))
 
 pub line-answer-only : (p : Profile) (s : Sent) (room : ℕ) (o : Output) → LineAnswer p s room o → writeLine p s room ≡ o
 unfolding require
@@ -152,7 +153,7 @@ module _ (p : Profile) (s : Sent) (room : ℕ) where
 
   -- what an answer says of the line
   abbrev Says : Output → Type 0
-  Says (nibbles w) = Writable p s × (roomFor p (s .nulls) ≤ room)
+  Says (used n w) = Writable p s × (roomFor p (s .nulls) ≤ room)
   Says (refused n) = n ≡ noRoom → Writable p s × (room < roomFor p (s .nulls))
 
   says : (o : Output) → LineAnswer p s room o → Says o
@@ -168,5 +169,5 @@ module _ (p : Profile) (s : Sent) (room : ℕ) where
   lacks-room = (λ e. says _ (sent-answer _ .0 e) refl, λ h. sent-answer _ .1 (no-room (h .0) (h .1)))
 
   -- the line comes out as written exactly if it may be written and there is room
-  pub writes : (writeSent p s room ≡ nibbles (written s)) ↔ (Writable p s × (roomFor p (s .nulls) ≤ room))
+  pub writes : (writeSent p s room ≡ used (length (written s)) (written s)) ↔ (Writable p s × (roomFor p (s .nulls) ≤ room))
   writes = (λ e. says _ (sent-answer _ .0 e), λ h. sent-answer _ .1 (line (h .0) (h .1)))

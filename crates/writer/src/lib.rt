@@ -12,8 +12,10 @@ ghost use Prim.Native.Nat.{_+_, _*_, _≤_};
 ghost use lib.ListN.{length, replicate};
 ghost use Rattle.profile.specs.Profile.{nullByte};
 ghost use Rattle.profile.specs.Layout.{rules, fits, gapFits};
-ghost use Rattle.writer.specs.Writer.{outputOf, answerFor, bufferAfter, around, writeOf};
+ghost use Rattle.lent_buffer.specs.Filled.{Gives};
+ghost use Rattle.writer.specs.Writer.{around, writeOf};
 ghost use Rattle.writer.specs.Parts.{Room, Put, markBytes, lineBytes};
+use lent_buffer::Filled;
 use line_code::Kind;
 use line_code::LineKind;
 use line_code::Meaning;
@@ -21,19 +23,13 @@ use line_number::Encoded;
 use profile::Numbered;
 use profile::Profile;
 
-// How many nibbles were written, or the refusal.
-pub enum Written {
-    Nibbles(usize),
-    Refused(u8),
-}
-
 // The most null bytes after a line.
 const MOST_NULLS: u32 = 255;
 
 // The nibbles around a body: two marks of eight, the number's two bytes and the gap's.
 const AROUND: usize = 24;
 
-// Writes a line's nibbles to the front of the buffer; first and second are the gap bytes.
+// Writes a line's nibbles to the front of the buffer: `writeOf`. First and second are the gap bytes. The answer is how many nibbles.
 pub fn write(
     profile: u8,
     kind: u8,
@@ -43,33 +39,33 @@ pub fn write(
     second: u8,
     nulls: u32,
     buffer: &mut [u8],
-) -> Written
-    ensures { λ r. ⌜ (outputOf r (now (buffer .exit)) ≡ writeOf profile kind number (now (body .entry)) first second nulls (length (now (buffer .entry)))) × (now (buffer .exit) ≡ bufferAfter (writeOf profile kind number (now (body .entry)) first second nulls (length (now (buffer .entry)))) (now (buffer .entry))) × (r ≡ answerFor (writeOf profile kind number (now (body .entry)) first second nulls (length (now (buffer .entry))))) ⌝ }
+) -> Filled
+    ensures { λ r. ⌜ Gives (writeOf profile kind number (now (body .entry)) first second nulls (length (now (buffer .entry)))) r (now (buffer .entry)) (now (buffer .exit)) ⌝ }
 {
     let Numbered::Profile(p) = Profile::numbered(profile) else {
-        return Written::Refused(refusal::BAD_STATE);
+        return Filled::Refused(refusal::BAD_STATE);
     };
     let LineKind::LineOf(k) = Kind::numbered(kind) else {
-        return Written::Refused(refusal::BAD_KIND);
+        return Filled::Refused(refusal::BAD_KIND);
     };
     let Encoded::Bytes(high, low) = line_number::encode(number) else {
-        return Written::Refused(refusal::NUMBER_TOO_LARGE);
+        return Filled::Refused(refusal::NUMBER_TOO_LARGE);
     };
     if body.len() != p.body_length() {
-        return Written::Refused(refusal::WRONG_BODY_LENGTH);
+        return Filled::Refused(refusal::WRONG_BODY_LENGTH);
     }
     if has_bad_byte(p, k, body, first, second) {
-        return Written::Refused(refusal::BYTE_NOT_ALLOWED);
+        return Filled::Refused(refusal::BYTE_NOT_ALLOWED);
     }
     if MOST_NULLS < nulls {
-        return Written::Refused(refusal::TOO_MANY_NULLS);
+        return Filled::Refused(refusal::TOO_MANY_NULLS);
     }
     let count = nulls as usize;
     if buffer.len() < AROUND + 2 * body.len() + 2 * count {
-        return Written::Refused(refusal::NO_ROOM);
+        return Filled::Refused(refusal::NO_ROOM);
     }
     let end = put_line(k, high, low, body, first, second, count, buffer);
-    Written::Nibbles(end)
+    Filled::Length(end)
 }
 
 // Whether a body byte or a gap byte is not allowed.

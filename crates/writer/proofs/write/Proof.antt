@@ -5,15 +5,17 @@ use Prim.Native.Nat.{ℕ, _≤_}
 use native.Mathlib.Omega.{arith}
 use borrow.Author.Tests.{not-true, not-false}
 use lib.ListN.{length}
+use Rattle.lent_buffer.specs.Filled.{Output}
+use Rattle.lent_buffer.specs.FilledLaws.{refuses}
 use Rattle.line_number.specs.declared.Encoded.the-variants.{Bytes}
 use Rattle.line_number.specs.LineNumber.{encodeOf, greatest}
 use Rattle.profile.specs.declared.Profile.{Profile}
 use Rattle.profile.specs.Profile.{bodyLength}
 use Rattle.profile.specs.LayoutLaws.{body-small}
 use Rattle.stream.specs.Written.{Sent, Writable}
-use Rattle.writer.specs.Writer.{Output, bytesFit, sent, writeOf}
+use Rattle.writer.specs.Writer.{bytesFit, sent, writeOf}
 use Rattle.writer.specs.WriterLaws.{LineAnswer, number-too-large, wrong-body-length, byte-not-allowed, too-many-nulls, no-room, line, bad-profile, bad-kind, of-line, answer-only, written-length, writable}
-use Rattle.writer.proofs.Answering.{encoded-small, encoded-not, refuses, writes}
+use Rattle.writer.proofs.Answering.{encoded-small, encoded-not, writes}
 use borrow.Author.Needs.{needs}
 use Rattle.writer.proofs.write.Statement.{statement}
 use Rattle.writer.proofs.write.Tie as tie
