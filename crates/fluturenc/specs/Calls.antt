@@ -78,7 +78,7 @@ feedRan t s line =
 unfoldable pub feedCall : List ℕ → List ℕ → List ℕ → FeedCalled
 feedCall s w line = feedRan (cond (holdsReader s) (runOf (readerIn s) w (length line)) (ran (readerIn s) (refused badState) 0)) s line
 
--- Writing: 0 or the refusal, how many nibbles, and the buffer afterwards.
+-- Writing: 0 or the refusal, and how many nibbles.
 
 abbrev pub writtenNumber : Output → ℕ
 writtenNumber (filled.used n w) = 0
@@ -87,9 +87,6 @@ writtenNumber (filled.refused n) = n
 abbrev pub writtenCount : Output → ℕ
 writtenCount (filled.used n w) = n
 writtenCount (filled.refused n) = 0
-
-abbrev pub writtenTo : Output → List ℕ → List ℕ
-writtenTo = filled.bufferAfter
 
 -- Judging.
 

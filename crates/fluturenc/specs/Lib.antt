@@ -1,4 +1,5 @@
 pub mod State
 pub mod Calls
+pub mod Gives
 pub mod StateLaws
 pub mod CallLaws

@@ -27,7 +27,8 @@ ghost use lib.Seq.{paste};
 ghost use Rattle.profile.specs.Profile.{profileNumber};
 ghost use Rattle.writer.specs.Writer.{writeOf};
 ghost use Rattle.fluturenc.specs.State.{headLength, stateLength, markNumber, codeOf, markNumbered, profileOf, numberOf, bitOf, headBytes, headIn, tagged, holdsReader, readerIn, stored};
-ghost use Rattle.fluturenc.specs.Calls.{answerNumber, openCall, feedCall, finishCall, writtenNumber, writtenCount, writtenTo, judgeNumber, judgeNumbered, verdictNumber, judgeCall};
+ghost use Rattle.fluturenc.specs.Calls.{answerNumber, openCall, feedCall, finishCall, judgeNumber, judgeNumbered, verdictNumber, judgeCall};
+ghost use Rattle.fluturenc.specs.Gives.{StateGives, FeedGives, WriteGives, JudgeGives};
 use frame::Borders;
 use frame::Judge;
 use frame::Verdict;
@@ -58,7 +59,7 @@ pub extern "C" fn fluturenc_state_length() -> usize
 // Puts a fresh reader of the profile with this number into the state. Refused: 11, 12, in this order.
 #[no_mangle]
 pub extern "C" fn fluturenc_open(profile: u8, state: &mut [u8]) -> u8
-    ensures { λ r. ⌜ (r ≡ openCall profile (now (state .entry)) .answer) × (now (state .exit) ≡ openCall profile (now (state .entry)) .state) ⌝ }
+    ensures { λ r. ⌜ StateGives (openCall profile (now (state .entry))) r (now (state .exit)) ⌝ }
 {
     let Numbered::Profile(p) = Profile::numbered(profile) else {
         return refusal::BAD_STATE;
@@ -80,7 +81,7 @@ pub extern "C" fn fluturenc_feed(
     line: &mut [u8],
     taken: &mut usize,
 ) -> u64
-    ensures { λ r. ⌜ (r ≡ feedCall (now (state .entry)) (now (nibbles .entry)) (now (line .entry)) .answer) × (now (taken .exit) ≡ feedCall (now (state .entry)) (now (nibbles .entry)) (now (line .entry)) .taken) × (now (state .exit) ≡ feedCall (now (state .entry)) (now (nibbles .entry)) (now (line .entry)) .state) × (now (line .exit) ≡ feedCall (now (state .entry)) (now (nibbles .entry)) (now (line .entry)) .line) ⌝ }
+    ensures { λ r. ⌜ FeedGives (feedCall (now (state .entry)) (now (nibbles .entry)) (now (line .entry))) r (now (taken .exit)) (now (state .exit)) (now (line .exit)) ⌝ }
 {
     *taken = 0;
     if state.len() < STATE {
@@ -103,7 +104,7 @@ pub extern "C" fn fluturenc_feed(
 // Answers the last mark, if there is one, and leaves a fresh reader. Refused: 11.
 #[no_mangle]
 pub extern "C" fn fluturenc_finish(state: &mut [u8]) -> u64
-    ensures { λ r. ⌜ (r ≡ finishCall (now (state .entry)) .answer) × (now (state .exit) ≡ finishCall (now (state .entry)) .state) ⌝ }
+    ensures { λ r. ⌜ StateGives (finishCall (now (state .entry))) r (now (state .exit)) ⌝ }
 {
     if holds_reader(state) {
         let r = reader_in(state);
@@ -129,7 +130,7 @@ pub extern "C" fn fluturenc_write(
     nibbles: &mut [u8],
     written: &mut usize,
 ) -> u8
-    ensures { λ r. ⌜ (r ≡ writtenNumber (writeOf profile kind number (now (body .entry)) first second nulls (length (now (nibbles .entry))))) × (now (written .exit) ≡ writtenCount (writeOf profile kind number (now (body .entry)) first second nulls (length (now (nibbles .entry))))) × (now (nibbles .exit) ≡ writtenTo (writeOf profile kind number (now (body .entry)) first second nulls (length (now (nibbles .entry)))) (now (nibbles .entry))) ⌝ }
+    ensures { λ r. ⌜ WriteGives (writeOf profile kind number (now (body .entry)) first second nulls (length (now (nibbles .entry)))) r (now (written .exit)) (now (nibbles .entry)) (now (nibbles .exit)) ⌝ }
 {
     let w = writer::write(profile, kind, number, body, first, second, nulls, nibbles);
     match w {
@@ -147,7 +148,7 @@ pub extern "C" fn fluturenc_write(
 // Judges one line, or a broken one. Refused, and then the judge stays as it was: 11, 13, 14, in this order.
 #[no_mangle]
 pub extern "C" fn fluturenc_judge(judge: &mut u32, kind: u8, number: u16) -> u8
-    ensures { λ r. ⌜ (r ≡ judgeCall (now (judge .entry)) kind number .answer) × (now (judge .exit) ≡ judgeCall (now (judge .entry)) kind number .judge) ⌝ }
+    ensures { λ r. ⌜ JudgeGives (judgeCall (now (judge .entry)) kind number) r (now (judge .exit)) ⌝ }
 {
     let n = *judge;
     if n < 3 * PLACES {

@@ -17,34 +17,50 @@ returns : tie.Need-returns
 unfolding feedCall holdsReader
 returns c =
     let short = lt-leb stateLength (length (now (c .before .before .before .before .args .state))) (omega (arith, c .if1 .taken)) in
-    (simp short, simp short, simp short, simp short)
+    record { says = simp short; count = simp short; keeps = simp short; leaves = simp short }
 
 store-head-requires : tie.Need-store-head-requires
-store-head-requires c κs = back-front (now (c .before .before .before .before .before .before .before .before .before .before .before .before .before .before .before .before .before .before .before .before .before .before .args .state)) (c .before .before .before .before .before .before .before .before .before .before .before .before .before .before .before .before .before .before .if1 .left) (c .before .before .before .before .before .before .before .before .run-lent .last .1 .0)
+store-head-requires c κs =
+    let run = c .before .before .before .before .before .before .before .before in
+    let test = run .before .before .before .before .before .before in
+    back-front (now (test .before .before .before .before .before .before .before .before .args .state)) (test .before .before .before .before .if1 .left) (run .run-lent .last .1 .0)
 
 same-length : tie.Need-same-length
 same-length c = ⊎-elim (λ w. ap length (w .5) ∙ w .2 .kept .1 .0 ∙ c .before .before .before .before .before .before .before .state .given .1) (λ w. ap length (w .1) ∙ c .before .before .before .before .before .before .before .state .given .1) (c .before .if3 .came)
 
 returns-2 : tie.Need-returns-2
 returns-2 c =
-    let a = c .before .before .before .before .before .before .before .before .before .before .before .before .before .before .before .before .before .before .before .before .before .before .args in
+    let run = c .before .before .before .before .before .before .before .before in
+    let test = run .before .before .before .before .before .before in
+    let a = test .before .before .before .before .before .before .before .before .args in
     let s = now (a .state) in
     let w = now (a .nibbles) in
     let line = now (a .line) in
-    let h = c .before .before .before .before .before .before .before .before .before .before .before .head-in .result in
-    let r = c .before .before .before .before .before .before .before .before .run-lent in
-    let room = c .before .before .before .before .before .before .before .before .before .before .before .before .before .before .before .before .before .before .if1 .left in
-    let read = c .before .before .before .before .before .before .before .before .before .before .before .head-in .ensures in
-    let e = feed-lent s room w line h read (sym (c .before .before .before .before .before .before .before .before .before .before .before .before .before .before .is-tagged .ensures) ∙ c .before .before .before .before .before .before .before .before .before .before .before .before .before .if2 .taken) in
+    let h = run .before .before .before .head-in .result in
+    let r = run .run-lent in
+    let room = test .before .before .before .before .if1 .left in
+    let read = run .before .before .before .head-in .ensures in
+    let e = feed-lent s room w line h read (sym (test .is-tagged .ensures) ∙ run .before .before .before .before .before .if2 .taken) in
     let told = told-answer (h .profile) (r .result .answer) (r .last .1 .1 .1 .0) (lentRun h s w line .outcome) (r .ensures .says) in
     let left = ⊎-elim (λ b. b .5 ∙ b .2 .ensures ∙ left-stored s room w line h read (r .result .taken) (r .last .1 .0) (r .ensures .count) (r .ensures .keeps) (omega (arith, b .0 .taken)) (r .result .head) (r .ensures .next)) (λ b. b .1 ∙ left-same s room w line h read (r .result .taken) (r .last .1 .0) (r .ensures .count) (r .ensures .keeps) (omega (arith, b .0 .left))) (c .before .if3 .came) in
-    (simp (e, c .answer-number .ensures, told), simp (e, r .ensures .count), simp e left, simp (e, r .ensures .leaves))
+    record {
+      says = simp (e, c .answer-number .ensures, told);
+      count = simp (e, r .ensures .count);
+      keeps = simp e left;
+      leaves = simp (e, r .ensures .leaves);
+    }
 
 returns-3 : tie.Need-returns-3
 unfolding feedCall holdsReader
 returns-3 c =
     let long = le-leb stateLength (length (now (c .before .before .before .before .before .before .before .before .before .args .state))) (omega (arith, c .before .before .before .before .before .if1 .left)) in
-    (simp (long, ← c .before .is-tagged .ensures, c .if2 .left), simp (long, ← c .before .is-tagged .ensures, c .if2 .left), simp (long, ← c .before .is-tagged .ensures, c .if2 .left), simp (long, ← c .before .is-tagged .ensures, c .if2 .left))
+    let tags = c .before .is-tagged .ensures in
+    record {
+      says = simp (long, ← tags, c .if2 .left);
+      count = simp (long, ← tags, c .if2 .left);
+      keeps = simp (long, ← tags, c .if2 .left);
+      leaves = simp (long, ← tags, c .if2 .left);
+    }
 
 pub fluturenc-feed-spec : {M : Type 1} → statement M
 fluturenc-feed-spec =

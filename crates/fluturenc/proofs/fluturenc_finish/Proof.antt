@@ -16,13 +16,18 @@ store-requires c κs = holds-length _ (sym (c .before .before .before .before .b
 
 returns : tie.Need-returns
 returns c =
-    let f = c .before .before .before .before .before .before .finish .ensures in
-    let e = finish-call (now (c .before .before .before .before .before .before .before .before .before .before .before .before .before .args .state)) (c .before .before .before .before .before .before .before .reader-in .result) (sym (c .before .before .before .before .before .before .before .before .before .before .holds-reader .ensures) ∙ c .before .before .before .before .before .before .before .before .before .if1 .taken) (sym (c .before .before .before .before .before .before .before .reader-in .ensures)) in
-    (simp (e, c .answer-number .ensures, f .says), simp (e, c .before .before .before .store .ensures, f .next))
+    let done = c .before .before .before .before .before .before in
+    let f = done .finish .ensures in
+    let r = done .before .reader-in in
+    let held = sym (done .before .before .before .before .holds-reader .ensures) ∙ done .before .before .before .if1 .taken in
+    let e = finish-call (now (done .before .before .before .before .before .before .before .args .state)) (r .result) held (sym (r .ensures)) in
+    record { says = simp (e, c .answer-number .ensures, f .says); keeps = simp (e, c .before .before .before .store .ensures, f .next) }
 
 returns-2 : tie.Need-returns-2
 unfolding finishCall
-returns-2 c = (simp (← c .before .holds-reader .ensures, c .if1 .left), simp (← c .before .holds-reader .ensures, c .if1 .left))
+returns-2 c =
+    let held = c .before .holds-reader .ensures in
+    record { says = simp (← held, c .if1 .left); keeps = simp (← held, c .if1 .left) }
 
 pub fluturenc-finish-spec : {M : Type 1} → statement M
 fluturenc-finish-spec =

@@ -7,11 +7,18 @@ use Rattle.fluturenc.proofs.fluturenc_judge.Tie as tie
 
 returns : tie.Need-returns
 unfolding judgeCall
-returns c = (simp (lt-ltb _ _ (c .before .before .before .before .if1 .taken), c .verdict-number .ensures, c .before .before .line .ensures, c .before .before .before .judge-numbered .ensures), simp (lt-ltb _ _ (c .before .before .before .before .if1 .taken), c .before .judge-number .ensures, c .before .before .line .ensures, c .before .before .before .judge-numbered .ensures))
+returns c =
+    let small = lt-ltb _ _ (c .before .before .before .before .if1 .taken) in
+    let judge = c .before .before .before .judge-numbered .ensures in
+    let line = c .before .before .line .ensures in
+    record {
+      says = simp (small, c .verdict-number .ensures, line, judge);
+      next = simp (small, c .before .judge-number .ensures, line, judge);
+    }
 
 returns-2 : tie.Need-returns-2
 unfolding judgeCall
-returns-2 c = (simp (le-ltb _ _ (c .if1 .left)), simp (le-ltb _ _ (c .if1 .left)))
+returns-2 c = record { says = simp (le-ltb _ _ (c .if1 .left)); next = simp (le-ltb _ _ (c .if1 .left)) }
 
 pub fluturenc-judge-spec : {M : Type 1} → statement M
 fluturenc-judge-spec =

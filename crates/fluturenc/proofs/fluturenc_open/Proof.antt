@@ -11,19 +11,29 @@ use Rattle.fluturenc.proofs.fluturenc_open.Tie as tie
 
 returns : tie.Need-returns
 unfolding openCall
-returns c = (simp (← c .before .before .numbered .ensures, c .enum-told .given .1), simp (← c .before .before .numbered .ensures, c .enum-told .given .1))
+returns c =
+    let numbered = c .before .before .numbered .ensures in
+    record { says = simp (← numbered, c .enum-told .given .1); keeps = simp (← numbered, c .enum-told .given .1) }
 
 returns-2 : tie.Need-returns-2
 unfolding openCall
 returns-2 c =
+    let numbered = c .before .before .before .before .numbered .ensures in
+    let profile = c .before .before .p .given .1 in
     let short = lt-leb stateLength (length (now (c .before .before .before .before .before .before .args .state))) (omega (arith, c .if1 .taken)) in
-    (simp (← c .before .before .before .before .numbered .ensures, c .before .before .p .given .1, short), simp (← c .before .before .before .before .numbered .ensures, c .before .before .p .given .1, short))
+    record { says = simp (← numbered, profile, short); keeps = simp (← numbered, profile, short) }
 
 returns-3 : tie.Need-returns-3
 unfolding openCall
 returns-3 c =
-    let long = le-leb stateLength (length (now (c .before .before .before .before .before .before .before .before .before .before .before .args .state))) (omega (arith, c .before .before .before .before .before .if1 .left)) in
-    (simp (← c .before .before .before .before .before .before .before .before .before .numbered .ensures, c .before .before .before .before .before .before .before .p .given .1, long), simp (← c .before .before .before .before .before .before .before .before .before .numbered .ensures, c .before .before .before .before .before .before .before .p .given .1, long, c .before .before .store .ensures, c .before .before .before .before .fresh .ensures))
+    let room = c .before .before .before .before .before in
+    let numbered = room .before .before .before .before .numbered .ensures in
+    let profile = room .before .before .p .given .1 in
+    let long = le-leb stateLength (length (now (room .before .before .before .before .before .before .args .state))) (omega (arith, room .if1 .left)) in
+    record {
+      says = simp (← numbered, profile, long);
+      keeps = simp (← numbered, profile, long, c .before .before .store .ensures, c .before .before .before .before .fresh .ensures);
+    }
 
 pub fluturenc-open-spec : {M : Type 1} → statement M
 fluturenc-open-spec =

@@ -6,12 +6,14 @@ use Rattle.fluturenc.proofs.fluturenc_write.Tie as tie
 returns : tie.Need-returns
 returns c =
     let e = c .before .before .before .before .before .write .ensures in
-    (simp (← e .says, c .before .w .given .1), simp (← e .says, c .before .w .given .1), e .leaves)
+    let w = c .before .w .given .1 in
+    record { says = simp (← e .says, w); count = simp (← e .says, w); leaves = e .leaves }
 
 returns-2 : tie.Need-returns-2
 returns-2 c =
     let e = c .before .before .before .before .before .write .ensures in
-    (simp (← e .says, c .before .w2 .given .1), simp (← e .says, c .before .w2 .given .1), e .leaves)
+    let w = c .before .w2 .given .1 in
+    record { says = simp (← e .says, w); count = simp (← e .says, w); leaves = e .leaves }
 
 pub fluturenc-write-spec : {M : Type 1} → statement M
 fluturenc-write-spec =
