@@ -12,10 +12,10 @@ use Rattle.stream.specs.Written.{nibbles}
 use Rattle.reader.specs.Reader.{passes}
 use Rattle.reader_laws.specs.Passing.{Ok}
 use Rattle.listing.specs.Rows.{rowRoom}
-use Rattle.text.specs.Put.{Put, onFront}
+use Rattle.text.specs.Put.{Put}
 use Rattle.text.specs.PutLaws.{none, joined, on-front}
 use Rattle.capture.specs.declared.Lister.{Lister}
-use Rattle.capture.specs.Listed.{answerTo, afterNibble, nibbleText, listAfter, listText, takenFrom, listedText, listedOf}
+use Rattle.capture.specs.Listed.{ListGives, answerTo, afterNibble, nibbleText, listAfter, listText, takenFrom, listedText, listedOf}
 use Rattle.capture.specs.ListedLaws.{text-short}
 use Rattle.feeding.specs.UnpackedLaws.{nibbles-append}
 use Rattle.capture.specs.Portions.{byteRoom, portionOf, Lists}
@@ -109,16 +109,16 @@ next-portion {l} {m} {m′} {bs} {d} {d₁} {d₂} {i} {used} {used′} k p h ro
 
 -- the piece is at its end, or the buffer has too little room: the result
 done : {l m : Lister} {bs d d₁ : List ℕ} {i used : ℕ} → Upto l bs d i m used d₁ → passes (l .reader .head) ≡ true → takenFrom l (length d) bs ≡ i
-    → (record { lister = m; taken = i; used = used } ≡ listedOf l (length d) bs) × (d₁ ≡ onFront (listedText l (length d) bs) d)
+    → ListGives (listedOf l (length d) bs) (listedText l (length d) bs) (record { lister = m; taken = i; used = used }) d d₁
 unfolding listedOf listedText
 done {l} {m} {bs} {d} {d₁} {i} {used} p t e =
     let f = on-front (p .text-then) in
-    simp (t, e) (simp (p .lister-then, f .0), f .1)
+    simp (t, e) (record { next = simp (p .lister-then, f .count); leaves = f .leaves })
 
 -- no portion is left: no byte, or no room for a byte's text
 pub no-portion : {l m : Lister} {bs d d₁ : List ℕ} {i used : ℕ} → Upto l bs d i m used d₁ → passes (l .reader .head) ≡ true
     → portionOf (length bs - i) (length d - used) ≡ 0
-    → (record { lister = m; taken = i; used = used } ≡ listedOf l (length d) bs) × (d₁ ≡ onFront (listedText l (length d) bs) d)
+    → ListGives (listedOf l (length d) bs) (listedText l (length d) bs) (record { lister = m; taken = i; used = used }) d d₁
 no-portion {l} {m} {bs} {d} {d₁} {i} {used} p t e = done p t (p .rest ∙ ap (λ (x : ℕ). i + x) (none-taken (drop i bs) (length-drop i bs)) ∙ add-zero i)
   where
     none-taken : (w : List ℕ) → length w ≡ length bs - i → takenFrom m (length d - used) w ≡ 0
@@ -127,6 +127,6 @@ no-portion {l} {m} {bs} {d} {d₁} {i} {used} p t e = done p t (p .rest ∙ ap (
 
 -- a reader that fails its own test: nothing is taken
 pub nothing-listed : (l : Lister) (bs d : List ℕ) → passes (l .reader .head) ≡ false
-    → (record { lister = l; taken = 0; used = 0 } ≡ listedOf l (length d) bs) × (d ≡ onFront (listedText l (length d) bs) d)
+    → ListGives (listedOf l (length d) bs) (listedText l (length d) bs) (record { lister = l; taken = 0; used = 0 }) d d
 unfolding listedOf listedText
-nothing-listed l bs d e = simp e (refl, refl)
+nothing-listed l bs d e = simp e (record { next = refl; leaves = refl })

@@ -1,4 +1,5 @@
 -- A capture listed: the text of its marks or frames, and how far a lent buffer lasts.
+use mathlib.Core.Path.{_≡_}
 use mathlib.Core.Bool.{cond}
 use mathlib.Core.List.{List, [], _∷_, _++_}
 use Prim.Native.Nat.{ℕ, suc, _-_, _*_}
@@ -13,6 +14,7 @@ use Rattle.reader.specs.Reader.{passes, freshReader, feedOf, finishOf}
 use Rattle.tally.specs.declared.Tally.{Tally}
 use Rattle.tally.specs.declared.Told.{Told}
 use Rattle.tally.specs.Tally.{freshTally, takeOf, closeOf, isGood}
+use Rattle.text.specs.Put.{onFront}
 use Rattle.listing.specs.Rows.{headerRow, rowRoom, rowOf}
 use Rattle.listing.specs.Frames.{newsLine, summaryLines}
 use Rattle.capture.specs.declared.Mode.{Mode}
@@ -118,3 +120,8 @@ finishedOf l room =
       taken = 0;
       used = length (lastText l room);
     }
+
+-- what a call gives back, as one sentence: the result as the definition has it, and its text at the front of the buffer
+pub record ListGives (listed : Listed) (text : List ℕ) (r : Listed) (before after : List ℕ) : Type 0 where
+  pub next : r ≡ listed
+  pub leaves : after ≡ onFront text before

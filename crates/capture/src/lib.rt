@@ -12,9 +12,9 @@ ghost use Rattle.reader_laws.specs.Passing.{Ok};
 ghost use Rattle.tally.specs.Tally.{isGood};
 ghost use Rattle.listing.specs.Rows.{rowOf, rowRoom, ifRoom};
 ghost use Rattle.listing.specs.Frames.{newsLine, summaryLines};
-ghost use Rattle.text.specs.Put.{Put, onFront};
+ghost use Rattle.text.specs.Put.{Put, AtFront};
 ghost use Rattle.capture.specs.Portions.{byteRoom, portionOf, lister, Lists};
-ghost use Rattle.capture.specs.Listed.{freshLister, headText, textOf, reportOf, listedOf, listedText, finishedOf, lastText};
+ghost use Rattle.capture.specs.Listed.{ListGives, freshLister, headText, textOf, reportOf, listedOf, listedText, finishedOf, lastText};
 use profile::Profile;
 use reader::Head;
 use reader::Reader;
@@ -59,7 +59,7 @@ impl Lister {
 
     // Puts what stands above the list: the names of the rows' columns.
     pub fn head(self, out: &mut [u8]) -> usize
-        ensures { λ r. ⌜ (r ≡ length (ifRoom (length (now (out .entry))) (headText (self .mode)))) × (now (out .exit) ≡ onFront (ifRoom (length (now (out .entry))) (headText (self .mode))) (now (out .entry))) ⌝ }
+        ensures { λ r. ⌜ AtFront (ifRoom (length (now (out .entry))) (headText (self .mode))) r (now (out .entry)) (now (out .exit)) ⌝ }
     {
         let mode = self.mode;
         match mode {
@@ -70,7 +70,7 @@ impl Lister {
 
     // Lists the bytes of a piece, as far as the buffer has room. A reader that fails its own test takes nothing.
     pub fn list(self, input: &[u8], out: &mut [u8]) -> Listed
-        ensures { λ r. ⌜ (r ≡ listedOf self (length (now (out .entry))) (now (input .entry))) × (now (out .exit) ≡ onFront (listedText self (length (now (out .entry))) (now (input .entry))) (now (out .entry))) ⌝ }
+        ensures { λ r. ⌜ ListGives (listedOf self (length (now (out .entry))) (now (input .entry))) (listedText self (length (now (out .entry))) (now (input .entry))) r (now (out .entry)) (now (out .exit)) ⌝ }
     {
         let mode = self.mode;
         let reader = self.reader;
@@ -122,7 +122,7 @@ impl Lister {
     // Lists the last mark, if there is one, and what stands below the list, and leaves a fresh lister. A buffer of fewer than BYTE bytes
     // leaves all as it was.
     pub fn finish(self, out: &mut [u8]) -> Listed
-        ensures { λ r. ⌜ (r ≡ finishedOf self (length (now (out .entry)))) × (now (out .exit) ≡ onFront (lastText self (length (now (out .entry)))) (now (out .entry))) ⌝ }
+        ensures { λ r. ⌜ ListGives (finishedOf self (length (now (out .entry)))) (lastText self (length (now (out .entry)))) r (now (out .entry)) (now (out .exit)) ⌝ }
     {
         if out.len() < BYTE {
             return Listed {

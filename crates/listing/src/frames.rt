@@ -1,7 +1,7 @@
 // What is told of the frames of a capture: a line for each that is complete, broken or cut off, and the last two lines.
 ghost use mathlib.Core.Path.{_≡_};
 ghost use lib.ListN.{length};
-ghost use Rattle.text.specs.Put.{Puts, onFront};
+ghost use Rattle.text.specs.Put.{Puts, AtFront};
 ghost use Rattle.listing.specs.Rows.{ifRoom};
 ghost use Rattle.listing.specs.Frames.{frameWords, bordersWord, goodWords, brokenLineWords, reasonWords, completeLine, brokenLineOf, newsLine, summaryLines};
 use super::ROW;
@@ -12,7 +12,7 @@ use text::put_decimal;
 
 // Puts the line of a frame at the front of a buffer: none where there is no news.
 pub fn news(news: News, out: &mut [u8]) -> usize
-    ensures { λ r. ⌜ (r ≡ length (ifRoom (length (now (out .entry))) (newsLine news))) × (now (out .exit) ≡ onFront (ifRoom (length (now (out .entry))) (newsLine news)) (now (out .entry))) ⌝ }
+    ensures { λ r. ⌜ AtFront (ifRoom (length (now (out .entry))) (newsLine news)) r (now (out .entry)) (now (out .exit)) ⌝ }
 {
     if out.len() < ROW {
         return 0;
@@ -36,7 +36,7 @@ pub fn news(news: News, out: &mut [u8]) -> usize
 
 // Puts the last two lines at the front of a buffer: the counts, and whether all is good.
 pub fn summary(complete: u64, broken: u64, good: bool, out: &mut [u8]) -> usize
-    ensures { λ r. ⌜ (r ≡ length (ifRoom (length (now (out .entry))) (summaryLines complete broken good))) × (now (out .exit) ≡ onFront (ifRoom (length (now (out .entry))) (summaryLines complete broken good)) (now (out .entry))) ⌝ }
+    ensures { λ r. ⌜ AtFront (ifRoom (length (now (out .entry))) (summaryLines complete broken good)) r (now (out .entry)) (now (out .exit)) ⌝ }
 {
     if out.len() < ROW {
         return 0;

@@ -10,7 +10,7 @@ use lib.Dec.{leb}
 use lib.ListN.{length, take, drop, set, getD, length-append, length-drop}
 use lib.Seq.{sets, length-sets, sets-eq, set-out, drop-drop, take-suc, take-all, take-append-seam}
 use Rattle.lent_buffer.specs.StoringLaws.{sets-append, sets-front}
-use Rattle.text.specs.Put.{Puts, Put, onFront}
+use Rattle.text.specs.Put.{Puts, Put, onFront, AtFront}
 
 -- As far as there is room.
 
@@ -91,15 +91,15 @@ none d at r h e = record { room = omega arith; place = omega arith; stored = ref
 
 -- At the front.
 
-pub on-front : {d d₁ t : List ℕ} {r : ℕ} → Put d 0 t r d₁ → (r ≡ length t) × (d₁ ≡ onFront t d)
-on-front {d} {d₁} {t} p = (omega (arith, p .place), p .stored ∙ sets-front t d (omega (arith, p .room)))
+pub on-front : {d d₁ t : List ℕ} {r : ℕ} → Put d 0 t r d₁ → AtFront t r d d₁
+on-front {d} {d₁} {t} p = record { count = omega (arith, p .place); leaves = p .stored ∙ sets-front t d (omega (arith, p .room)) }
 
-pub puts-front : {d d₁ t : List ℕ} {r : ℕ} → Puts d 0 t r d₁ → length t ≤ length d → (r ≡ length t) × (d₁ ≡ onFront t d)
+pub puts-front : {d d₁ t : List ℕ} {r : ℕ} → Puts d 0 t r d₁ → length t ≤ length d → AtFront t r d d₁
 puts-front p h = on-front (whole p (omega arith))
 
 -- what then stands at the front is the text
 pub front-text : {d d₁ t : List ℕ} {r : ℕ} → Put d 0 t r d₁ → take r d₁ ≡ t
-front-text {d} {d₁} {t} p = rw (on-front p .0, on-front p .1) (take-append-seam t (drop (length t) d))
+front-text {d} {d₁} {t} p = rw (on-front p .count, on-front p .leaves) (take-append-seam t (drop (length t) d))
 
 -- a text put at the front of what follows a place
 pub in-rest :
@@ -113,5 +113,5 @@ in-rest d t at h =
 
 -- a text that was put at the front has room
 pub front-within :
-    (d t : List ℕ) {d₁ : List ℕ} {r : ℕ} → r ≡ length t → d₁ ≡ onFront t d → length d₁ ≡ length d → r ≤ length d₁
-front-within d t {d₁} {r} e put same = omega (arith, simp (length-append, length-drop) at (ap length put))
+    (d t : List ℕ) {d₁ : List ℕ} {r : ℕ} → AtFront t r d d₁ → length d₁ ≡ length d → r ≤ length d₁
+front-within d t {d₁} {r} p same = omega (arith, p .count, simp (length-append, length-drop) at (ap length (p .leaves)))

@@ -7,7 +7,7 @@ use Rattle.capture.proofs.put_news.Statement.{statement}
 use Rattle.capture.proofs.put_news.Tie as tie
 
 returns : tie.Need-returns
-returns c = part-put _ _ _ _ _ (c .before .before .before .before .before .pre) (news-short (c .before .before .before .before .before .args .news)) (c .before .before .news .ensures .0) (c .before .before .news .ensures .1)
+returns c = part-put _ _ _ _ _ (c .before .before .before .before .before .pre) (news-short (c .before .before .before .before .before .args .news)) (c .before .before .news .ensures .count) (c .before .before .news .ensures .leaves)
 
 add-result : tie.Need-add-result
 add-result c = let h = returns c in omega (arith, h .place, h .room)

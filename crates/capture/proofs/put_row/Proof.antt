@@ -7,7 +7,7 @@ use Rattle.capture.proofs.put_row.Statement.{statement}
 use Rattle.capture.proofs.put_row.Tie as tie
 
 returns : tie.Need-returns
-returns c = let a = c .before .before .before .before .before .args in part-put _ _ _ _ _ (c .before .before .before .before .before .pre) (row-short (a .mark) (a .answer)) (c .before .before .row .ensures .0) (c .before .before .row .ensures .1)
+returns c = let a = c .before .before .before .before .before .args in part-put _ _ _ _ _ (c .before .before .before .before .before .pre) (row-short (a .mark) (a .answer)) (c .before .before .row .ensures .count) (c .before .before .row .ensures .leaves)
 
 add-result : tie.Need-add-result
 add-result c = let h = returns c in omega (arith, h .place, h .room)

@@ -7,7 +7,7 @@ use Rattle.capture.proofs.put_summary.Statement.{statement}
 use Rattle.capture.proofs.put_summary.Tie as tie
 
 returns : tie.Need-returns
-returns c = let t = c .before .before .before .before .before .before .args .tally in rw (← c .before .before .before .before .is-good .ensures) (part-put _ _ _ _ _ (c .before .before .before .before .before .before .pre) (summary-short (t .complete) (t .broken) (c .before .before .before .before .is-good .result)) (c .before .before .summary .ensures .0) (c .before .before .summary .ensures .1))
+returns c = let t = c .before .before .before .before .before .before .args .tally in rw (← c .before .before .before .before .is-good .ensures) (part-put _ _ _ _ _ (c .before .before .before .before .before .before .pre) (summary-short (t .complete) (t .broken) (c .before .before .before .before .is-good .result)) (c .before .before .summary .ensures .count) (c .before .before .summary .ensures .leaves))
 
 add-result : tie.Need-add-result
 add-result c = let h = returns c in omega (arith, h .place, h .room)

@@ -1,3 +1,4 @@
+-- At each turn every byte so far is a pixel; the bytes left fall.
 use mathlib.Core.Path.{_≡_, refl, sym, _∙_}
 use Prim.Native.Nat.{_≤_, _-_}
 use borrow.Author.Needs.{needs}

@@ -1,3 +1,4 @@
+-- The header tells the border setting; a file that begins with neither is refused with 20.
 use borrow.Author.Needs.{needs}
 use borrow.Rule.Slice.PartAt.{part-to-end}
 use Rattle.lent_buffer.specs.FilledLaws.{refuses}

@@ -1,3 +1,4 @@
+-- The tests in the order of the definition: length, pixels, room; past them the rows are copied to the front.
 use mathlib.Core.Path.{sym, ap, _∙_}
 use mathlib.Core.List.{List, _++_}
 use Prim.Native.Nat.{ℕ}

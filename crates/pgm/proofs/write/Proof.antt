@@ -1,3 +1,4 @@
+-- By the length of the rows: one of the two border settings has it, or 21.
 use mathlib.Core.Path.{sym, _∙_}
 use borrow.Author.Tests.{eq-eqb, ne-eqb}
 use Rattle.lent_buffer.specs.FilledLaws.{refuses}

@@ -1,3 +1,4 @@
+-- The tests in the order of the definition; past them the header and the rows, end to end, are the buffer's front.
 use borrow.Author.Tests.{lt-leb, le-leb}
 use Rattle.lent_buffer.specs.Filled.{require}
 use Rattle.lent_buffer.specs.FilledLaws.{refuses, fills}

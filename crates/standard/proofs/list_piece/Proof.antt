@@ -31,8 +31,8 @@ used-fits : (c : tie.After-list Inv-loop μ-loop) → c .list .result .used ≤ 
 unfolding listedOf
 used-fits c =
     let l = c .before .before .before .before .loop in
-    let u = ap (λ (r : Listed). r .used) (c .list .ensures .0) in
-    front-within (l .out) (listedText (l .l) (length (l .out)) (rest c)) u (c .list .ensures .1) (c .list .kept .1 .1 .0)
+    let u = ap (λ (r : Listed). r .used) (c .list .ensures .next) in
+    front-within (l .out) (listedText (l .l) (length (l .out)) (rest c)) (record { count = u; leaves = c .list .ensures .leaves }) (c .list .kept .1 .1 .0)
 
 -- it takes no more bytes than are left
 taken-fits :
@@ -42,7 +42,7 @@ unfolding listedOf
 taken-fits c =
     let l = c .before .before .before .before .loop in
     let e : length (rest c) ≡ length (c .before .before .before .before .before .before .before .args .piece .now) - l .at = simp (length-take, length-drop) (omega arith) in
-    let t = ap (λ (r : Listed). r .taken) (c .list .ensures .0) in
+    let t = ap (λ (r : Listed). r .taken) (c .list .ensures .next) in
     let w = taken-within (l .l) (length (l .out)) (rest c) in
     omega (arith, t, w, e, c .before .before .before .loop-test .taken)
 

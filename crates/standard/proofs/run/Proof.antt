@@ -16,14 +16,14 @@ head-fits : (c : tie.After-head) → c .head .result ≤ length (c .head .last .
 head-fits c =
     let d = c .before .before .before .buffer .result in
     let h = c .head in
-    front-within d (ifRoom (length d) (headText (c .before .before .new .result .mode))) (h .ensures .0) (h .ensures .1) (h .kept .1 .0)
+    front-within d (ifRoom (length d) (headText (c .before .before .new .result .mode))) (h .ensures) (h .kept .1 .0)
 
 last-fits : (c : tie.After-finish) → c .finish .result .used ≤ length (c .finish .last .1 .0)
 unfolding finishedOf
 last-fits c =
     let d = c .before .before .before .before .before .before .before .before .head .last .1 .0 in
-    let u = ap (λ (r : Listed). r .used) (c .finish .ensures .0) in
-    front-within d (lastText (c .before .before .before .before .list-all .result .lister) (length d)) u (c .finish .ensures .1) (c .finish .kept .1 .0)
+    let u = ap (λ (r : Listed). r .used) (c .finish .ensures .next) in
+    front-within d (lastText (c .before .before .before .before .list-all .result .lister) (length d)) (record { count = u; leaves = c .finish .ensures .leaves }) (c .finish .kept .1 .0)
 
 array-share-prefix-out : tie.Need-array-share-prefix-out
 array-share-prefix-out c = head-fits (c .before)

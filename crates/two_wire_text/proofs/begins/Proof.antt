@@ -1,3 +1,4 @@
+-- At each turn the first i characters are the word's; a line that ends or differs before the word does not begin with it.
 use mathlib.Core.Path.{_≡_, refl, sym, _∙_}
 use Prim.Native.Nat.{_≤_, _-_}
 use borrow.Author.Needs.{needs}

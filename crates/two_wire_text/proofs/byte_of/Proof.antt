@@ -1,3 +1,4 @@
+-- Two digits, each at most 16, joined and cut to a byte: nothing overflows sixteen bits.
 use Rattle.two_wire_text.specs.Text.{byteOf}
 use borrow.Author.Needs.{needs}
 use Rattle.two_wire_text.proofs.byte_of.Statement.{statement}

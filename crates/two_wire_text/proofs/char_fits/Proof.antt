@@ -1,3 +1,4 @@
+-- Every third character is a space; any other must be a digit, which the call for digits tells.
 use Prim.Native.Nat.{_%_}
 use borrow.Author.Tests.{eq-eqb, ne-eqb}
 use Rattle.two_wire_text.specs.Text.{charFits}

@@ -1,3 +1,4 @@
+-- Each test that fails makes it no number; past them one digit more stays within 65,535.
 use borrow.Author.Tests.{lt-ltb, le-ltb}
 use Rattle.two_wire_text.specs.Text.{digitOnto}
 use borrow.Author.Needs.{needs}

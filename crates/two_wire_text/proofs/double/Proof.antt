@@ -1,3 +1,4 @@
+-- Up to 65,535 the value is two bytes, by division and remainder; above it no setting is known.
 use borrow.Author.Tests.{lt-ltb, le-ltb}
 use Rattle.two_wire_text.specs.Lines.{double}
 use borrow.Author.Needs.{needs}

@@ -31,7 +31,7 @@ array-share-prefix-bytes c = put-within (decoded (c .before .before .before .bef
 slice-aggregate-read-message : tie.Need-slice-aggregate-read-message
 slice-aggregate-read-message c =
     let p = decoded (c .before .before .before .before .before .before .args .line .now) (c .before .before .before .if1 .left) (le-refl 256) (c .before .decode .ensures) in
-    rw (front-text p) (on-front p .0)
+    rw (front-text p) (on-front p .count)
 
 returns-2 : tie.Need-returns-2
 unfolding messageText messageSensor

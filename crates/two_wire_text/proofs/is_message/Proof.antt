@@ -1,3 +1,4 @@
+-- The length must leave 2 by 3; then each character is tried at its place, and those left fall.
 use mathlib.Core.Path.{_≡_, refl, sym, _∙_}
 use Prim.Native.Nat.{_≤_, _-_, _%_}
 use borrow.Author.Needs.{needs}

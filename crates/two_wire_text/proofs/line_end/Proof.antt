@@ -1,3 +1,4 @@
+-- At each turn no newline stands between the start and the place; the characters left fall.
 use mathlib.Core.Path.{_≡_, refl, ap}
 use Prim.Native.Nat.{_+_, _-_}
 use native.Mathlib.Omega.{arith}

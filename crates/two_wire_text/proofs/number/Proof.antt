@@ -1,3 +1,4 @@
+-- At each turn the number is that of the digits so far; the characters left fall.
 use mathlib.Core.Path.{_≡_, sym, _∙_}
 use Prim.Native.Nat.{_≤_, _-_}
 use borrow.Author.Needs.{needs}

@@ -1,3 +1,4 @@
+-- One word after another is tried, in the order of the definition; a word that begins the line settles which register it names.
 use Rattle.two_wire_text.specs.Lines.{setupSetting}
 use borrow.Author.Needs.{needs}
 use Rattle.two_wire_text.proofs.setup_setting.Statement.{statement}

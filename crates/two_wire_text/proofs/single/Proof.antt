@@ -1,3 +1,4 @@
+-- Up to 255 the value is one byte; above it no setting is known.
 use borrow.Author.Tests.{lt-ltb, le-ltb}
 use Rattle.two_wire_text.specs.Lines.{single}
 use borrow.Author.Needs.{needs}

@@ -11,14 +11,14 @@ use Rattle.capture.proofs.Lister.finish.Tie as tie
 
 returns : tie.Need-returns
 unfolding lastText finishedOf
-returns c = simp (lt-ltb _ _ (c .if1 .taken)) (refl, refl)
+returns c = simp (lt-ltb _ _ (c .if1 .taken)) (record { next = refl; leaves = refl })
 
 put-report-requires : tie.Need-put-report-requires
 put-report-requires c κs = omega (arith, c .before .before .before .before .before .before .before .before .before .before .if1 .left, c .before .before .before .before .put-text .ensures .place, put-length (c .before .before .before .before .put-text .ensures), text-short (c .before .before .before .before .before .before .before .before .before .before .before .before .args .self .mode) (c .before .before .before .before .before .before .close .result) (c .before .before .before .before .before .before .before .before .finish .result .answer))
 
 returns-2 : tie.Need-returns-2
 unfolding lastText finishedOf
-returns-2 c = let p = on-front (joined (c .before .before .before .before .before .before .before .before .before .put-text .ensures) (c .before .before .before .before .put-report .ensures)) in simp (le-ltb _ _ (c .before .before .before .before .before .before .before .before .before .before .before .before .before .before .before .if1 .left), ← c .before .before .before .before .before .before .before .before .before .before .before .before .before .finish .ensures .next, ← c .before .before .before .before .before .before .before .before .before .before .before .before .before .finish .ensures .says, ← c .before .before .before .before .before .before .before .before .before .before .before .close .ensures, c .new .ensures) (simp (p .0), p .1)
+returns-2 c = let p = on-front (joined (c .before .before .before .before .before .before .before .before .before .put-text .ensures) (c .before .before .before .before .put-report .ensures)) in simp (le-ltb _ _ (c .before .before .before .before .before .before .before .before .before .before .before .before .before .before .before .if1 .left), ← c .before .before .before .before .before .before .before .before .before .before .before .before .before .finish .ensures .next, ← c .before .before .before .before .before .before .before .before .before .before .before .before .before .finish .ensures .says, ← c .before .before .before .before .before .before .before .before .before .before .before .close .ensures, c .new .ensures) (record { next = simp (p .count); leaves = p .leaves })
 
 pub finish-spec : {M : Type 1} → statement M
 finish-spec =

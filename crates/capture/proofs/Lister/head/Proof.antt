@@ -9,7 +9,7 @@ returns : tie.Need-returns
 returns c = simp (c .before .before .before .before .enum-told .given .1) (c .before .before .header .ensures)
 
 returns-2 : tie.Need-returns-2
-returns-2 c = simp (c .enum-told2 .given .1, no-row) (refl, refl)
+returns-2 c = simp (c .enum-told2 .given .1, no-row) (record { count = refl; leaves = refl })
 
 pub head-spec : {M : Type 1} → statement M
 head-spec =

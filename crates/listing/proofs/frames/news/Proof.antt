@@ -13,11 +13,11 @@ use Rattle.listing.proofs.frames.news.Tie as tie
 
 returns : tie.Need-returns
 unfolding ifRoom
-returns c = simp (lt-ltb _ _ (c .if1 .taken)) (refl, refl)
+returns c = simp (lt-ltb _ _ (c .if1 .taken)) (record { count = refl; leaves = refl })
 
 returns-2 : tie.Need-returns-2
 unfolding ifRoom newsLine
-returns-2 c = simp (le-ltb _ _ (c .before .before .if1 .left), c .enum-told .given .1) (refl, refl)
+returns-2 c = simp (le-ltb _ _ (c .before .before .if1 .left), c .enum-told .given .1) (record { count = refl; leaves = refl })
 
 returns-3 : tie.Need-returns-3
 unfolding ifRoom newsLine

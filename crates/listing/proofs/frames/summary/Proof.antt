@@ -12,7 +12,7 @@ use Rattle.listing.proofs.frames.summary.Tie as tie
 
 returns : tie.Need-returns
 unfolding ifRoom
-returns c = simp (lt-ltb _ _ (c .if1 .taken)) (refl, refl)
+returns c = simp (lt-ltb _ _ (c .if1 .taken)) (record { count = refl; leaves = refl })
 
 returns-2 : tie.Need-returns-2
 unfolding ifRoom summaryLines

@@ -1,3 +1,4 @@
+-- At each turn the first i bytes are the header's; the bytes left fall.
 use mathlib.Core.Path.{_≡_, refl, sym, ap, _∙_}
 use Prim.Native.Nat.{_≤_, _-_}
 use native.Mathlib.Omega.{arith}

@@ -1,3 +1,4 @@
+-- Height times width, both small, so that the product is exact.
 use native.Mathlib.Omega.{arith}
 use Rattle.pgm.specs.PgmLaws.{height-most}
 use borrow.Author.Needs.{needs}
