@@ -44,45 +44,50 @@ slice-aggregate-all c =
 
 loop-holds : tie.Need-loop-holds Inv-loop μ-loop
 loop-holds c =
+    let pre = c .before .before .before .before .before .before .before .before .pre in
     let a = c .before .before .before .before .before .before .before .before .args in
     let k : c .before .before .unpack .result ≡ length (now (a .bytes)) = omega (arith, c .before .before .unpack .ensures .0) in
     let e = whole (now (a .bytes)) _ _ _ k (c .before .before .unpack .ensures .1) in
     let small = subst (λ v. Small (nibbles v)) (take-all (c .before .before .unpack .result) (now (a .bytes)) (omega (arith, k))) (c .before .before .unpack .ensures .2) in
-    (along-start _ _ _ _ (omega arith) (c .before .before .before .before .before .before .before .before .pre .0), search needs, search needs, subst Small (sym e) small, ap length e ∙ nibbles-length (now (a .bytes)) ∙ ap (λ n. 2 * n) (sym k), omega (arith, k), omega (arith, k))
+    (along-start _ _ _ _ (omega arith) (pre .0), search needs, search needs, subst Small (sym e) small, ap length e ∙ nibbles-length (now (a .bytes)) ∙ ap (λ n. 2 * n) (sym k), omega (arith, k), omega (arith, k))
 
 sub-run-lent : tie.Need-sub-run-lent Inv-loop μ-loop
 sub-run-lent c = c .before .before .loop .inv .0 .within
 
 add-i : tie.Need-add-i Inv-loop μ-loop
 add-i c =
+    let loop-test = c .before .before .before .before .before .before .before .before .before .before .loop-test in
     let l = c .before .before .before .before .before .before .before .before .before .before .before .loop in
     let e = c .before .before .before .before .before .before .run-lent .ensures in
     let t = part-onward (l .head) (l .body) _ (l .i) _ (l .inv .0 .sound) (l .inv .1) (l .inv .2) in
-    let lt = subst (λ n. l .i < n) (sym (l .inv .4)) (c .before .before .before .before .before .before .before .before .before .before .loop-test .taken) in
+    let lt = subst (λ n. l .i < n) (sym (l .inv .4)) (loop-test .taken) in
     let n = along-count (l .inv .0) (l .inv .3) lt _ t (e .count) in
     omega (arith, n .1, l .inv .4, l .inv .6)
 
 put-text-requires : tie.Need-put-text-requires Inv-loop μ-loop
 put-text-requires c κs =
+    let loop-test = c .before .before .before .before .before .before .before .before .before .before .before .before .before .loop-test in
     let l = c .before .before .before .before .before .before .before .before .before .before .before .before .before .before .loop in
     let p = l .inv .0 in
-    omega (arith, p .text-put .place, p .short, c .before .before .before .before .before .before .before .before .before .before .before .before .before .loop-test .taken, l .inv .5, put-length (p .text-put))
+    omega (arith, p .text-put .place, p .short, loop-test .taken, l .inv .5, put-length (p .text-put))
 
 loop-less : tie.Need-loop-less Inv-loop μ-loop
 loop-less c =
+    let loop-test = c .before .before .before .before .before .before .before .before .before .before .before .before .before .before .before .before .loop-test in
     let l = c .before .before .before .before .before .before .before .before .before .before .before .before .before .before .before .before .before .loop in
     let e = c .before .before .before .before .before .before .before .before .before .before .before .before .run-lent .ensures in
     let t = part-onward (l .head) (l .body) _ (l .i) _ (l .inv .0 .sound) (l .inv .1) (l .inv .2) in
-    let lt = subst (λ n. l .i < n) (sym (l .inv .4)) (c .before .before .before .before .before .before .before .before .before .before .before .before .before .before .before .before .loop-test .taken) in
+    let lt = subst (λ n. l .i < n) (sym (l .inv .4)) (loop-test .taken) in
     let n = along-count (l .inv .0) (l .inv .3) lt _ t (e .count) in
     omega (arith, n .0, n .1, l .inv .4, lt)
 
 loop-again : tie.Need-loop-again Inv-loop μ-loop
 loop-again c =
+    let loop-test = c .before .before .before .before .before .before .before .before .before .before .before .before .before .before .before .before .loop-test in
     let l = c .before .before .before .before .before .before .before .before .before .before .before .before .before .before .before .before .before .loop in
     let e = c .before .before .before .before .before .before .before .before .before .before .before .before .run-lent .ensures in
     let t = part-onward (l .head) (l .body) _ (l .i) _ (l .inv .0 .sound) (l .inv .1) (l .inv .2) in
-    let lt = subst (λ n. l .i < n) (sym (l .inv .4)) (c .before .before .before .before .before .before .before .before .before .before .before .before .before .before .before .before .loop-test .taken) in
+    let lt = subst (λ n. l .i < n) (sym (l .inv .4)) (loop-test .taken) in
     let told = answer-of _ _ _ _ (e .says) in (
       along-next (l .inv .0) (l .inv .3) lt _ t (e .next) (e .keeps) (e .count) told (c .before .before .before .before .before .take .ensures) (c .before .before .put-text .ensures),
       search needs,

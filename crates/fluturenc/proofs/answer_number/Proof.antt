@@ -4,7 +4,9 @@ use Rattle.fluturenc.proofs.answer_number.Statement.{statement}
 use Rattle.fluturenc.proofs.answer_number.Tie as tie
 
 returns-2 : tie.Need-returns-2
-returns-2 c = simp (c .before .before .before .before .before .before .before .answer .given .1, c .before .before .bit .ensures, c .before .before .before .is-repaired .ensures, c .before .before .before .before .number2 .ensures, c .before .before .before .before .before .number .ensures, c .before .number3 .ensures)
+returns-2 c =
+    let answer = c .before .before .before .before .before .before .before .answer in
+    simp (answer .given .1, c .before .before .bit .ensures, c .before .before .before .is-repaired .ensures, c .before .before .before .before .number2 .ensures, c .before .before .before .before .before .number .ensures, c .before .number3 .ensures)
 
 returns-3 : tie.Need-returns-3
 returns-3 c = simp (c .before .before .before .before .before .answer2 .given .1)

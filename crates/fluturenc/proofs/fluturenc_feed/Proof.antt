@@ -26,7 +26,9 @@ store-head-requires c κs =
     back-front (now (test .before .before .before .before .before .before .before .before .args .state)) (test .before .before .before .before .if1 .left) (run .run-lent .last .1 .0)
 
 same-length : tie.Need-same-length
-same-length c = ⊎-elim (λ w. ap length (w .5) ∙ w .2 .kept .1 .0 ∙ c .before .before .before .before .before .before .before .state .given .1) (λ w. ap length (w .1) ∙ c .before .before .before .before .before .before .before .state .given .1) (c .before .if3 .came)
+same-length c =
+    let state = c .before .before .before .before .before .before .before .state in
+    ⊎-elim (λ w. ap length (w .5) ∙ w .2 .kept .1 .0 ∙ state .given .1) (λ w. ap length (w .1) ∙ state .given .1) (c .before .if3 .came)
 
 returns-2 : tie.Need-returns-2
 returns-2 c =
@@ -53,7 +55,8 @@ returns-2 c =
 returns-3 : tie.Need-returns-3
 unfolding feedCall holdsReader
 returns-3 c =
-    let long = le-leb stateLength (length (now (c .before .before .before .before .before .before .before .before .before .args .state))) (omega (arith, c .before .before .before .before .before .if1 .left)) in
+    let args = c .before .before .before .before .before .before .before .before .before .args in
+    let long = le-leb stateLength (length (now (args .state))) (omega (arith, c .before .before .before .before .before .if1 .left)) in
     let tags = c .before .is-tagged .ensures in
     record {
       says = simp (long, ← tags, c .if2 .left);

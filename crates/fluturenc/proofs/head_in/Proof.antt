@@ -6,7 +6,11 @@ use Rattle.fluturenc.proofs.head_in.Tie as tie
 
 returns : tie.Need-returns
 unfolding headIn
-returns c = simp (c .before .before .before .before .before .before .before .before .before .before .before .before .before .before .before .before .profile-of .ensures, c .before .before .before .before .before .before .before .before .before .before .before .before .before .mark-numbered .ensures, c .before .before .before .before .before .before .before .before .number-of .ensures, c .before .before .before .number-of2 .ensures)
+returns c =
+    let profile-of = c .before .before .before .before .before .before .before .before .before .before .before .before .before .before .before .before .profile-of in
+    let mark-numbered = c .before .before .before .before .before .before .before .before .before .before .before .before .before .mark-numbered in
+    let number-of = c .before .before .before .before .before .before .before .before .number-of in
+    simp (profile-of .ensures, mark-numbered .ensures, number-of .ensures, c .before .before .before .number-of2 .ensures)
 
 pub head-in-spec : {M : Type 1} → statement M
 head-in-spec =

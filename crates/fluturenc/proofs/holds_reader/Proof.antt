@@ -14,11 +14,16 @@ returns c = simp (lt-leb stateLength (length (now (c .before .before .args .stat
 
 returns-2 : tie.Need-returns-2
 unfolding holdsReader
-returns-2 c = simp (le-leb stateLength (length (now (c .before .before .before .before .before .before .before .before .before .args .state))) (omega (arith, c .before .before .before .before .before .before .before .if1 .left)), ← c .before .before .before .is-tagged .ensures, c .before .before .if2 .taken, c .passes .ensures, c .before .head-in .ensures)
+returns-2 c =
+    let args = c .before .before .before .before .before .before .before .before .before .args in
+    let test-1 = c .before .before .before .before .before .before .before .if1 in
+    simp (le-leb stateLength (length (now (args .state))) (omega (arith, test-1 .left)), ← c .before .before .before .is-tagged .ensures, c .before .before .if2 .taken, c .passes .ensures, c .before .head-in .ensures)
 
 returns-3 : tie.Need-returns-3
 unfolding holdsReader
-returns-3 c = simp (le-leb stateLength (length (now (c .before .before .before .before .before .before .before .args .state))) (omega (arith, c .before .before .before .before .before .if1 .left)), ← c .before .is-tagged .ensures, c .if2 .left)
+returns-3 c =
+    let args = c .before .before .before .before .before .before .before .args in
+    simp (le-leb stateLength (length (now (args .state))) (omega (arith, c .before .before .before .before .before .if1 .left)), ← c .before .is-tagged .ensures, c .if2 .left)
 
 pub holds-reader-spec : {M : Type 1} → statement M
 holds-reader-spec =

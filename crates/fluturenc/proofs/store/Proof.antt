@@ -20,8 +20,9 @@ copy-requires c κs = omega (arith, slice-aggregate-copy c)
 
 returns : tie.Need-returns
 returns c =
+    let store-head = c .before .before .before .before .before .before .before .store-head in
     let a = c .before .before .before .before .before .before .before .before .before .before .before .before .args in
-    c .before .before .copy .ensures ∙ ap (λ (l : List ℕ). paste l headLength (a .r .body) (length (a .r .body))) (c .before .before .before .before .before .before .before .store-head .ensures) ∙ stored-pasted (a .r) (now (a .state)) (sym (slice-aggregate-copy (c .before .before .before)))
+    c .before .before .copy .ensures ∙ ap (λ (l : List ℕ). paste l headLength (a .r .body) (length (a .r .body))) (store-head .ensures) ∙ stored-pasted (a .r) (now (a .state)) (sym (slice-aggregate-copy (c .before .before .before)))
 
 pub store-spec : {M : Type 1} → statement M
 store-spec =

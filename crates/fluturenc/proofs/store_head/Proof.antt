@@ -15,7 +15,8 @@ slice-aggregate-copy c = search needs
 
 returns : tie.Need-returns
 returns c =
-    let s = now (c .before .before .before .before .before .before .before .args .state) in
+    let args = c .before .before .before .before .before .before .before .args in
+    let s = now (args .state) in
     c .before .before .copy .ensures ∙ head-pasted s (c .before .before .before .before .before .head-bytes .result) (sym (slice-aggregate-copy (c .before .before .before))) ∙ ap (λ (l : List ℕ). l ++ drop headLength s) (c .before .before .before .before .before .head-bytes .ensures)
 
 pub store-head-spec : {M : Type 1} → statement M

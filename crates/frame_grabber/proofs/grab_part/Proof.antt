@@ -36,12 +36,13 @@ slice-aggregate-all c =
 
 loop-holds : tie.Need-loop-holds Inv-loop μ-loop
 loop-holds c =
+    let pre = c .before .before .before .before .before .before .before .pre in
     let a = c .before .before .before .before .before .before .before .args in
     let u = c .before .before .unpack .ensures in
     let k = c .before .before .unpack .result in
     let f : k ≤ length (now (a .bytes)) = omega (arith, u .0) in
     let e = ap (take (2 * k)) (u .1) ∙ front-nibbles (now (a .bytes)) k f _ in
-    (along-start _ _ _ _ _ _ _ (c .before .before .before .before .before .before .before .pre .0) e, c .before .before .before .before .before .before .before .pre .1, subst Small (sym e) (u .2), ap length e ∙ taken-length (now (a .bytes)) k f, omega (arith, u .0), f, refl)
+    (along-start _ _ _ _ _ _ _ (pre .0) e, pre .1, subst Small (sym e) (u .2), ap length e ∙ taken-length (now (a .bytes)) k f, omega (arith, u .0), f, refl)
 
 sub-grab-answer : tie.Need-sub-grab-answer Inv-loop μ-loop
 sub-grab-answer c = c .before .before .loop .inv .0 .within
@@ -53,49 +54,64 @@ grab-answer-requires c κs =
 
 add-i : tie.Need-add-i Inv-loop μ-loop
 add-i c =
+    let grab-answer = c .before .before .before .before .before .before .before .grab-answer in
     let l = c .before .before .before .before .before .before .before .before .before .before .before .before .loop in
-    let t = turn-within (l .inv .0) (c .before .before .before .before .before .before .before .grab-answer .ensures) in
+    let t = turn-within (l .inv .0) (grab-answer .ensures) in
     omega (arith, t, l .inv .3, l .inv .4)
 
 add-end : tie.Need-add-end Inv-loop μ-loop
 add-end c =
+    let grab-answer = c .before .before .before .before .before .before .before .before .before .grab-answer in
     let l = c .before .before .before .before .before .before .before .before .before .before .before .before .before .before .loop in
-    let t = turn-within (l .inv .0) (c .before .before .before .before .before .before .before .before .before .grab-answer .ensures) in
+    let t = turn-within (l .inv .0) (grab-answer .ensures) in
     omega (arith, t, l .inv .3, l .inv .4)
 
 part-end-byte-end : tie.Need-part-end-byte-end Inv-loop μ-loop
 part-end-byte-end c =
+    let grab-answer = c .before .before .before .before .before .before .before .before .before .before .grab-answer in
     let l = c .before .before .before .before .before .before .before .before .before .before .before .before .before .before .before .loop in
-    let t = turn-within (l .inv .0) (c .before .before .before .before .before .before .before .before .before .before .grab-answer .ensures) in
+    let t = turn-within (l .inv .0) (grab-answer .ensures) in
     omega (arith, t, l .inv .3, l .inv .4)
 
 end-byte-requires : tie.Need-end-byte-requires Inv-loop μ-loop
 end-byte-requires c κs =
+    let grab-answer = c .before .before .before .before .before .before .before .before .before .before .before .grab-answer in
     let l = c .before .before .before .before .before .before .before .before .before .before .before .before .before .before .before .before .loop in
-    let j = l .i + c .before .before .before .before .before .before .before .before .before .before .before .grab-answer .result .taken in
-    (c .before .before .before .before .before .before .before .before .before .before .before .grab-answer .ensures .sound, search needs, small-take (small-drop (l .inv .2) j) (j + j % 2 - j), search needs)
+    let j = l .i + grab-answer .result .taken in
+    (grab-answer .ensures .sound, search needs, small-take (small-drop (l .inv .2) j) (j + j % 2 - j), search needs)
 
 same-length : tie.Need-same-length Inv-loop μ-loop
-same-length c = c .before .before .before .end-byte .kept .1 .0 ∙ c .before .before .before .before .before .before .before .before .before .before .before .before .before .before .before .grab-answer .kept .1 .0 ∙ c .before .before .before .before .before .before .before .before .before .before .before .before .before .before .before .before .before .before .before .before .loop .inv .1 ∙ sym (c .before .before .before .before .before .before .before .before .before .before .before .before .before .before .before .before .before .before .before .before .before .before .before .before .before .before .before .before .pre .1)
+same-length c =
+    let pre = c .before .before .before .before .before .before .before .before .before .before .before .before .before .before .before .before .before .before .before .before .before .before .before .before .before .before .before .before .pre in
+    let loop = c .before .before .before .before .before .before .before .before .before .before .before .before .before .before .before .before .before .before .before .before .loop in
+    let grab-answer = c .before .before .before .before .before .before .before .before .before .before .before .before .before .before .before .grab-answer in
+    c .before .before .before .end-byte .kept .1 .0 ∙ grab-answer .kept .1 .0 ∙ loop .inv .1 ∙ sym (pre .1)
 
 same-length-2 : tie.Need-same-length-2 Inv-loop μ-loop
-same-length-2 c = c .before .before .before .before .before .before .before .before .before .before .before .before .before .before .before .grab-answer .kept .1 .1 .1 .1 .0 ∙ c .before .before .before .before .before .before .before .before .before .before .before .before .before .before .before .before .before .before .before .before .loop .inv .6
+same-length-2 c =
+    let loop = c .before .before .before .before .before .before .before .before .before .before .before .before .before .before .before .before .before .before .before .before .loop in
+    let grab-answer = c .before .before .before .before .before .before .before .before .before .before .before .before .before .before .before .grab-answer in
+    grab-answer .kept .1 .1 .1 .1 .0 ∙ loop .inv .6
 
 returns : tie.Need-returns Inv-loop μ-loop
 returns c =
+    let grab-answer = c .before .before .before .before .before .before .before .before .before .before .before .before .before .before .before .grab-answer in
+    let tells = c .before .before .before .before .before .before .before .tells in
     let l = c .before .before .before .before .before .before .before .before .before .before .before .before .before .before .before .before .before .before .before .before .loop in
-    along-stop (l .inv .0) (c .before .before .before .before .before .before .before .before .before .before .before .before .before .before .before .grab-answer .ensures) (sym (c .before .before .before .before .before .before .before .tells .ensures) ∙ c .before .before .before .before .before .before .if1 .taken) (l .inv .3) (l .inv .5) refl (c .before .before .before .end-byte .ensures) (c .stepped .ensures)
+    along-stop (l .inv .0) (grab-answer .ensures) (sym (tells .ensures) ∙ c .before .before .before .before .before .before .if1 .taken) (l .inv .3) (l .inv .5) refl (c .before .before .before .end-byte .ensures) (c .stepped .ensures)
 
 loop-less : tie.Need-loop-less Inv-loop μ-loop
 loop-less c =
+    let grab-answer = c .before .before .before .before .before .before .before .before .before .grab-answer in
     let l = c .before .before .before .before .before .before .before .before .before .before .before .before .before .before .loop in
-    let t = turn-within (l .inv .0) (c .before .before .before .before .before .before .before .before .before .grab-answer .ensures) in
-    omega (arith, t, c .before .before .before .before .before .before .before .before .before .grab-answer .ensures .some, l .inv .3)
+    let t = turn-within (l .inv .0) (grab-answer .ensures) in
+    omega (arith, t, grab-answer .ensures .some, l .inv .3)
 
 loop-again : tie.Need-loop-again Inv-loop μ-loop
 loop-again c =
+    let grab-answer = c .before .before .before .before .before .before .before .before .before .grab-answer in
     let l = c .before .before .before .before .before .before .before .before .before .before .before .before .before .before .loop in
-    (along-next (l .inv .0) (c .before .before .before .before .before .before .before .before .before .grab-answer .ensures) (sym (c .before .tells .ensures) ∙ c .if1 .left), search needs, l .inv .2, l .inv .3, l .inv .4, l .inv .5, search needs)
+    (along-next (l .inv .0) (grab-answer .ensures) (sym (c .before .tells .ensures) ∙ c .if1 .left), search needs, l .inv .2, l .inv .3, l .inv .4, l .inv .5, search needs)
 
 returns-2 : tie.Need-returns-2 Inv-loop μ-loop
 returns-2 c =

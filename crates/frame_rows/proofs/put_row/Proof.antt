@@ -12,14 +12,18 @@ use Rattle.frame_rows.proofs.put_row.Statement.{statement}
 use Rattle.frame_rows.proofs.put_row.Tie as tie
 
 returns : tie.Need-returns
-returns c = let a = c .before .before .before .before .before .before .before .before .args in
-    simp (c .before .before .before .before .enum-told .given .1) (put-copied (a .rows .now) _ (a .at) (a .body .now) longest (c .before .before .before .before .before .before .before .before .pre .0) (c .before .before .copy .ensures .1))
+returns c =
+    let pre = c .before .before .before .before .before .before .before .before .pre in
+    let a = c .before .before .before .before .before .before .before .before .args in
+    simp (c .before .before .before .before .enum-told .given .1) (put-copied (a .rows .now) _ (a .at) (a .body .now) longest (pre .0) (c .before .before .copy .ensures .1))
 
 returns-2 : tie.Need-returns-2
-returns-2 c = let a = c .before .before .before .before .before .before .before .before .before .args in
+returns-2 c =
+    let pre = c .before .before .before .before .before .before .before .before .before .pre in
+    let a = c .before .before .before .before .before .before .before .before .before .args in
     simp (c .before .before .before .before .before .enum-told2 .given .1)
     (put-used (a .rows .now) _ (a .at) _ (reordered ToPixels (a .body .now)) longest
-    (in-order ToPixels _ _ (a .body .now) (eq-eqb _ (kindNumber VL) (c .before .before .before .before .number .ensures)) (c .before .before .before .before .before .before .before .before .before .pre .0) (search needs)) (c .before .before .to-pixels .ensures .leaves))
+    (in-order ToPixels _ _ (a .body .now) (eq-eqb _ (kindNumber VL) (c .before .before .before .before .number .ensures)) (pre .0) (search needs)) (c .before .before .to-pixels .ensures .leaves))
 
 pub put-row-spec : {M : Type 1} → statement M
 put-row-spec =

@@ -36,11 +36,15 @@ slice-aggregate-body-fits c = sym (length-take-le _ _ (c .before .if1 .left))
 
 returns-2 : tie.Need-returns-2
 unfolding require
-returns-2 c = simp (← c .before .before .before .before .before .before .before .before .body-length .ensures, ← c .before .before .before .before .before .body-fits .ensures, c .before .before .before .before .if2 .taken, ← c .before .before .before .read .ensures, ← c .before .before .is-end .ensures, c .before .if3 .taken, ← c .repair .ensures)
+returns-2 c =
+    let body-length = c .before .before .before .before .before .before .before .before .body-length in
+    simp (← body-length .ensures, ← c .before .before .before .before .before .body-fits .ensures, c .before .before .before .before .if2 .taken, ← c .before .before .before .read .ensures, ← c .before .before .is-end .ensures, c .before .if3 .taken, ← c .repair .ensures)
 
 returns-3 : tie.Need-returns-3
 unfolding require
-returns-3 c = simp (← c .before .before .before .before .before .before .before .body-length .ensures, ← c .before .before .before .before .body-fits .ensures, c .before .before .before .if2 .taken, ← c .before .before .read .ensures, ← c .before .is-end .ensures, c .if3 .left)
+returns-3 c =
+    let body-length = c .before .before .before .before .before .before .before .body-length in
+    simp (← body-length .ensures, ← c .before .before .before .before .body-fits .ensures, c .before .before .before .if2 .taken, ← c .before .before .read .ensures, ← c .before .is-end .ensures, c .if3 .left)
 
 returns-4 : tie.Need-returns-4
 unfolding require

@@ -13,13 +13,16 @@ returns c = refuses _ _ _ (cut-header (c .before .before .before .args .file .no
 returns-2 : tie.Need-returns-2
 unfolding readOf either
 returns-2 c =
-    simp (← c .before .before .before .before .before .heads .ensures, c .before .before .before .before .if2 .taken) (rw (part-to-end (c .before .before .before .before .before .before .before .before .before .before .args .file .now) headerLength) at (c .before .before .read-as .ensures))
+    let args = c .before .before .before .before .before .before .before .before .before .before .args in
+    simp (← c .before .before .before .before .before .heads .ensures, c .before .before .before .before .if2 .taken) (rw (part-to-end (args .file .now) headerLength) at (c .before .before .read-as .ensures))
 
 returns-3 : tie.Need-returns-3
 unfolding readOf either
 returns-3 c =
-    simp (← c .before .before .before .before .before .before .before .heads .ensures, c .before .before .before .before .before .before .if2 .left, ← c .before .before .before .before .before .heads2 .ensures, c .before .before .before .before .if3 .taken)
-    (rw (part-to-end (c .before .before .before .before .before .before .before .before .before .before .before .before .args .file .now) headerLength) at (c .before .before .read-as2 .ensures))
+    let args = c .before .before .before .before .before .before .before .before .before .before .before .before .args in
+    let heads = c .before .before .before .before .before .before .before .heads in
+    simp (← heads .ensures, c .before .before .before .before .before .before .if2 .left, ← c .before .before .before .before .before .heads2 .ensures, c .before .before .before .before .if3 .taken)
+    (rw (part-to-end (args .file .now) headerLength) at (c .before .before .read-as2 .ensures))
 
 returns-4 : tie.Need-returns-4
 unfolding readOf either

@@ -19,16 +19,19 @@ returns c = refuses _ _ _ (simp (ne-eqb _ (size (c .before .before .before .befo
 returns-2 : tie.Need-returns-2
 unfolding require
 returns-2 c =
+    let args = c .before .before .before .before .before .before .before .args in
     refuses _ _ _
-    (simp (eq-eqb _ (size (c .before .before .before .before .before .before .before .args .borders)) (c .before .before .before .if1 .left ∙ c .before .before .before .before .size .ensures), ← c .before .before .all-pixels .ensures, c .before .if2 .taken, lt-leb _ _ (c .if3 .taken)))
+    (simp (eq-eqb _ (size (args .borders)) (c .before .before .before .if1 .left ∙ c .before .before .before .before .size .ensures), ← c .before .before .all-pixels .ensures, c .before .if2 .taken, lt-leb _ _ (c .if3 .taken)))
 
 returns-3 : tie.Need-returns-3
 unfolding require
 returns-3 c =
+    let size-there = c .before .before .before .before .before .before .before .before .size in
+    let test-1 = c .before .before .before .before .before .before .before .if1 in
     let a = c .before .before .before .before .before .before .before .before .before .before .before .args in
     let n = c .before .before .copy .ensures .0 in
     fills _ _ (a .body .now) _ _
-    (simp (eq-eqb _ (size (a .borders)) (c .before .before .before .before .before .before .before .if1 .left ∙ c .before .before .before .before .before .before .before .before .size .ensures), ← c .before .before .before .before .before .before .all-pixels .ensures, c .before .before .before .before .before .if2 .taken, le-leb _ _ (c .before .before .before .before .if3 .left), n))
+    (simp (eq-eqb _ (size (a .borders)) (test-1 .left ∙ size-there .ensures), ← c .before .before .before .before .before .before .all-pixels .ensures, c .before .before .before .before .before .if2 .taken, le-leb _ _ (c .before .before .before .before .if3 .left), n))
     (sym n)
     (c .before .before .copy .ensures .1 ∙ ap (λ (l : List ℕ). l ++ drop (length (a .body .now)) (a .rows .now)) (take-length (a .body .now)) ∙ ap (λ (m : ℕ). a .body .now ++ drop m (a .rows .now)) (sym n))
 

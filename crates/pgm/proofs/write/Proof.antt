@@ -15,7 +15,8 @@ returns c = simp (eq-eqb _ (size On) (c .before .before .before .before .if1 .ta
 returns-2 : tie.Need-returns-2
 unfolding writeOf either
 returns-2 c =
-    simp (ne-eqb _ (size On) (λ e. c .before .before .before .before .before .before .if1 .left (e ∙ sym (c .before .before .before .before .before .before .before .size .ensures))), eq-eqb _ (size Off) (c .before .before .before .before .if2 .taken ∙ c .before .before .before .before .before .size2 .ensures))
+    let size-there = c .before .before .before .before .before .before .before .size in
+    simp (ne-eqb _ (size On) (λ e. c .before .before .before .before .before .before .if1 .left (e ∙ sym (size-there .ensures))), eq-eqb _ (size Off) (c .before .before .before .before .if2 .taken ∙ c .before .before .before .before .before .size2 .ensures))
     (c .before .before .write-as2 .ensures)
 
 returns-3 : tie.Need-returns-3

@@ -18,11 +18,15 @@ returns c =
 returns-2 : tie.Need-returns-2
 unfolding require
 returns-2 c =
+    let all-pixels = c .before .before .before .before .before .before .before .before .before .before .before .before .all-pixels in
+    let test-1 = c .before .before .before .before .before .before .before .before .before .before .before .if1 in
+    let test-2 = c .before .before .before .before .before .before .before .before .before .before .if2 in
+    let header = c .before .before .before .before .before .before .before .before .before .header in
     let a = c .before .before .before .before .before .before .before .before .before .before .before .before .before .before .before .args in
     fills _ _ (imageOf (a .borders) (a .rows .now)) _ _
-    (simp (← c .before .before .before .before .before .before .before .before .before .before .before .before .all-pixels .ensures, c .before .before .before .before .before .before .before .before .before .before .before .if1 .taken, image-length (a .borders) (a .rows .now), le-leb _ _ (c .before .before .before .before .before .before .before .before .before .before .if2 .left)))
+    (simp (← all-pixels .ensures, test-1 .taken, image-length (a .borders) (a .rows .now), le-leb _ _ (test-2 .left)))
     (image-length (a .borders) (a .rows .now))
-    (copied headerLength _ _ (a .rows .now) (a .file .now) _ _ (header-length (a .borders)) (c .before .before .before .before .before .before .before .before .before .header .ensures) (c .before .before .before .before .before .before .copy .ensures .1) (c .before .before .copy2 .ensures .1))
+    (copied headerLength _ _ (a .rows .now) (a .file .now) _ _ (header-length (a .borders)) (header .ensures) (c .before .before .before .before .before .before .copy .ensures .1) (c .before .before .copy2 .ensures .1))
 
 returns-3 : tie.Need-returns-3
 unfolding require

@@ -29,9 +29,10 @@ returns-3 c =
 
 returns-4 : tie.Need-returns-4
 returns-4 c =
+    let number = c .before .before .before .before .before .before .before .number in
     let a = c .before .before .before .before .before .before .before .before .before .before .args in
     fills _ _ _ _ _
-    (in-order (a .way) (a .kind) _ (a .from .now) (eq-eqb _ (kindNumber VL) (c .before .before .before .before .before .before .if1 .left ∙ c .before .before .before .before .before .before .before .number .ensures)) (c .before .before .before .before .before .if2 .left) (c .before .before .before .before .if3 .left))
+    (in-order (a .way) (a .kind) _ (a .from .now) (eq-eqb _ (kindNumber VL) (c .before .before .before .before .before .before .if1 .left ∙ number .ensures)) (c .before .before .before .before .before .if2 .left) (c .before .before .before .before .if3 .left))
     (reordered-length (a .way) (a .from .now))
     (c .before .before .put .ensures)
 

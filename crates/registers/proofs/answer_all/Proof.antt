@@ -20,13 +20,19 @@ returns : tie.Need-returns Inv-loop μ-loop
 returns c = tt
 
 add-start : tie.Need-add-start Inv-loop μ-loop
-add-start c = omega (arith, line-within (c .before .before .before .before .before .before .before .before .args .text .now) (c .before .before .before .before .before .loop .start) (c .before .before .before .before .before .loop .inv))
+add-start c =
+    let args = c .before .before .before .before .before .before .before .before .args in
+    omega (arith, line-within (args .text .now) (c .before .before .before .before .before .loop .start) (c .before .before .before .before .before .loop .inv))
 
 loop-less : tie.Need-loop-less Inv-loop μ-loop
-loop-less c = omega (arith, line-within (c .before .before .before .before .before .before .before .before .args .text .now) (c .before .before .before .before .before .loop .start) (c .before .before .before .before .before .loop .inv))
+loop-less c =
+    let args = c .before .before .before .before .before .before .before .before .args in
+    omega (arith, line-within (args .text .now) (c .before .before .before .before .before .loop .start) (c .before .before .before .before .before .loop .inv))
 
 loop-again : tie.Need-loop-again Inv-loop μ-loop
-loop-again c = omega (arith, line-within (c .before .before .before .before .before .before .before .before .args .text .now) (c .before .before .before .before .before .loop .start) (c .before .before .before .before .before .loop .inv))
+loop-again c =
+    let args = c .before .before .before .before .before .before .before .before .args in
+    omega (arith, line-within (args .text .now) (c .before .before .before .before .before .loop .start) (c .before .before .before .before .before .loop .inv))
 
 returns-2 : tie.Need-returns-2 Inv-loop μ-loop
 returns-2 c = tt

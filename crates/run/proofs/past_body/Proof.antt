@@ -53,22 +53,28 @@ slide-byte-requires c κs =
 
 add-i : tie.Need-add-i Inv-loop μ-loop
 add-i c =
+    let is-pair-there = c .before .before .before .before .before .before .before .before .is-pair in
+    let test-2 = c .before .before .before .before .before .before .before .if2 in
     let l = c .before .before .before .before .before .before .before .before .before .loop in
-    let q = is-pair (l .inv .4) (c .before .before .before .before .before .before .before .before .is-pair .ensures) (c .before .before .before .before .before .before .before .if2 .taken) in
+    let q = is-pair (l .inv .4) (is-pair-there .ensures) (test-2 .taken) in
     omega (arith, q .fits, l .inv .5)
 
 loop-less : tie.Need-loop-less Inv-loop μ-loop
 loop-less c =
+    let is-pair-there = c .before .before .before .before .before .before .before .before .is-pair in
+    let test-2 = c .before .before .before .before .before .before .before .if2 in
     let l = c .before .before .before .before .before .before .before .before .before .loop in
-    let q = is-pair (l .inv .4) (c .before .before .before .before .before .before .before .before .is-pair .ensures) (c .before .before .before .before .before .before .before .if2 .taken) in
+    let q = is-pair (l .inv .4) (is-pair-there .ensures) (test-2 .taken) in
     omega (arith, q .fits)
 
 loop-again : tie.Need-loop-again Inv-loop μ-loop
 loop-again c =
+    let is-pair-there = c .before .before .before .before .before .before .before .before .is-pair in
+    let test-2 = c .before .before .before .before .before .before .before .if2 in
     let a = c .before .before .before .before .before .before .before .before .before .before .before .before .before .before .args in
     let l = c .before .before .before .before .before .before .before .before .before .loop in
     let s = now (a .s) in
-    let q = is-pair (l .inv .4) (c .before .before .before .before .before .before .before .before .is-pair .ensures) (c .before .before .before .before .before .before .before .if2 .taken) in
+    let q = is-pair (l .inv .4) (is-pair-there .ensures) (test-2 .taken) in
     let f = q .fits in (
       λ B. simp (c .before .before .slide-byte .ensures, c .before .before .before .before .before .stray-after .ensures, c .before .before .before .before .before .before .top-byte .ensures, c .next-count2 .ensures, c .before .next-count .ensures)
           (leads-on s _ B _ _ B _ _ B _ (l .inv .0 B)

@@ -30,12 +30,17 @@ returns-2 c =
 
 returns-3 : tie.Need-returns-3
 returns-3 c =
+    let test-1 = c .before .before .before .before .before .before .before .before .before .before .before .if1 in
+    let passes = c .before .before .before .before .before .before .before .before .before .before .passes in
+    let test-2 = c .before .before .before .before .before .before .before .before .before .if2 in
+    let body-length = c .before .before .before .before .before .before .before .before .body-length in
+    let test-3 = c .before .before .before .before .before .before .before .if3 in
     let a = c .before .before .before .before .before .before .before .before .before .before .before .before .before .before .before .args in
     let B = now (a .body) in
     let s = now (a .nibbles) in
     let b = now (a .buffer) in
-    let q = lent-right (a .h) B s (length b) (c .before .before .before .before .before .before .before .before .before .before .before .if1 .left)
-    ∙ run-goes (a .h) B s (length b) (sym (c .before .before .before .before .before .before .before .before .before .before .passes .ensures) ∙ c .before .before .before .before .before .before .before .before .before .if2 .taken) (omega (arith, c .before .before .before .before .before .before .before .if3 .left, c .before .before .before .before .before .before .before .before .body-length .ensures)) in
+    let q = lent-right (a .h) B s (length b) (test-1 .left)
+    ∙ run-goes (a .h) B s (length b) (sym (passes .ensures) ∙ test-2 .taken) (omega (arith, test-3 .left, body-length .ensures)) in
     let e = c .before .before .before .before .up-to-stop .ensures in
     tells q e (told-run (readerOf (a .h) B) s b)
 

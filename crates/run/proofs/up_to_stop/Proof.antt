@@ -31,40 +31,53 @@ same-length-2 c = ap length (c .before .before .before .before .loop .inv .2)
 
 returns : tie.Need-returns Inv-loop μ-loop
 returns c =
+    let ahead = c .before .before .before .before .before .before .before .before .ahead in
     let a = c .before .before .before .before .before .before .before .before .before .before .before .before .before .args in
     let l = c .before .before .before .before .loop in
     let e = c .refuse .ensures in
     let s = now (a .nibbles) in
-    let led = leads-on s _ _ _ _ _ _ _ _ _ (c .before .before .before .before .before .before .before .before .ahead .ensures .0) (l .inv .0) in
+    let led = leads-on s _ _ _ _ _ _ _ _ _ (ahead .ensures .0) (l .inv .0) in
     ends-as (ends (now (a .buffer)) (stops-above s _ _ _ _ _ led (c .before .before .before .loop-test .taken) (c .before .if1 .taken)) (e .1) (l .inv .2)) (e .0) refl (e .2)
 
 take-requires : tie.Need-take-requires Inv-loop μ-loop
 take-requires c κs =
+    let ahead = c .before .before .before .before .before .before .before .before .before .ahead in
     let l = c .before .before .before .before .before .loop in
-    let p = ap bodyLength (l .inv .4 ∙ c .before .before .before .before .before .before .before .before .before .ahead .ensures .1) in
+    let p = ap bodyLength (l .inv .4 ∙ ahead .ensures .1) in
     (omega arith, omega (arith, p, ap length (l .inv .2)), l .inv .3)
 
 add-i : tie.Need-add-i Inv-loop μ-loop
-add-i c = omega (arith, c .before .before .before .before .before .before .before .before .before .before .loop-test .taken, c .before .before .before .before .before .before .before .before .before .before .before .before .before .before .before .before .before .before .before .before .good)
+add-i c =
+    let good = c .before .before .before .before .before .before .before .before .before .before .before .before .before .before .before .before .before .before .before .before .good in
+    let loop-test = c .before .before .before .before .before .before .before .before .before .before .loop-test in
+    omega (arith, loop-test .taken, good)
 
 same-length-4 : tie.Need-same-length-4 Inv-loop μ-loop
-same-length-4 c = c .before .before .before .before .before .before .before .take .kept .1 .1 .1 .0 ∙ ap length (c .before .before .before .before .before .before .before .before .before .before .before .before .before .loop .inv .2)
+same-length-4 c =
+    let loop = c .before .before .before .before .before .before .before .before .before .before .before .before .before .loop in
+    let take = c .before .before .before .before .before .before .before .take in
+    take .kept .1 .1 .1 .0 ∙ ap length (loop .inv .2)
 
 returns-2 : tie.Need-returns-2 Inv-loop μ-loop
 returns-2 c =
+    let ahead = c .before .before .before .before .before .before .before .before .before .before .before .before .before .before .before .before .before .ahead in
+    let loop-test = c .before .before .before .before .before .before .before .before .before .before .before .before .loop-test in
     let a = c .before .before .before .before .before .before .before .before .before .before .before .before .before .before .before .before .before .before .before .before .before .before .args in
     let l = c .before .before .before .before .before .before .before .before .before .before .before .before .before .loop in
     let e = c .before .before .before .before .before .before .before .take .ensures in
     let s = now (a .nibbles) in
-    let led = leads-on s _ _ _ _ _ _ _ _ _ (c .before .before .before .before .before .before .before .before .before .before .before .before .before .before .before .before .before .ahead .ensures .0) (l .inv .0) in
+    let led = leads-on s _ _ _ _ _ _ _ _ _ (ahead .ensures .0) (l .inv .0) in
     let told = sym (answered (takeOutcome (l .h) (l .body) (getD s (l .i) 0)) (c .before .is-answer .ensures) (e .1)) ∙ c .if2 .taken in
-    ends-as (ends (now (a .buffer)) (stops-answered s _ _ _ _ _ led (c .before .before .before .before .before .before .before .before .before .before .before .before .loop-test .taken) (omega arith) told) (e .1) (e .3 ∙ ap (bufferAfter (takeOutcome (l .h) (l .body) (getD s (l .i) 0))) (l .inv .2))) (e .0) (e .2) refl
+    ends-as (ends (now (a .buffer)) (stops-answered s _ _ _ _ _ led (loop-test .taken) (omega arith) told) (e .1) (e .3 ∙ ap (bufferAfter (takeOutcome (l .h) (l .body) (getD s (l .i) 0))) (l .inv .2))) (e .0) (e .2) refl
 
 loop-less : tie.Need-loop-less Inv-loop μ-loop
-loop-less c = omega (arith, c .before .before .before .before .before .before .before .before .before .before .before .before .before .before .before .before .before .loop-test .taken, c .before .before .before .ahead2 .ensures .2, c .before .before .before .ahead2 .ensures .3)
+loop-less c =
+    let loop-test = c .before .before .before .before .before .before .before .before .before .before .before .before .before .before .before .before .before .loop-test in
+    omega (arith, loop-test .taken, c .before .before .before .ahead2 .ensures .2, c .before .before .before .ahead2 .ensures .3)
 
 loop-again : tie.Need-loop-again Inv-loop μ-loop
 loop-again c =
+    let loop-test = c .before .before .before .before .before .before .before .before .before .before .before .before .before .before .before .before .before .loop-test in
     let a = c .before .before .before .before .before .before .before .before .before .before .before .before .before .before .before .before .before .before .before .before .before .before .before .before .before .before .before .args in
     let l = c .before .before .before .before .before .before .before .before .before .before .before .before .before .before .before .before .before .before .loop in
     let e = c .before .before .before .before .before .before .before .before .before .before .before .before .take .ensures in
@@ -72,7 +85,7 @@ loop-again c =
     let s = now (a .nibbles) in
     let quiet = sym (answered (takeOutcome (l .h) (l .body) (getD s (l .i) 0)) (c .before .before .before .before .before .before .is-answer .ensures) (e .1)) ∙ c .before .before .before .before .before .if2 .left in (
       leads-on s _ _ _ _ _ _ _ _ _ (l .inv .0)
-          (leads-on s _ _ _ _ _ _ _ _ _ (leads-one s (l .h) (l .body) (l .i) (c .before .before .before .before .before .before .before .before .before .before .before .before .before .before .before .before .before .loop-test .taken) (omega arith) (e .0) (e .2) quiet) (f .0)),
+          (leads-on s _ _ _ _ _ _ _ _ _ (leads-one s (l .h) (l .body) (l .i) (loop-test .taken) (omega arith) (e .0) (e .2) quiet) (f .0)),
       f .3,
       e .3 ∙ nothing-kept (takeOutcome (l .h) (l .body) (getD s (l .i) 0)) (l .buffer) quiet ∙ l .inv .2,
       search needs,

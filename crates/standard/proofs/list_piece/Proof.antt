@@ -40,8 +40,9 @@ taken-fits :
     → c .before .before .before .before .loop .at + c .list .result .taken ≤ length (c .before .before .before .before .before .before .before .args .piece .now)
 unfolding listedOf
 taken-fits c =
+    let args = c .before .before .before .before .before .before .before .args in
     let l = c .before .before .before .before .loop in
-    let e : length (rest c) ≡ length (c .before .before .before .before .before .before .before .args .piece .now) - l .at = simp (length-take, length-drop) (omega arith) in
+    let e : length (rest c) ≡ length (args .piece .now) - l .at = simp (length-take, length-drop) (omega arith) in
     let t = ap (λ (r : Listed). r .taken) (c .list .ensures .next) in
     let w = taken-within (l .l) (length (l .out)) (rest c) in
     omega (arith, t, w, e, c .before .before .before .loop-test .taken)
@@ -53,13 +54,23 @@ slice-aggregate-write : tie.Need-slice-aggregate-write Inv-loop μ-loop
 slice-aggregate-write c = sym (length-take-le _ _ (used-fits (c .before .before .before)))
 
 add-at : tie.Need-add-at Inv-loop μ-loop
-add-at c = omega (arith, taken-fits (c .before .before .before .before .before .before .before .before), c .before .before .before .before .before .before .before .before .before .before .before .before .before .before .before .good .1 .0 .0)
+add-at c =
+    let good = c .before .before .before .before .before .before .before .before .before .before .before .before .before .before .before .good in
+    let before = c .before .before .before .before .before .before .before .before in
+    omega (arith, taken-fits (before), good .1 .0 .0)
 
 loop-less : tie.Need-loop-less Inv-loop μ-loop
-loop-less c = omega (arith, c .before .if2 .left, taken-fits (c .before .before .before .before .before .before .before .before), c .before .before .before .before .before .before .before .before .before .before .before .loop-test .taken)
+loop-less c =
+    let loop-test = c .before .before .before .before .before .before .before .before .before .before .before .loop-test in
+    let before = c .before .before .before .before .before .before .before .before in
+    omega (arith, c .before .if2 .left, taken-fits (before), loop-test .taken)
 
 loop-again : tie.Need-loop-again Inv-loop μ-loop
-loop-again c = (taken-fits (c .before .before .before .before .before .before .before .before), c .before .before .before .before .before .before .before .before .before .before .before .before .loop .inv .1 ∙ sym (c .before .before .before .before .before .before .before .before .list .kept .1 .1 .0))
+loop-again c =
+    let loop = c .before .before .before .before .before .before .before .before .before .before .before .before .loop in
+    let list = c .before .before .before .before .before .before .before .before .list in
+    let before = c .before .before .before .before .before .before .before .before in
+    (taken-fits (before), loop .inv .1 ∙ sym (list .kept .1 .1 .0))
 
 pub list-piece-spec : {M : Type 1} → statement M
 list-piece-spec =

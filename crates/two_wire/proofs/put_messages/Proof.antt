@@ -32,10 +32,14 @@ put-message-requires : tie.Need-put-message-requires Inv-loop μ-loop
 put-message-requires c κs = omega (arith, step-length _ _ (c .before .before .before .loop-test .taken) (c .before .before .before .before .loop .inv .1))
 
 add-i : tie.Need-add-i Inv-loop μ-loop
-add-i c = omega (arith, pair-whole _ _ (c .before .before .before .before .before .before .loop-test .taken) (c .before .before .before .before .before .before .before .loop .inv .1))
+add-i c =
+    let loop = c .before .before .before .before .before .before .before .loop in
+    omega (arith, pair-whole _ _ (c .before .before .before .before .before .before .loop-test .taken) (loop .inv .1))
 
 loop-less : tie.Need-loop-less Inv-loop μ-loop
-loop-less c = omega (arith, pair-whole _ _ (c .before .before .before .before .before .before .loop-test .taken) (c .before .before .before .before .before .before .before .loop .inv .1))
+loop-less c =
+    let loop = c .before .before .before .before .before .before .before .loop in
+    omega (arith, pair-whole _ _ (c .before .before .before .before .before .before .loop-test .taken) (loop .inv .1))
 
 loop-again : tie.Need-loop-again Inv-loop μ-loop
 loop-again c = let l = c .before .before .before .before .before .before .before .loop .inv in

@@ -34,8 +34,10 @@ put-messages-requires c κs = let pairs = c .before .before .before .before .bef
     (ends-odd pairs ∙ ne-eqb _ _ (c .before .before .before .before .if1 .left), omega (arith, messages-length pairs))
 
 returns-4 : tie.Need-returns-4
-returns-4 c = let a = c .before .before .before .before .before .before .before .before .before .before .args in
-    let even = ends-odd (a .pairs .now) ∙ ne-eqb _ _ (c .before .before .before .before .before .before .before .if1 .left) in
+returns-4 c =
+    let test-1 = c .before .before .before .before .before .before .before .if1 in
+    let a = c .before .before .before .before .before .before .before .before .before .before .args in
+    let even = ends-odd (a .pairs .now) ∙ ne-eqb _ _ (test-1 .left) in
     let within = sym (c .before .before .before .before .before .before .some-index-past .ensures) ∙ c .before .before .before .before .before .if2 .left in
     simp (c .before .before .put-messages .ensures .0, c .before .before .put-messages .ensures .1) (written (a .pairs .now) (a .buffer .now) even within (omega (arith, messages-length (a .pairs .now))))
 

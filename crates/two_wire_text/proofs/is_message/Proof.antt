@@ -23,7 +23,9 @@ loop-again c = (search needs, c .before .before .before .before .loop .inv .1 �
 
 returns : tie.Need-returns Inv-loop μ-loop
 unfolding isMessage
-returns c = simp (eq-eqb (length (c .before .before .before .before .before .before .before .args .line .now) % 3) 2 (c .before .before .before .before .before .if1 .taken)) (sym (c .before .before .before .before .loop .inv .1 ∙ chars-step _ _ (c .before .before .before .loop-test .taken) ∙ simp (← c .before .char-fits .ensures, c .if2 .left)))
+returns c =
+    let args = c .before .before .before .before .before .before .before .args in
+    simp (eq-eqb (length (args .line .now) % 3) 2 (c .before .before .before .before .before .if1 .taken)) (sym (c .before .before .before .before .loop .inv .1 ∙ chars-step _ _ (c .before .before .before .loop-test .taken) ∙ simp (← c .before .char-fits .ensures, c .if2 .left)))
 
 returns-2 : tie.Need-returns-2 Inv-loop μ-loop
 unfolding isMessage

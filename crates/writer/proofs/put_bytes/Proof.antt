@@ -20,7 +20,8 @@ loop-holds c = (search needs, search needs, put-none _ _)
 
 loop-again : tie.Need-loop-again Inv-loop μ-loop
 loop-again c =
-    (search needs, search needs, put-next (c .before .before .before .before .before .before .before .before .before .args .bytes .now) (c .before .before .before .before .before .before .loop .i) (omega arith) (c .before .before .before .before .before .before .loop .inv .2) (c .before .before .put-byte .ensures))
+    let args = c .before .before .before .before .before .before .before .before .before .args in
+    (search needs, search needs, put-next (args .bytes .now) (c .before .before .before .before .before .before .loop .i) (omega arith) (c .before .before .before .before .before .before .loop .inv .2) (c .before .before .put-byte .ensures))
 
 returns : tie.Need-returns Inv-loop μ-loop
 returns c = put-all (c .before .before .before .before .args .bytes .now) (c .before .loop .i) (omega arith) (c .before .loop .inv .2)

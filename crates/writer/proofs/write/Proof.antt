@@ -30,7 +30,9 @@ sentAt c =
     sent (c .before .k .given .0 .0) (a .number) (a .body .now) (a .first) (a .second) (a .nulls)
 
 abbrev roomAt : tie.After-known-told2 → ℕ
-roomAt c = length (c .before .before .before .before .before .before .before .before .before .before .args .buffer .now)
+roomAt c =
+    let args = c .before .before .before .before .before .before .before .before .before .before .args in
+    length (args .buffer .now)
 
 abbrev answerAt : tie.After-known-told2 → Output
 answerAt c =
@@ -79,31 +81,40 @@ returns-4 c = refuses _ _ _ (answers (c .before .before .before .before .before 
 
 returns-5 : tie.Need-returns-5
 returns-5 c =
+    let before = c .before .before .before .before .before .before .before .before in
     refuses _ _ _
-    (answers (c .before .before .before .before .before .before .before .before) _
+    (answers (before) _
     (byte-not-allowed (small (c .before .before .before .before)) (length-right (c .before .before)) (not-true _ (sym (c .before .has-bad-byte .ensures) ∙ c .if2 .taken))))
 
 returns-6 : tie.Need-returns-6
 returns-6 c =
+    let before = c .before .before .before .before .before .before .before .before .before in
     refuses _ _ _
-    (answers (c .before .before .before .before .before .before .before .before .before) _ (too-many-nulls (small (c .before .before .before .before .before)) (length-right (c .before .before .before)) (bytes-fit (c .before)) (c .if3 .taken)))
+    (answers (before) _ (too-many-nulls (small (c .before .before .before .before .before)) (length-right (c .before .before .before)) (bytes-fit (c .before)) (c .if3 .taken)))
 
 add-if4 : tie.Need-add-if4
-add-if4 c = omega (arith, body-small (profileAt (c .before .before .before .before .before .before .before .before .before)))
+add-if4 c =
+    let before = c .before .before .before .before .before .before .before .before .before in
+    omega (arith, body-small (profileAt (before)))
 
 add-if4-2 : tie.Need-add-if4-2
-add-if4-2 c = omega (arith, body-small (profileAt (c .before .before .before .before .before .before .before .before .before)))
+add-if4-2 c =
+    let before = c .before .before .before .before .before .before .before .before .before in
+    omega (arith, body-small (profileAt (before)))
 
 returns-7 : tie.Need-returns-7
 returns-7 c =
+    let before = c .before .before .before .before .before .before .before .before .before .before in
     let r = length-right (c .before .before .before .before) in
-    refuses _ _ _ (answers (c .before .before .before .before .before .before .before .before .before .before) _ (no-room (may-be-written (c .before)) (omega arith)))
+    refuses _ _ _ (answers (before) _ (no-room (may-be-written (c .before)) (omega arith)))
 
 returns-8 : tie.Need-returns-8
 returns-8 c =
-    let r = length-right (c .before .before .before .before .before .before .before .before) in
+    let before = c .before .before .before .before .before .before .before .before .before .before in
+    let before-there = c .before .before .before .before .before .before .before .before in
+    let r = length-right (before-there) in
     let h = c .before .before .before .before .before .before .before .before .before .before .before .before .before .before in
-    writes _ (sentAt h) _ _ _ _ _ (encodes (c .before .before .before .before .before .before .before .before .before .before)) (answers h _ (line (may-be-written (c .before .before .before .before .before)) (omega arith))) (omega (arith, written-length (profileAt h) (sentAt h) r)) (c .before .before .put-line .ensures)
+    writes _ (sentAt h) _ _ _ _ _ (encodes (before)) (answers h _ (line (may-be-written (c .before .before .before .before .before)) (omega arith))) (omega (arith, written-length (profileAt h) (sentAt h) r)) (c .before .before .put-line .ensures)
 
 pub write-spec : {M : Type 1} → statement M
 write-spec =

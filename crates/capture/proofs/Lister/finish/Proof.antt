@@ -14,11 +14,20 @@ unfolding lastText finishedOf
 returns c = simp (lt-ltb _ _ (c .if1 .taken)) (record { next = refl; leaves = refl })
 
 put-report-requires : tie.Need-put-report-requires
-put-report-requires c κs = omega (arith, c .before .before .before .before .before .before .before .before .before .before .if1 .left, c .before .before .before .before .put-text .ensures .place, put-length (c .before .before .before .before .put-text .ensures), text-short (c .before .before .before .before .before .before .before .before .before .before .before .before .args .self .mode) (c .before .before .before .before .before .before .close .result) (c .before .before .before .before .before .before .before .before .finish .result .answer))
+put-report-requires c κs =
+    let args = c .before .before .before .before .before .before .before .before .before .before .before .before .args in
+    let test-1 = c .before .before .before .before .before .before .before .before .before .before .if1 in
+    let finish = c .before .before .before .before .before .before .before .before .finish in
+    omega (arith, test-1 .left, c .before .before .before .before .put-text .ensures .place, put-length (c .before .before .before .before .put-text .ensures), text-short (args .self .mode) (c .before .before .before .before .before .before .close .result) (finish .result .answer))
 
 returns-2 : tie.Need-returns-2
 unfolding lastText finishedOf
-returns-2 c = let p = on-front (joined (c .before .before .before .before .before .before .before .before .before .put-text .ensures) (c .before .before .before .before .put-report .ensures)) in simp (le-ltb _ _ (c .before .before .before .before .before .before .before .before .before .before .before .before .before .before .before .if1 .left), ← c .before .before .before .before .before .before .before .before .before .before .before .before .before .finish .ensures .next, ← c .before .before .before .before .before .before .before .before .before .before .before .before .before .finish .ensures .says, ← c .before .before .before .before .before .before .before .before .before .before .before .close .ensures, c .new .ensures) (record { next = simp (p .count); leaves = p .leaves })
+returns-2 c =
+    let test-1 = c .before .before .before .before .before .before .before .before .before .before .before .before .before .before .before .if1 in
+    let finish = c .before .before .before .before .before .before .before .before .before .before .before .before .before .finish in
+    let close = c .before .before .before .before .before .before .before .before .before .before .before .close in
+    let put-text = c .before .before .before .before .before .before .before .before .before .put-text in
+    let p = on-front (joined (put-text .ensures) (c .before .before .before .before .put-report .ensures)) in simp (le-ltb _ _ (test-1 .left), ← finish .ensures .next, ← finish .ensures .says, ← close .ensures, c .new .ensures) (record { next = simp (p .count); leaves = p .leaves })
 
 pub finish-spec : {M : Type 1} → statement M
 finish-spec =

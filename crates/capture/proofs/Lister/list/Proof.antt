@@ -44,9 +44,10 @@ part-list-portion-end c = let l = c .before .before .loop in omega (arith, l .in
 
 list-portion-requires : tie.Need-list-portion-requires Inv-loop μ-loop
 list-portion-requires c κs =
+    let args = c .before .before .before .before .before .before .before .before .before .before .before .before .before .before .before .args in
     let l = c .before .before .before .before .before .loop in
     let p = l .inv .0 in
-    let e = part-length (now (c .before .before .before .before .before .before .before .before .before .before .before .before .before .before .before .args .input)) (l .i) (l .n) (omega (arith, l .inv .1, p .within)) in
+    let e = part-length (now (args .input)) (l .i) (l .n) (omega (arith, l .inv .1, p .within)) in
     (p .sound, l .inv .2, l .inv .3, omega (arith, e, l .inv .1), omega (arith, e, l .inv .1, put-length (p .text-then), p .text-then .place, p .text-then .room))
 
 sub-portion : tie.Need-sub-portion Inv-loop μ-loop
@@ -56,16 +57,20 @@ sub-portion-2 : tie.Need-sub-portion-2 Inv-loop μ-loop
 sub-portion-2 c = let q = c .before .before .before .before .before .before .list-portion .ensures .text-put in omega (arith, q .place, q .room, put-length q)
 
 loop-less : tie.Need-loop-less Inv-loop μ-loop
-loop-less c = let l = c .before .before .before .before .before .before .before .before .before .before .before .before .before .loop in omega (arith, l .inv .1, l .inv .0 .within, c .before .before .before .before .before .before .before .before .before .before .before .before .loop-test .taken)
+loop-less c =
+    let loop-test = c .before .before .before .before .before .before .before .before .before .before .before .before .loop-test in
+    let l = c .before .before .before .before .before .before .before .before .before .before .before .before .before .loop in omega (arith, l .inv .1, l .inv .0 .within, loop-test .taken)
 
 loop-again : tie.Need-loop-again Inv-loop μ-loop
 loop-again c =
+    let args = c .before .before .before .before .before .before .before .before .before .before .before .before .before .before .before .before .before .before .before .before .before .before .before .args in
+    let list-portion = c .before .before .before .before .before .before .before .list-portion in
     let l = c .before .before .before .before .before .before .before .before .before .before .before .before .before .loop in
     let p = l .inv .0 in
-    let w = now (c .before .before .before .before .before .before .before .before .before .before .before .before .before .before .before .before .before .before .before .before .before .before .before .args .input) in
+    let w = now (args .input) in
     let q = c .before .before .before .before .before .before .before .list-portion .ensures in (
       next-portion (l .n) p (omega (arith, l .inv .1, p .within)) (omega (arith, l .inv .1)) (lists-of (ap nibbles (part-is w (l .i) (l .n))) q),
-      c .portion2 .ensures ∙ ap (λ (k : ℕ). portionOf (length w - (l .i + l .n)) (k - c .before .before .before .before .before .before .before .list-portion .result .used)) (put-length (q .text-put) ∙ put-length (p .text-then)),
+      c .portion2 .ensures ∙ ap (λ (k : ℕ). portionOf (length w - (l .i + l .n)) (k - list-portion .result .used)) (put-length (q .text-put) ∙ put-length (p .text-then)),
       search needs,
       search needs,
     )

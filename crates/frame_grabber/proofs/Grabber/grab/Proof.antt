@@ -27,28 +27,37 @@ grab-part-requires c κs = (c .before .before .before .before .loop .inv .0 .sou
 
 add-i : tie.Need-add-i Inv-loop μ-loop
 add-i c =
+    let good = c .before .before .before .before .before .before .before .before .before .before .before .before .before .before .before .before .before .before .before .before .good in
     let l = c .before .before .before .before .before .before .before .before .before .before .before .loop in
-    omega (arith, taken-within (l .inv .0) (c .before .before .before .before .before .before .grab-part .ensures), c .before .before .before .before .before .before .before .before .before .before .before .before .before .before .before .before .before .before .before .before .good .1 .0 .0)
+    omega (arith, taken-within (l .inv .0) (c .before .before .before .before .before .before .grab-part .ensures), good .1 .0 .0)
 
 same-length : tie.Need-same-length Inv-loop μ-loop
-same-length c = c .before .before .before .before .before .before .before .before .before .grab-part .kept .1 .1 .1 .1 .0 ∙ c .before .before .before .before .before .before .before .before .before .before .before .before .before .before .loop .inv .2
+same-length c =
+    let loop = c .before .before .before .before .before .before .before .before .before .before .before .before .before .before .loop in
+    let grab-part = c .before .before .before .before .before .before .before .before .before .grab-part in
+    grab-part .kept .1 .1 .1 .1 .0 ∙ loop .inv .2
 
 returns : tie.Need-returns Inv-loop μ-loop
 returns c =
+    let test-1 = c .before .before .before .before .before .before .before .before .before .before .before .before .before .before .before .before .before .if1 in
+    let grab-part = c .before .before .before .before .before .before .before .before .before .grab-part in
     let l = c .before .before .before .before .before .before .before .before .before .before .before .before .before .before .loop in
     let e = c .before .before .before .before .before .before .before .before .before .before .before .before .before .before .before .before .before .before .is-sound .ensures in
-    upto-stop (l .inv .0) (c .before .before .before .before .before .before .before .before .before .grab-part .ensures) (sym (e .0) ∙ c .before .before .before .before .before .before .before .before .before .before .before .before .before .before .before .before .before .if1 .taken) (sym (c .before .before .tells .ensures) ∙ c .before .if2 .taken) (c .hand-back .ensures)
+    upto-stop (l .inv .0) (grab-part .ensures) (sym (e .0) ∙ test-1 .taken) (sym (c .before .before .tells .ensures) ∙ c .before .if2 .taken) (c .hand-back .ensures)
 
 loop-less : tie.Need-loop-less Inv-loop μ-loop
 loop-less c =
+    let loop-test = c .before .before .before .before .before .before .before .before .before .before .before .before .loop-test in
+    let grab-part = c .before .before .before .before .before .before .before .before .grab-part in
     let l = c .before .before .before .before .before .before .before .before .before .before .before .before .before .loop in
-    let t = goes-some (l .inv .0) (c .before .before .before .before .before .before .before .before .grab-part .ensures) (c .before .before .before .before .before .before .before .before .before .before .before .before .loop-test .taken) (sym (c .before .tells .ensures) ∙ c .if2 .left) in
-    omega (arith, t, c .before .before .before .before .before .before .before .before .before .before .before .before .loop-test .taken)
+    let t = goes-some (l .inv .0) (grab-part .ensures) (loop-test .taken) (sym (c .before .tells .ensures) ∙ c .if2 .left) in
+    omega (arith, t, loop-test .taken)
 
 loop-again : tie.Need-loop-again Inv-loop μ-loop
 loop-again c =
+    let grab-part = c .before .before .before .before .before .before .before .before .grab-part in
     let l = c .before .before .before .before .before .before .before .before .before .before .before .before .before .loop in
-    (upto-next (l .inv .0) (c .before .before .before .before .before .before .before .before .grab-part .ensures) (sym (c .before .tells .ensures) ∙ c .if2 .left), search needs, search needs)
+    (upto-next (l .inv .0) (grab-part .ensures) (sym (c .before .tells .ensures) ∙ c .if2 .left), search needs, search needs)
 
 returns-2 : tie.Need-returns-2 Inv-loop μ-loop
 returns-2 c =

@@ -7,7 +7,9 @@ use Rattle.frame_rows.proofs.Gatherer.hand.Tie as tie
 
 returns : tie.Need-returns
 unfolding handed refusedBy
-returns c = gives _ _ _ _ _ (quietly (c .quiet2 .ensures) (c .before .moved2 .ensures)) (simp (← c .before .before .before .before .before .before .before .line .ensures, c .before .before .before .before .before .verdict .given .1, ← c .before .before .before .breaks-frame .ensures, c .before .before .if1 .taken))
+returns c =
+    let line = c .before .before .before .before .before .before .before .line in
+    gives _ _ _ _ _ (quietly (c .quiet2 .ensures) (c .before .moved2 .ensures)) (simp (← line .ensures, c .before .before .before .before .before .verdict .given .1, ← c .before .before .before .breaks-frame .ensures, c .before .before .if1 .taken))
 
 returns-2 : tie.Need-returns-2
 unfolding handed

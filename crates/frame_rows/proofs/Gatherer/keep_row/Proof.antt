@@ -20,16 +20,25 @@ slice-aggregate-put-row : tie.Need-slice-aggregate-put-row
 slice-aggregate-put-row c = sym (length-take-le longest (c .before .before .before .before .before .before .args .line .now) (c .before .before .before .if1 .left))
 
 put-row-requires : tie.Need-put-row-requires
-put-row-requires c κs = (length-take-le longest (c .before .before .before .before .before .before .before .args .line .now) (c .before .before .before .before .if1 .left), leb-true (c .before .before .before .before .before .before .before .args .self .kept + longest) (length (c .before .before .before .before .before .before .before .args .rows .now)) (sym (c .before .before .before .has-row .ensures) ∙ c .before .before .if2 .taken))
+put-row-requires c κs =
+    let args = c .before .before .before .before .before .before .before .args in
+    (length-take-le longest (args .line .now) (c .before .before .before .before .if1 .left), leb-true (args .self .kept + longest) (length (args .rows .now)) (sym (c .before .before .before .has-row .ensures) ∙ c .before .before .if2 .taken))
 
 add-moved : tie.Need-add-moved
-add-moved c = omega (arith, leb-true (c .before .before .before .before .before .before .before .before .before .before .before .args .self .kept + longest) (length (c .before .before .before .before .before .before .before .before .before .before .before .args .rows .now)) (sym (c .before .before .before .before .before .before .before .has-row .ensures) ∙ c .before .before .before .before .before .before .if2 .taken))
+add-moved c =
+    let args = c .before .before .before .before .before .before .before .before .before .before .before .args in
+    let has-row = c .before .before .before .before .before .before .before .has-row in
+    omega (arith, leb-true (args .self .kept + longest) (length (args .rows .now)) (sym (has-row .ensures) ∙ c .before .before .before .before .before .before .if2 .taken))
 
 returns-2 : tie.Need-returns-2
 unfolding keepRow
-returns-2 c = let l = c .before .before .before .before .before .before .before .before .before .before .before .before .before .args .line .now in
+returns-2 c =
+    let test-1 = c .before .before .before .before .before .before .before .before .before .before .if1 in
+    let has-row = c .before .before .before .before .before .before .before .before .before .has-row in
+    let test-2 = c .before .before .before .before .before .before .before .before .if2 in
+    let l = c .before .before .before .before .before .before .before .before .before .before .before .before .before .args .line .now in
     gives _ _ _ _ _ (quietly (c .quiet .ensures) (c .before .moved .ensures))
-    (simp (eq-eqb (length (take longest l)) longest (length-take-le longest l (c .before .before .before .before .before .before .before .before .before .before .if1 .left)), ← c .before .before .before .before .before .before .before .before .before .has-row .ensures, c .before .before .before .before .before .before .before .before .if2 .taken, c .before .before .before .before .before .put-row .ensures))
+    (simp (eq-eqb (length (take longest l)) longest (length-take-le longest l (test-1 .left)), ← has-row .ensures, test-2 .taken, c .before .before .before .before .before .put-row .ensures))
 
 returns-3 : tie.Need-returns-3
 unfolding keepRow

@@ -7,7 +7,9 @@ use Rattle.frame_rows.proofs.Gatherer.take.Tie as tie
 
 returns : tie.Need-returns
 unfolding takeOf
-returns c = simp (c .before .before .before .before .before .before .before .answer2 .given .1, ← c .before .before .before .before .before .is-broken-line .ensures, c .before .before .before .before .if1 .taken) (c .before .before .hand2 .ensures)
+returns c =
+    let answer2 = c .before .before .before .before .before .before .before .answer2 in
+    simp (answer2 .given .1, ← c .before .before .before .before .before .is-broken-line .ensures, c .before .before .before .before .if1 .taken) (c .before .before .hand2 .ensures)
 
 returns-2 : tie.Need-returns-2
 unfolding takeOf

@@ -16,15 +16,24 @@ unfolding passes
 returns-2 c = simp (le-leb _ _ (c .before .before .if1 .left), ← c .before .is-mark .ensures, c .if2 .taken)
 
 add-result : tie.Need-add-result
-add-result c = omega (arith, c .gap-start .ensures, gap-start-small (c .before .before .before .before .before .before .before .before .before .before .args .self .profile))
+add-result c =
+    let args = c .before .before .before .before .before .before .before .before .before .before .args in
+    omega (arith, c .gap-start .ensures, gap-start-small (args .self .profile))
 
 returns-3 : tie.Need-returns-3
 unfolding passes
-returns-3 c = simp (le-leb _ _ (c .before .before .before .before .before .before .before .before .before .if1 .left), ← c .before .before .before .before .before .before .before .before .is-mark .ensures, c .before .before .before .before .before .before .before .if2 .left, ← c .before .before .before .before .before .before .handed-fits .ensures, c .before .before .before .before .before .if3 .taken, ← c .before .before .before .before .window-fits .ensures, c .before .before .before .if4 .taken, c .before .if5 .taken, c .gap-start .ensures)
+returns-3 c =
+    let test-1 = c .before .before .before .before .before .before .before .before .before .if1 in
+    let is-mark = c .before .before .before .before .before .before .before .before .is-mark in
+    let test-2 = c .before .before .before .before .before .before .before .if2 in
+    simp (le-leb _ _ (test-1 .left), ← is-mark .ensures, test-2 .left, ← c .before .before .before .before .before .before .handed-fits .ensures, c .before .before .before .before .before .if3 .taken, ← c .before .before .before .before .window-fits .ensures, c .before .before .before .if4 .taken, c .before .if5 .taken, c .gap-start .ensures)
 
 returns-4 : tie.Need-returns-4
 unfolding passes
-returns-4 c = simp (le-leb _ _ (c .before .before .before .before .before .before .before .before .if1 .left), ← c .before .before .before .before .before .before .before .is-mark .ensures, c .before .before .before .before .before .before .if2 .left, ← c .before .before .before .before .before .handed-fits .ensures, c .before .before .before .before .if3 .taken, ← c .before .before .before .window-fits .ensures, c .before .before .if4 .taken, c .if5 .left)
+returns-4 c =
+    let test-1 = c .before .before .before .before .before .before .before .before .if1 in
+    let is-mark = c .before .before .before .before .before .before .before .is-mark in
+    simp (le-leb _ _ (test-1 .left), ← is-mark .ensures, c .before .before .before .before .before .before .if2 .left, ← c .before .before .before .before .before .handed-fits .ensures, c .before .before .before .before .if3 .taken, ← c .before .before .before .window-fits .ensures, c .before .before .if4 .taken, c .if5 .left)
 
 returns-5 : tie.Need-returns-5
 unfolding passes

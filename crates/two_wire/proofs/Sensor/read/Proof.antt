@@ -22,13 +22,17 @@ returns-3 c = let a = c .before .before .before .before .before .before .before 
 
 returns-4 : tie.Need-returns-4
 unfolding messageOn refuseIf addressed
-returns-4 c = let a = c .before .before .before .before .before .before .before .before .before .args in
-    simp (le-leb _ _ (c .before .before .before .before .before .before .before .if1 .left), three-parts (a .self) (a .message .now) (c .before .before .before .before .before .before .if2 .left), ne-eqb _ _ (c .before .before .if3 .left), eq-eqb _ _ (c .before .if4 .taken)) (rw (rest (a .message .now)) at (c .read-back .ensures))
+returns-4 c =
+    let test-1 = c .before .before .before .before .before .before .before .if1 in
+    let a = c .before .before .before .before .before .before .before .before .before .args in
+    simp (le-leb _ _ (test-1 .left), three-parts (a .self) (a .message .now) (c .before .before .before .before .before .before .if2 .left), ne-eqb _ _ (c .before .before .if3 .left), eq-eqb _ _ (c .before .if4 .taken)) (rw (rest (a .message .now)) at (c .read-back .ensures))
 
 returns-5 : tie.Need-returns-5
 unfolding messageOn refuseIf addressed
-returns-5 c = let a = c .before .before .before .before .before .before .before .before .before .args in
-    simp (le-leb _ _ (c .before .before .before .before .before .before .before .if1 .left), three-parts (a .self) (a .message .now) (c .before .before .before .before .before .before .if2 .left), ne-eqb _ _ (c .before .before .if3 .left), ne-eqb _ _ (c .before .if4 .left)) (c .refused3 .ensures)
+returns-5 c =
+    let test-1 = c .before .before .before .before .before .before .before .if1 in
+    let a = c .before .before .before .before .before .before .before .before .before .args in
+    simp (le-leb _ _ (test-1 .left), three-parts (a .self) (a .message .now) (c .before .before .before .before .before .before .if2 .left), ne-eqb _ _ (c .before .before .if3 .left), ne-eqb _ _ (c .before .if4 .left)) (c .refused3 .ensures)
 
 pub read-spec : {M : Type 1} → statement M
 read-spec =
