@@ -19,7 +19,7 @@ use Rattle.run.specs.Run.{Ran, onward}
 use Rattle.reader_laws.specs.Passing.{Small}
 use Rattle.reader_laws.specs.Passing.{Ok}
 use Rattle.reader_laws.specs.ByRuns.{ByNibbles, RunOn, run-on}
-use Rattle.feeding.specs.UnpackedLaws.{nibbles-append, nibbles-length}
+use Rattle.capture_bytes.specs.UnpackedLaws.{nibbles-append, nibbles-length}
 use Rattle.frame_rows.specs.declared.Gatherer.{Gatherer}
 use Rattle.frame_rows.specs.declared.Gathered.{Gathered}
 use Rattle.frame_rows.specs.declared.Progress.{Progress}

@@ -50,7 +50,7 @@ impl Grabber {
     {
         let reader = self.reader;
         let mut head = reader.head;
-        if feeding::is_sound(head) {
+        if capture_bytes::is_sound(head) {
             let mut body = reader.body;
             let mut gatherer = self.gatherer;
             let mut i: usize = 0;
@@ -117,7 +117,7 @@ fn grab_part(start: Head, body: &mut [u8], first: Gatherer, bytes: &[u8], rows: 
     ensures { λ r. ⌜ Takes (reader start (now (body .entry))) first (now (rows .entry)) (now (bytes .entry)) r (now (body .exit)) (now (rows .exit)) ⌝ }
 {
     let mut nibbles = [0u8; 2 * PART];
-    let k = feeding::unpack(bytes, &mut nibbles);
+    let k = capture_bytes::unpack(bytes, &mut nibbles);
     let n = 2 * k;
     let all: &[u8] = &nibbles[..n];
     let mut head = start;

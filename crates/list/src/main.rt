@@ -1,5 +1,5 @@
 // Lists what a capture holds (paper 01): reads the bytes of a profile 0 bus from standard input, and writes a row for each mark.
-use capture::Mode;
+use capture_lister::Mode;
 
 fn main() {
     standard::run(Mode::Rows);

@@ -2,8 +2,8 @@
 //
 // In: what to list. Read: the bytes of a profile 0 capture. Written: their text, as capture says it. A read or a write that fails is told
 // on standard error, and ends the list: nothing is then said of the whole.
-use capture::Lister;
-use capture::Mode;
+use capture_lister::Lister;
+use capture_lister::Mode;
 use libc::STDIN_FILENO;
 use libc::STDOUT_FILENO;
 use profile::Profile;

@@ -9,7 +9,7 @@ use borrow.Author.Needs.{needs}
 use Rattle.profile.specs.Profile.{longest}
 use Rattle.reader_laws.specs.Passing.{Small}
 use Rattle.reader_laws.specs.ByRuns.{small-drop, small-take}
-use Rattle.feeding.specs.UnpackedLaws.{front-nibbles, taken-length}
+use Rattle.capture_bytes.specs.UnpackedLaws.{front-nibbles, taken-length}
 use Rattle.frame_grabber.specs.Parts.{reader}
 use Rattle.frame_grabber.proofs.Steps.{Along, all-left, along-start, along-next, along-stop, along-end, turn-within}
 use Rattle.frame_grabber.proofs.grab_part.Statement.{statement}

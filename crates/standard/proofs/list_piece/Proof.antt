@@ -6,9 +6,9 @@ use native.Mathlib.Omega.{arith}
 use lib.ListN.{take, drop, length-take, length-drop, length}
 use lib.Seq.{length-take-le}
 use borrow.Author.Needs.{needs}
-use Rattle.capture.specs.declared.Listed.{Listed}
-use Rattle.capture.specs.Listed.{listedText, listedOf}
-use Rattle.capture.specs.ListedLaws.{taken-within}
+use Rattle.capture_lister.specs.declared.Listed.{Listed}
+use Rattle.capture_lister.specs.Listed.{listedText, listedOf}
+use Rattle.capture_lister.specs.ListedLaws.{taken-within}
 use Rattle.text.specs.PutLaws.{front-within}
 use Rattle.standard.proofs.list_piece.Statement.{statement}
 use Rattle.standard.proofs.list_piece.Tie as tie

@@ -5,8 +5,8 @@ use lib.ListN.{length}
 use lib.Seq.{length-take-le}
 use Rattle.listing.specs.Rows.{ifRoom}
 use Rattle.text.specs.PutLaws.{front-within}
-use Rattle.capture.specs.declared.Listed.{Listed}
-use Rattle.capture.specs.Listed.{headText, lastText, finishedOf}
+use Rattle.capture_lister.specs.declared.Listed.{Listed}
+use Rattle.capture_lister.specs.Listed.{headText, lastText, finishedOf}
 use borrow.Author.Needs.{needs}
 use Rattle.standard.proofs.run.Statement.{statement}
 use Rattle.standard.proofs.run.Tie as tie

@@ -1,0 +1,127 @@
+-- A capture listed: the text of its marks or frames, and how far a lent buffer lasts.
+use mathlib.Core.Path.{_≡_}
+use mathlib.Core.Bool.{cond}
+use mathlib.Core.List.{List, [], _∷_, _++_}
+use Prim.Native.Nat.{ℕ, suc, _-_, _*_}
+use lib.Dec.{ltb}
+use lib.ListN.{length, take}
+use Rattle.profile.specs.declared.Profile.{Profile}
+use Rattle.profile.specs.Profile.{longest}
+use Rattle.stream.specs.declared.Answer.{Answer}
+use Rattle.stream.specs.Answers.{answerFor}
+use Rattle.stream.specs.Written.{nibbles}
+use Rattle.reader.specs.Reader.{passes, freshReader, feedOf, finishOf}
+use Rattle.tally.specs.declared.Tally.{Tally}
+use Rattle.tally.specs.declared.Told.{Told}
+use Rattle.tally.specs.Tally.{freshTally, takeOf, closeOf, isGood}
+use Rattle.text.specs.Put.{onFront}
+use Rattle.listing.specs.Rows.{headerRow, rowRoom, rowOf}
+use Rattle.listing.specs.Frames.{newsLine, summaryLines}
+use Rattle.capture_lister.specs.declared.Mode.{Mode}
+use Rattle.capture_lister.specs.declared.Mode.the-variants.{Rows, Frames}
+use Rattle.capture_lister.specs.declared.Lister.{Lister}
+use Rattle.capture_lister.specs.declared.Listed.{Listed}
+
+-- a fresh reader and a fresh tally
+abbrev pub freshLister : Mode → Profile → Lister
+freshLister m p = record { mode = m; reader = freshReader p; tally = freshTally }
+
+-- What is listed.
+
+-- above the list: the names of the columns
+abbrev pub headText : Mode → List ℕ
+headText Rows = headerRow
+headText Frames = []
+
+-- an answer that was told to the tally: the mark's row, or the line of a frame
+unfoldable pub textOf : Mode → Told → Answer → List ℕ
+textOf Rows d a = rowOf (d .tally .marks) a
+textOf Frames d a = newsLine (d .news)
+
+-- below the list: the counts of the frames, and whether all is good
+unfoldable pub reportOf : Mode → Tally → List ℕ
+reportOf Rows t = []
+reportOf Frames t = summaryLines (t .complete) (t .broken) (isGood t)
+
+-- One nibble.
+
+-- the reader's answer, with a line buffer of the longest body's length
+unfoldable pub answerTo : Lister → ℕ → Answer
+answerTo l n = answerFor (feedOf (l .reader) n longest .outcome)
+
+-- the lister afterwards
+unfoldable pub afterNibble : Lister → ℕ → Lister
+afterNibble l n =
+    record { mode = l .mode; reader = feedOf (l .reader) n longest .reader; tally = takeOf (l .tally) (answerTo l n) .tally }
+
+-- the text of the mark that is answered, if one is
+unfoldable pub nibbleText : Lister → ℕ → List ℕ
+nibbleText l n = textOf (l .mode) (takeOf (l .tally) (answerTo l n)) (answerTo l n)
+
+-- Many nibbles.
+
+-- the lister after them
+abbrev pub listAfter : Lister → List ℕ → Lister
+listAfter l [] = l
+listAfter l (n ∷ w) = listAfter (afterNibble l n) w
+
+-- their text
+abbrev pub listText : Lister → List ℕ → List ℕ
+listText l [] = []
+listText l (n ∷ w) = nibbleText l n ++ listText (afterNibble l n) w
+
+-- Bytes, with a buffer.
+
+-- how many bytes are taken of a reader that passes its own test: as long as there is room for the text of two nibbles
+abbrev pub takenFrom : Lister → ℕ → List ℕ → ℕ
+takenFrom l room [] = 0
+takenFrom l room (b ∷ bs) =
+    cond (ltb room (2 * rowRoom)) 0
+    (suc (takenFrom (listAfter l (nibbles (b ∷ []))) (room - length (listText l (nibbles (b ∷ [])))) bs))
+
+-- none of any other
+abbrev pub takenOf : Lister → ℕ → List ℕ → ℕ
+takenOf l room bs = cond (passes (l .reader .head)) (takenFrom l room bs) 0
+
+-- the nibbles of the bytes that are taken
+abbrev pub takenNibbles : Lister → ℕ → List ℕ → List ℕ
+takenNibbles l room bs = nibbles (take (takenOf l room bs) bs)
+
+-- the text of a piece, in a buffer with this room
+unfoldable pub listedText : Lister → ℕ → List ℕ → List ℕ
+listedText l room bs = listText l (takenNibbles l room bs)
+
+unfoldable pub listedOf : Lister → ℕ → List ℕ → Listed
+listedOf l room bs =
+    record { lister = listAfter l (takenNibbles l room bs); taken = takenOf l room bs; used = length (listedText l room bs) }
+
+-- Finish.
+
+-- the last mark's answer, if there is one, and what the tally tells then
+abbrev pub lastAnswer : Lister → Answer
+lastAnswer l = answerFor (finishOf (l .reader) .outcome)
+
+abbrev pub lastTold : Lister → Told
+lastTold l = closeOf (l .tally) (lastAnswer l)
+
+-- its text, and what stands below the list
+abbrev pub endText : Lister → List ℕ
+endText l = textOf (l .mode) (lastTold l) (lastAnswer l) ++ reportOf (l .mode) (lastTold l .tally)
+
+-- where the buffer has room for any
+unfoldable pub lastText : Lister → ℕ → List ℕ
+lastText l room = cond (ltb room (2 * rowRoom)) [] (endText l)
+
+-- a lister with the reader that finish leaves, and a fresh tally; as it was where the buffer has no room
+unfoldable pub finishedOf : Lister → ℕ → Listed
+finishedOf l room =
+    record {
+      lister = cond (ltb room (2 * rowRoom)) l (record { mode = l .mode; reader = finishOf (l .reader) .reader; tally = freshTally });
+      taken = 0;
+      used = length (lastText l room);
+    }
+
+-- what a call gives back, as one sentence: the result as the definition has it, and its text at the front of the buffer
+pub record ListGives (listed : Listed) (text : List ℕ) (r : Listed) (before after : List ℕ) : Type 0 where
+  pub next : r ≡ listed
+  pub leaves : after ≡ onFront text before
