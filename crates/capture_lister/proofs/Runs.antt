@@ -13,8 +13,7 @@ use Rattle.stream.specs.Answers.{answerFor}
 use Rattle.reader.specs.declared.Head.{Head}
 use Rattle.reader.specs.declared.Reader.{Reader}
 use Rattle.run.specs.Run.{Ran, lentRunOf, onward}
-use Rattle.reader_laws.specs.Passing.{Small}
-use Rattle.reader_laws.specs.Passing.{Ok}
+use Rattle.reader_laws.specs.Passing.{Small, Ok}
 use Rattle.reader_laws.specs.ByRuns.{ByNibbles, run-on, lent-onward, small-drop}
 use Rattle.tally.specs.declared.Tally.{Tally}
 use Rattle.tally.specs.declared.Told.{Told}

@@ -28,8 +28,7 @@ use Rattle.stream.specs.Answers.{answerFor, bufferAfter, isLine, turned, period
 use Rattle.stream.specs.Stream.{State, Step, strip, markIf, kindAt, beforeBy, answerAt, advance, step, finish}
 use Rattle.recovery.specs.Calls.{Call, feed, done, CallResult, turnedAway, fed, meaningCall}
 use Rattle.recovery.specs.Resync.{stateWith}
-use Rattle.reader_laws.specs.Passing.{Small, small-none, small-more}
-use Rattle.reader_laws.specs.Passing.{Byte}
+use Rattle.reader_laws.specs.Passing.{Small, small-none, small-more, Byte}
 use Rattle.explained.specs.Agree.{Agree, both-end, AgreeOnto, at-base, onto-other, onto-F, onto-free, agree-turned, agree-small, agree-length, as-bytes, line-from-same, gap-same}
 
 -- The code at a text's old end.

@@ -21,10 +21,9 @@ use Rattle.reader.specs.declared.Reader.{Reader}
 use Rattle.reader.specs.Reader.{isMark, passes, freshReader}
 use Rattle.recovery.specs.Calls.{Call, feed, done, CallResult, meaningCall}
 use Rattle.recovery.specs.Resync.{stateWith}
-use Rattle.reader_laws.specs.Passing.{Small}
+use Rattle.reader_laws.specs.Passing.{Small, Byte, Passed, Ok}
 use Rattle.refinement.specs.Window.{no-mark-yet}
 use Rattle.refinement.specs.Stored.{storedKept}
-use Rattle.reader_laws.specs.Passing.{Byte, Passed, Ok}
 use Rattle.reader_laws.specs.Passes.{passed}
 use Rattle.refinement.specs.Refine.{Follows, fresh-follows, fedReader, fed-follows}
 use Rattle.refinement.specs.ReaderCalls.{readerCall, alike}

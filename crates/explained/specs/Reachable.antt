@@ -34,8 +34,7 @@ use Rattle.recovery.specs.MarkFree.{strip-wrong}
 use Rattle.recovery.specs.ReadBack.{run-append, line-opens}
 use Rattle.recovery.specs.WrittenLaws.{AllNibbles, no-nibble as none-left, and-nibble, all-content}
 use Rattle.recovery.specs.Examples.{sample, sample-writable}
-use Rattle.reader_laws.specs.Passing.{Small, small-none, small-more}
-use Rattle.reader_laws.specs.Passing.{Byte}
+use Rattle.reader_laws.specs.Passing.{Small, small-none, small-more, Byte}
 use Rattle.explained.specs.Agree.{AgreeOnto, at-base, onto-other, onto-F, onto-free}
 use Rattle.explained.specs.Equivalent.{trailingF, baseOf, trailingFAt, below, above, Rests, one-rest, two-rests, rests-if, rests-F, Equivalent, the-same, texts-agree}
 

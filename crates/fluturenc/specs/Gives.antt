@@ -11,7 +11,7 @@ pub record StateGives (c : Called) (answer : ℕ) (state : List ℕ) : Type 0 wh
   pub keeps : state ≡ c .state
 
 -- feeding: the line buffer is lent too, and the place for the count
-pub record FeedGives (c : FeedCalled) (answer taken : ℕ) (state line : List ℕ) : Type 0 where
+pub record FeedCallGives (c : FeedCalled) (answer taken : ℕ) (state line : List ℕ) : Type 0 where
   pub says : answer ≡ c .answer
   pub count : taken ≡ c .taken
   pub keeps : state ≡ c .state

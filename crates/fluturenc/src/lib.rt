@@ -28,7 +28,7 @@ ghost use Rattle.profile.specs.Profile.{profileNumber};
 ghost use Rattle.writer.specs.Writer.{writeOf};
 ghost use Rattle.fluturenc.specs.State.{headLength, stateLength, markNumber, codeOf, markNumbered, profileOf, numberOf, bitOf, headBytes, headIn, tagged, holdsReader, readerIn, stored};
 ghost use Rattle.fluturenc.specs.Calls.{answerNumber, openCall, feedCall, finishCall, judgeNumber, judgeNumbered, verdictNumber, judgeCall};
-ghost use Rattle.fluturenc.specs.Gives.{StateGives, FeedGives, WriteGives, JudgeGives};
+ghost use Rattle.fluturenc.specs.Gives.{StateGives, FeedCallGives, WriteGives, JudgeGives};
 use frame::Borders;
 use frame::Judge;
 use frame::Verdict;
@@ -81,7 +81,7 @@ pub extern "C" fn fluturenc_feed(
     line: &mut [u8],
     taken: &mut usize,
 ) -> u64
-    ensures { λ r. ⌜ FeedGives (feedCall (now (state .entry)) (now (nibbles .entry)) (now (line .entry))) r (now (taken .exit)) (now (state .exit)) (now (line .exit)) ⌝ }
+    ensures { λ r. ⌜ FeedCallGives (feedCall (now (state .entry)) (now (nibbles .entry)) (now (line .entry))) r (now (taken .exit)) (now (state .exit)) (now (line .exit)) ⌝ }
 {
     *taken = 0;
     if state.len() < STATE {

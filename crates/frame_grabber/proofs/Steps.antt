@@ -16,8 +16,7 @@ use Rattle.reader.specs.declared.Head.{Head}
 use Rattle.reader.specs.declared.Reader.{Reader}
 use Rattle.reader.specs.Reader.{passes}
 use Rattle.run.specs.Run.{Ran, onward}
-use Rattle.reader_laws.specs.Passing.{Small}
-use Rattle.reader_laws.specs.Passing.{Ok}
+use Rattle.reader_laws.specs.Passing.{Small, Ok}
 use Rattle.reader_laws.specs.ByRuns.{ByNibbles, RunOn, run-on}
 use Rattle.capture_bytes.specs.UnpackedLaws.{nibbles-append, nibbles-length}
 use Rattle.frame_rows.specs.declared.Gatherer.{Gatherer}

@@ -1,6 +1,5 @@
 -- Line codes (01, 'Marks and line codes'): the byte 1 C2 C1 C0 P3 P2 P1 P0.
 use mathlib.Core.Bool.{Bool, true, false, _&&_, cond}
-use mathlib.Core.List.{List, [], _∷_}
 use Prim.Native.Nat.{ℕ, zero, suc, _+_, _-_, _*_, _/_, _%_}
 use lib.Dec.{eqb, ltb}
 use Rattle.bits.specs.Bits.{bit, flipped}
@@ -48,10 +47,6 @@ lineOr NotLine m = m
 -- the meaning of a code C2 C1 C0
 unfoldable pub meaningOf : ℕ → Meaning
 meaningOf c = cond (eqb c 0) EndOfLine (lineOr (kindNumbered c) (reservedOf c))
-
--- all meanings, in the order of their codes
-abbrev pub meanings : List Meaning
-meanings = EndOfLine ∷ Line BL ∷ Line BK ∷ Line VL ∷ Line SOF ∷ Line EOF ∷ ReservedEC ∷ ReservedF1 ∷ []
 
 -- the code bits C2 C1 C0 of a byte
 abbrev pub codeBits : ℕ → ℕ

@@ -1,5 +1,4 @@
 // What is told of the frames of a capture: a line for each that is complete, broken or cut off, and the last two lines.
-ghost use mathlib.Core.Path.{_≡_};
 ghost use lib.ListN.{length};
 ghost use Rattle.text.specs.Put.{Puts, AtFront};
 ghost use Rattle.listing.specs.Rows.{ifRoom};

@@ -2,7 +2,6 @@
 //
 // In: the number of a mark and its answer. Out: the row's bytes at the front of the buffer, and how many they are. Nothing is refused:
 // a buffer of fewer than ROW bytes stays as it was, and the count is 0. Cost: linear in the row.
-ghost use mathlib.Core.Path.{_≡_};
 ghost use lib.ListN.{length};
 ghost use Rattle.text.specs.Put.{Puts, AtFront};
 ghost use Rattle.listing.specs.Rows.{headerRow, kindWord, noteWord, gapWords, lineWords, refusedWords, rowWith, rowOf, ifRoom};

@@ -11,9 +11,8 @@ use Rattle.profile.specs.Profile.{bodyLength, longest}
 use Rattle.stream.specs.Answers.{outcomeOf, answerFor, bufferAfter, refused}
 use Rattle.reader.specs.declared.Reader.{Reader}
 use Rattle.reader.specs.declared.Stepped.{Stepped}
-use Rattle.reader.specs.Reader.{Took, passes, refusing, taking, takeOf, feedOf}
+use Rattle.reader.specs.Reader.{Took, passes, refusing, taking, takeOf, feedOf, readerOf}
 use Rattle.reader.specs.Gives.{FeedGives, TakeGives}
-use Rattle.reader.specs.Parts.{readerOf}
 
 module _ (r : Reader) (n room : ℕ) where
   pub take-wrong : (length (r .body) ≡ longest → ⊥) → takeOf r n room ≡ refusing r badState

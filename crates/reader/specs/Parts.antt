@@ -6,12 +6,7 @@ use lib.ListN.{take, drop}
 use Rattle.stream.specs.Answers.{Outcome}
 use Rattle.mark_answer.specs.Judge.{judge}
 use Rattle.reader.specs.declared.Head.{Head}
-use Rattle.reader.specs.declared.Reader.{Reader}
 use Rattle.reader.specs.Reader.{leaveKept}
-
--- a reader of these parts
-abbrev pub readerOf : Head → List ℕ → Reader
-readerOf h body = record { head = h; body = body }
 
 -- what the open mark is answered when a mark with this code is complete, with the body as it then is
 abbrev pub completeOutcome : Head → List ℕ → ℕ → Outcome

@@ -29,6 +29,10 @@ pub record Took : Type 0 where
   pub reader : Reader
   pub outcome : Outcome
 
+-- a reader of these parts
+abbrev pub readerOf : Head → List ℕ → Reader
+readerOf h body = record { head = h; body = body }
+
 -- The window.
 
 -- F F F F 0 0 as a number, newest nibble lowest

@@ -20,9 +20,8 @@ use Rattle.reader.specs.declared.Reader.{Reader}
 use Rattle.reader.specs.Reader.{Took, taking, feedOf}
 use Rattle.run.specs.Run.{Ran, ran, isAnswer, lentRunOf, onward}
 use Rattle.run.proofs.Running.{lent-right, run-goes}
-use Rattle.reader_laws.specs.Passing.{Small, small-none, small-more}
+use Rattle.reader_laws.specs.Passing.{Small, small-none, small-more, Ok}
 use Rattle.reader_laws.specs.Passes.{passes-test, take-ok}
-use Rattle.reader_laws.specs.Passing.{Ok}
 
 pub no-answer : (o : Outcome) → isAnswer o ≡ false → o ≡ nothing
 no-answer nothing e = refl

@@ -1,4 +1,4 @@
--- The reader's own test (11), as facts; and that it holds of a fresh reader and goes on to hold whatever is called.
+-- The reader's own test (11) is its facts (Passing.antt); it holds of a fresh reader and goes on to hold whatever is called.
 use mathlib.Core.Path.{_≡_, refl, _∙_, ap, sym, subst}
 use mathlib.Core.Bool.{Bool, true, false, _||_, not, cond, true≢false}
 use mathlib.Core.List.{[]}
@@ -24,7 +24,7 @@ use Rattle.mark_answer.specs.Judge.{judge}
 use Rattle.reader.specs.declared.Head.{Head}
 use Rattle.reader.specs.declared.Reader.{Reader}
 use Rattle.reader.specs.Reader.{Took, groupNumber, isMark, slide, countStop, bump, leaveKept, leaveBody, shifted, opened, aged, windowFits, handedFits, passes, freshReader, refusing, takeHead, takeOutcome, taking, feedOf, flushed, finishOf}
-use Rattle.reader_laws.specs.Passing.{MarkFits, Fits, Passed, Byte, Ok}
+use Rattle.reader_laws.specs.Passing.{Fits, Passed, Byte, Ok}
 use Rattle.reader_laws.specs.Sound.{Sound, line-ends, judge-sound, take-sound, refusalOf, at-most-nine}
 
 -- The test and its facts.

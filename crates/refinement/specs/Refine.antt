@@ -36,10 +36,9 @@ use Rattle.reader.specs.declared.Reader.{Reader}
 use Rattle.reader.specs.Reader.{Took, isMark, slide, countStop, bump, leaveKept, leaveBody, shifted, opened, freshReader, refusing, takeHead, takeOutcome, taking, feedOf, flushed, finishOf}
 use Rattle.profile.specs.LayoutLaws.{body-small}
 use Rattle.refinement.specs.Window.{num, oldest, slide-num, no-mark-yet, Complete, complete}
-use Rattle.reader_laws.specs.Passing.{Small, small-none, small-more}
+use Rattle.reader_laws.specs.Passing.{Small, small-none, small-more, Ok}
 use Rattle.refinement.specs.Stored.{storedKept, storedBody, byte-keep, body-out, stored-length, wrong-length, judged}
 use Rattle.reader_laws.specs.Passes.{gap-start, finished, fresh-ok, take-ok, passes-test}
-use Rattle.reader_laws.specs.Passing.{Ok}
 
 -- The count's stop: numbers that are equal, or both past every body and every period that is told.
 

@@ -23,14 +23,14 @@ pub data RunCall : Type 0 where
   one : Call → RunCall
 
 -- what a call gives back
-abbrev pub runGives : Reader → RunCall → CallResult Reader
-runGives r (run w buffer) =
+abbrev pub runResult : Reader → RunCall → CallResult Reader
+runResult r (run w buffer) =
     record {
       reader = runOf r w (length buffer) .reader;
       answer = answerFor (runOf r w (length buffer) .outcome);
       buffer = bufferAfter (runOf r w (length buffer) .outcome) buffer;
     }
-runGives r (one c) = readerCall r c
+runResult r (one c) = readerCall r c
 
 -- the nibbles it takes, in front of those taken later
 abbrev pub runTakes : Reader → RunCall → List ℕ → List ℕ
@@ -41,12 +41,12 @@ runTakes r (one c) later = takenBy c (readerCall r c .answer) later
 
 abbrev pub onRuns : Reader → List RunCall → Reader
 onRuns r [] = r
-onRuns r (c ∷ cs) = onRuns (runGives r c .reader) cs
+onRuns r (c ∷ cs) = onRuns (runResult r c .reader) cs
 
 -- the nibbles taken, in order
 abbrev pub runsTaken : Reader → List RunCall → List ℕ
 runsTaken r [] = []
-runsTaken r (c ∷ cs) = runTakes r c (runsTaken (runGives r c .reader) cs)
+runsTaken r (c ∷ cs) = runTakes r c (runsTaken (runResult r c .reader) cs)
 
 -- what is collected, in order: a run is a call that feeds
 abbrev pub runCollects : {A : Type 0} → Collector A → RunCall → Outcome → List A
@@ -56,7 +56,7 @@ runCollects k (one c) o = collects k c o
 abbrev pub runsCollected : {A : Type 0} → Collector A → Profile → Reader → List RunCall → List A
 runsCollected k p r [] = []
 runsCollected k p r (c ∷ cs) =
-    runCollects k c (outcomeOf p (runGives r c .answer) (runGives r c .buffer)) ++ runsCollected k p (runGives r c .reader) cs
+    runCollects k c (outcomeOf p (runResult r c .answer) (runResult r c .buffer)) ++ runsCollected k p (runResult r c .reader) cs
 
 -- every answer: an outcome that is neither nothing nor 12
 abbrev pub answerIn : Outcome → List Outcome
@@ -85,7 +85,7 @@ oneByOne r (one c) = c ∷ []
 
 abbrev pub allOneByOne : Reader → List RunCall → List Call
 allOneByOne r [] = []
-allOneByOne r (c ∷ cs) = oneByOne r c ++ allOneByOne (runGives r c .reader) cs
+allOneByOne r (c ∷ cs) = oneByOne r c ++ allOneByOne (runResult r c .reader) cs
 
 -- Demand 3.
 

@@ -1,7 +1,7 @@
 -- A run is its feeds: the nibbles up to its stop, and the input there, fed one by one with the run's buffer. So lists with runs do what their
 -- calls one by one do, and demand 3 of those is demand 3 of the lists.
 use mathlib.Core.Path.{_≡_, refl, _∙_, ap, ap₂, sym, subst}
-use mathlib.Core.Bool.{Bool, true, false, _||_, not, cond, true≢false}
+use mathlib.Core.Bool.{Bool, true, false, _||_, not, cond}
 use mathlib.Core.List.{List, [], _∷_, _++_, append-nil}
 use Prim.Native.Nat.{ℕ, suc, _+_, _≤_}
 use native.Mathlib.Nat.{add-zero, zero-add}
@@ -27,7 +27,7 @@ use Rattle.reader_laws.specs.Passing.{Ok}
 use Rattle.refinement.specs.Refine.{fedOutcomes}
 use Rattle.refinement.specs.ReaderCalls.{readerCall, calls-ok, reader-demand-three}
 use Rattle.reader_laws.specs.ByRuns.{no-answer}
-use Rattle.refinement.specs.Runs.{RunCall, run, one, runGives, runTakes, onRuns, runsTaken, runCollects, runsCollected, answerCollector, feeds, starts, oneByOne, allOneByOne, FinishLastRun, no-call, done-last, feed-first, run-first, SameAsFeeds, RunsMeetDemandThree}
+use Rattle.refinement.specs.Runs.{RunCall, run, one, runResult, runTakes, onRuns, runsTaken, runCollects, runsCollected, answerCollector, feeds, starts, oneByOne, allOneByOne, FinishLastRun, no-call, done-last, feed-first, run-first, SameAsFeeds, RunsMeetDemandThree}
 
 -- One nibble of a run, as a feeding call.
 
@@ -174,9 +174,9 @@ quiet-before r w buffer ok enough = quietly w r (length buffer) ok enough
 
 -- one call of the list
 record Same {A : Type 0} (k : Collector A) (p : Profile) (r : Reader) (c : RunCall) : Type 0 where
-  leaves : runGives r c .reader ≡ onRun readerCall r (oneByOne r c)
+  leaves : runResult r c .reader ≡ onRun readerCall r (oneByOne r c)
   taken : (later : List ℕ) → runTakes r c later ≡ onTaken readerCall r (oneByOne r c) ++ later
-  brought : runCollects k c (outcomeOf p (runGives r c .answer) (runGives r c .buffer)) ≡ onCollected readerCall k p r (oneByOne r c)
+  brought : runCollects k c (outcomeOf p (runResult r c .answer) (runResult r c .buffer)) ≡ onCollected readerCall k p r (oneByOne r c)
 
 -- a run that starts, and one that is refused 12
 run-starts : (r : Reader) (w buffer : List ℕ) → Ok (r .head) → leb (bodyLength (r .head .profile)) (length buffer) ≡ true
@@ -237,7 +237,7 @@ module _ {A : Type 0} (k : Collector A) (of-nothing : k .fed nothing ≡ []) (of
   same-list (c ∷ cs) r ok =
       let s = same-call r c ok in
       let ds = oneByOne r c in
-      let r′ = runGives r c .reader in
+      let r′ = runResult r c .reader in
       let later = same-list cs r′ (subst (λ (x : Reader). Ok (x .head)) (sym (s .leaves)) (calls-ok ds r ok)) in
       let es = allOneByOne r′ cs in
       record {
@@ -273,7 +273,7 @@ finish-last : {cs : List RunCall} → FinishLastRun cs → (r : Reader) → Fini
 finish-last no-call r = calls.no-call
 finish-last done-last r = calls.done-last
 finish-last (feed-first {n} {buffer} {cs} h) r = calls.feed-first (finish-last h (readerCall r (feed n buffer) .reader))
-finish-last (run-first {w} {buffer} {cs} h) r = go (starts r (length buffer)) (finish-last h (runGives r (run w buffer) .reader))
+finish-last (run-first {w} {buffer} {cs} h) r = go (starts r (length buffer)) (finish-last h (runResult r (run w buffer) .reader))
   where
     go : (b : Bool) {ds : List Call} → FinishLast ds → FinishLast (cond b (feeds buffer (take (suc (stopPlace r w)) w)) [] ++ ds)
     go true {ds} k = feeds-first buffer (take (suc (stopPlace r w)) w) ds k

@@ -6,7 +6,7 @@ use mathlib.Core.Option.{Option, none, some}
 use Prim.Native.Nat.{ℕ, zero, suc, _+_, _*_, _-_, _/_, _%_, _≤_, _<_}
 use native.Mathlib.Omega.{arith}
 use lib.Dec.{eqb, leb, ltb}
-use lib.ListN.{length, take, drop, set, getD, length-append, length-set, drop-of-length-le, List·getD-append, List·getD-eq-default}
+use lib.ListN.{length, take, drop, set, getD, length-append, drop-of-length-le, List·getD-append, List·getD-eq-default}
 use lib.Seq.{drop-append-le, drop-cons, getD-at, getD-set-same, set-set, set-at, take-at}
 use borrow.Author.Tests.{eqb-true, eqb-false, ne-eqb, eq-eqb, le-leb, leb-true, leb-false, le-ltb, lt-ltb, ltb-true, ltb-false}
 use Rattle.bits.specs.Every.{and-both}
@@ -200,18 +200,6 @@ stored-stray p (v ∷ c) = go (leb (gapStart p) (length c)) refl (stored-stray p
         ∙ ih
         ∙ ap (λ (w : List ℕ). not (allF w))
         (drop-of-length-le (old c) {i = gapStart p} (omega arith) ∙ sym (drop-of-length-le (old (v ∷ c)) {i = gapStart p} (omega arith)))
-
--- a stray nibble stands where a gap has nothing but F
-pub stray-late : (p : Profile) (c : List ℕ) → storedKept p c .stray ≡ true → gapStart p < length c
-stray-late p c h = go (leb (length c) (gapStart p)) refl
-  where
-    go : (b : Bool) → leb (length c) (gapStart p) ≡ b → gapStart p < length c
-    go false e = leb-false (length c) (gapStart p) e
-    go true e =
-        let l = leb-true (length c) (gapStart p) e in
-        let m = length-old c in
-        absurd (true≢false
-        (sym h ∙ stored-stray p c ∙ ap (λ (w : List ℕ). not (allF w)) (drop-of-length-le (old c) {i = gapStart p} (omega arith))))
 
 not-stray : (p : Profile) (c : List ℕ) → allF (drop (gapStart p) (old c)) ≡ not (storedKept p c .stray)
 not-stray p c = sym (ap not (stored-stray p c) ∙ not-not (allF (drop (gapStart p) (old c))))

@@ -11,7 +11,7 @@ use borrow.Author.Tests.{eqb-true, eqb-false, ne-eqb, eq-eqb}
 use Rattle.stream.specs.Stream.{group, strip, not-yet, mark, markIf, detect}
 use Rattle.mark_answer.specs.Kept.{topPlace}
 use Rattle.reader.specs.Reader.{groupNumber, isMark, slide}
-use Rattle.reader_laws.specs.Passing.{Small, small-none, small-more}
+use Rattle.reader_laws.specs.Passing.{Small, small-more}
 
 -- nibbles as a number, the newest in its lowest digit
 abbrev pub num : List ℕ → ℕ

@@ -1,1 +1,1 @@
-// The reader answers as the meaning does, and its own test is true of just the states that matter: laws, all of them in specs/.
+// The reader answers as the meaning does, a run as its feeds, and demand 3 of both: laws, all of them in specs/.

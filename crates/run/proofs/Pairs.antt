@@ -22,10 +22,9 @@ use Rattle.mark_answer.specs.declared.Kept.{Kept}
 use Rattle.mark_answer.specs.Kept.{topPlace, bodyPlace, gapStart, byteAt, strayAt, keptAt, bodyAt}
 use Rattle.reader.specs.declared.Head.{Head}
 use Rattle.reader.specs.declared.Reader.{Reader}
-use Rattle.reader.specs.Reader.{Took, groupNumber, isMark, slide, countStop, bump, leaveKept, leaveBody, shifted, takeHead, takeOutcome, taking}
+use Rattle.reader.specs.Reader.{Took, groupNumber, isMark, slide, countStop, bump, leaveKept, leaveBody, shifted, takeHead, takeOutcome, taking, readerOf}
 use Rattle.run.specs.Run.{isAnswer, onward}
 use Rattle.run.specs.RunLaws.{onward-on}
-use Rattle.reader.specs.Parts.{readerOf}
 use Rattle.run.specs.Parts.{isNear, isPair, bytePlace, slideByte, strayAfter, strayKept, byteKept, strayed, Leads}
 use Rattle.reader.proofs.Window.{gap-start-small}
 

@@ -11,10 +11,9 @@ use Rattle.profile.specs.Profile.{bodyLength, longest}
 use Rattle.stream.specs.declared.Answer.{Answer}
 use Rattle.stream.specs.Answers.{Outcome, nothing, line, gap, refused, outcomeOf, answerFor, bufferAfter, isLine}
 use Rattle.reader.specs.declared.Head.{Head}
-use Rattle.reader.specs.Reader.{passes, leaveBody, takeHead, takeOutcome}
+use Rattle.reader.specs.Reader.{passes, leaveBody, takeHead, takeOutcome, readerOf}
 use Rattle.run.specs.Run.{Ran, ran, isAnswer, runOf, lentRunOf, onward}
 use Rattle.run.specs.RunLaws.{onward-end, onward-above, onward-answered, onward-on}
-use Rattle.reader.specs.Parts.{readerOf}
 use Rattle.run.specs.declared.RunStepped.{RunStepped}
 use Rattle.run.specs.Gives.{RunGives, LentRunGives}
 use Rattle.run.specs.Parts.{ranFrom, Ends, isTold, Leads}

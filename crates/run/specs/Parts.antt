@@ -12,7 +12,7 @@ use Rattle.stream.specs.declared.Answer.the-variants as answers
 use Rattle.stream.specs.Answers.{answerFor, bufferAfter}
 use Rattle.mark_answer.specs.declared.Kept.{Kept}
 use Rattle.reader.specs.declared.Head.{Head}
-use Rattle.reader.specs.Parts.{readerOf}
+use Rattle.reader.specs.Reader.{readerOf}
 use Rattle.run.specs.Run.{Ran, onward}
 
 -- a run of a reader of these parts, from its first nibble on

@@ -6,15 +6,14 @@
 //
 // A mark that ends at one of the next two nibbles shows in the window before they come: F at its nibbles 5, 4 and 3, counted from the newest,
 // 0, and 0 at nibble 1. Where it does not, two nibbles are taken in one turn, and where the count of the text's nibbles is even, the two that
-// leave the window are one byte of the text. Every other nibble is taken as feeding takes it. Cost: about 1.3 ns a nibble in a body, where feeding
-// takes 29.
+// leave the window are one byte of the text. Every other nibble is taken as feeding takes it. Cost: linear in the nibbles taken.
 ghost use mathlib.Core.Path.{_≡_};
 ghost use mathlib.Core.List.{List};
 ghost use Prim.Native.Nat.{ℕ, _≤_, _<_, _+_, _/_, _%_};
 ghost use lib.ListN.{length};
 ghost use Rattle.profile.specs.Profile.{bodyLength, longest};
 ghost use Rattle.stream.specs.Answers.{answerFor, bufferAfter, refused, isLine};
-ghost use Rattle.reader.specs.Reader.{bump, leaveBody, takeHead, takeOutcome};
+ghost use Rattle.reader.specs.Reader.{leaveBody, takeHead, takeOutcome};
 ghost use Rattle.run.specs.Run.{runOf, lentRunOf};
 ghost use Rattle.run.specs.Gives.{RunGives, LentRunGives};
 ghost use Rattle.run.specs.Parts.{ranFrom, Ends, isTold, Leads, isNear, isPair, bytePlace, slideByte, strayAfter, strayKept, byteKept};

@@ -1,6 +1,6 @@
 // Standard input listed on standard output, in large pieces: what the programs list and frames share.
 //
-// In: what to list. Read: the bytes of a profile 0 capture. Written: their text, as capture says it. A read or a write that fails is told
+// In: what to list. Read: the bytes of a profile 0 capture. Written: their text, as capture_lister says it. A read or a write that fails is told
 // on standard error, and ends the list: nothing is then said of the whole.
 use capture_lister::Lister;
 use capture_lister::Mode;

@@ -10,8 +10,6 @@ use lib.ListN.{replicate}
 use borrow.Author.Tests.{lt-ltb, ltb-false, ne-eqb}
 use Rattle.refusal.specs.Refusal.{unfinishedLine}
 use Rattle.line_code.specs.LineCode.{kindNumber}
-use Rattle.stream.specs.declared.GapFacts.{GapFacts}
-use Rattle.stream.specs.declared.LineFacts.{LineFacts}
 use Rattle.stream.specs.declared.Answer.{Answer}
 use Rattle.stream.specs.declared.Answer.the-variants as answer
 use Rattle.frame.specs.declared.Borders.{Borders}

@@ -4,7 +4,7 @@ use native.Mathlib.Omega.{arith}
 use lib.ListN.{length}
 use denote.Ref.{now}
 use borrow.Author.Needs.{needs}
-use Rattle.reader.specs.Parts.{readerOf}
+use Rattle.reader.specs.Reader.{readerOf}
 use Rattle.run.proofs.Told.{told-run}
 use Rattle.run.proofs.Running.{lent-wrong, lent-right, run-fails, run-short, run-goes, tells, refuses}
 use Rattle.run.proofs.run_lent.Statement.{statement}

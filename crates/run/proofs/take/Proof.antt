@@ -5,8 +5,7 @@ use lib.ListN.{length}
 use denote.Ref.{now}
 use borrow.Author.Needs.{needs}
 use Rattle.stream.specs.Answers.{answerFor, bufferAfter}
-use Rattle.reader.specs.Reader.{Took}
-use Rattle.reader.specs.Parts.{readerOf}
+use Rattle.reader.specs.Reader.{Took, readerOf}
 use Rattle.reader.proofs.Taking.{take-goes}
 use Rattle.run.proofs.take.Statement.{statement}
 use Rattle.run.proofs.take.Tie as tie

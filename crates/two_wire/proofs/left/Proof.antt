@@ -2,8 +2,6 @@
 use borrow.Author.Tests.{lt-leb, le-leb}
 use Rattle.two_wire.specs.RegisterLaws.{within, reached-counts, reached-still}
 use native.Mathlib.Omega.{arith}
-use borrow.Author.Tests.{lt-leb, le-leb}
-use Rattle.two_wire.specs.RegisterLaws.{reached-counts, reached-still}
 use Rattle.two_wire.proofs.left.Statement.{statement}
 use Rattle.two_wire.proofs.left.Tie as tie
 

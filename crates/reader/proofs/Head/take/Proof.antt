@@ -7,8 +7,7 @@ use denote.Ref.{now}
 use borrow.Author.Needs.{needs}
 use Rattle.profile.specs.Profile.{bodyLength}
 use Rattle.stream.specs.Answers.{answerFor, bufferAfter}
-use Rattle.reader.specs.Reader.{Took}
-use Rattle.reader.specs.Parts.{readerOf}
+use Rattle.reader.specs.Reader.{Took, readerOf}
 use Rattle.reader.proofs.Taking.{take-wrong, take-above, take-short, take-goes, refuses}
 use Rattle.reader.proofs.Head.take.Statement.{statement}
 use Rattle.reader.proofs.Head.take.Tie as tie
