@@ -1,0 +1,3 @@
+pub mod Signal
+pub mod Seen
+pub mod SignalLaws

@@ -1,0 +1,147 @@
+-- What a capture's answers say of its signal, answer by answer. Seen.antt says the same of all answers at once.
+use mathlib.Core.Bool.{Bool, false, _||_, cond}
+use mathlib.Core.List.{List}
+use mathlib.Core.Option.{Option, none, some}
+use Prim.Native.Nat.{ℕ}
+use lib.Dec.{eqb, ltb}
+use lib.ListN.{replicate}
+use Rattle.refusal.specs.Refusal.{unfinishedLine, endWithoutLine, badGap}
+use Rattle.counts.specs.Counts.{oneMore, oneMoreAt}
+use Rattle.line_code.specs.declared.Repair.{Repair}
+use Rattle.line_code.specs.declared.Repair.the-variants.{Clean, Bit}
+use Rattle.period.specs.declared.Nibbles.{Nibbles}
+use Rattle.period.specs.Period.{rateOf}
+use Rattle.stream.specs.declared.LineFacts.{LineFacts}
+use Rattle.stream.specs.declared.GapFacts.{GapFacts}
+use Rattle.stream.specs.declared.Answer.{Answer}
+use Rattle.stream.specs.declared.Answer.the-variants.{Nothing, Line, Gap, Refused}
+use Rattle.signal.specs.declared.First.{First}
+use Rattle.signal.specs.declared.First.the-variants.{Unseen, InsideLine, Other}
+use Rattle.signal.specs.declared.Spacing.{Spacing}
+use Rattle.signal.specs.declared.Signal.{Signal}
+
+-- Repairs.
+
+-- one more of its bit
+abbrev pub withRepair : List ℕ → Repair → List ℕ
+withRepair counts Clean = counts
+withRepair counts (Bit i) = oneMoreAt counts i
+
+-- The first mark.
+
+-- with a mark more
+abbrev pub seen : First → First
+seen Unseen = Other
+seen InsideLine = InsideLine
+seen Other = Other
+
+-- a refused mark that is the first, and an end of line: the capture began inside a line
+abbrev pub isStart : First → ℕ → Bool
+isStart Unseen n = eqb n endWithoutLine
+isStart InsideLine n = false
+isStart Other n = false
+
+-- Periods.
+
+abbrev pub noPeriods : Spacing
+noPeriods = record { thirty = 0; twentyfive = 0; others = 0; least = 0; greatest = 0 }
+
+-- the least so far, 0 for none, and the greatest, with one more
+unfoldable pub lesser : ℕ → ℕ → ℕ
+lesser least n = cond (eqb least 0) n (cond (ltb n least) n least)
+
+unfoldable pub greater : ℕ → ℕ → ℕ
+greater greatest n = cond (ltb greatest n) n greatest
+
+abbrev pub thirtyMore : Spacing → Spacing
+thirtyMore s = record { thirty = oneMore (s .thirty); twentyfive = s .twentyfive; others = s .others; least = s .least; greatest = s .greatest }
+
+abbrev pub twentyFiveMore : Spacing → Spacing
+twentyFiveMore s = record { thirty = s .thirty; twentyfive = oneMore (s .twentyfive); others = s .others; least = s .least; greatest = s .greatest }
+
+abbrev pub otherMore : Spacing → ℕ → Spacing
+otherMore s n =
+    record {
+      thirty = s .thirty;
+      twentyfive = s .twentyfive;
+      others = oneMore (s .others);
+      least = lesser (s .least) n;
+      greatest = greater (s .greatest) n;
+    }
+
+-- by the frames a second that it is named after, if any
+abbrev pub byRate : Spacing → ℕ → Option ℕ → Spacing
+byRate s n none = otherMore s n
+byRate s n (some rate) = cond (eqb rate 30) (thirtyMore s) (twentyFiveMore s)
+
+-- the period of a gap: 0 is none
+unfoldable pub withPeriod : Spacing → Nibbles → Spacing
+withPeriod s n = cond (eqb (n .0) 0) s (byRate s (n .0) (rateOf n))
+
+-- Answers.
+
+-- a mark's refusal numbers are below this
+abbrev pub refusals : ℕ
+refusals = 10
+
+abbrev pub codeBits : ℕ
+codeBits = 8
+
+-- nothing seen
+abbrev pub freshSignal : Signal
+freshSignal = record { first = Unseen; lines = 0; refused = replicate refusals 0; repaired = replicate codeBits 0; spacing = noPeriods }
+
+-- a line: it is counted, and the repair of each of its codes
+abbrev pub lineSeen : Signal → LineFacts → Signal
+lineSeen s f =
+    record {
+      first = seen (s .first);
+      lines = oneMore (s .lines);
+      refused = s .refused;
+      repaired = withRepair (withRepair (s .repaired) (f .start)) (f .end);
+      spacing = s .spacing;
+    }
+
+-- a good gap: the period of its line
+abbrev pub gapSeen : Signal → GapFacts → Signal
+gapSeen s g =
+    record {
+      first = seen (s .first);
+      lines = s .lines;
+      refused = s .refused;
+      repaired = s .repaired;
+      spacing = withPeriod (s .spacing) (g .period);
+    }
+
+-- a refused mark
+abbrev pub refusalSeen : Signal → ℕ → Signal
+refusalSeen s n =
+    record {
+      first = seen (s .first);
+      lines = s .lines;
+      refused = oneMoreAt (s .refused) n;
+      repaired = s .repaired;
+      spacing = s .spacing;
+    }
+
+abbrev pub withFirst : Signal → First → Signal
+withFirst s f = record { first = f; lines = s .lines; refused = s .refused; repaired = s .repaired; spacing = s .spacing }
+
+unfoldable pub takeOf : Signal → Answer → Signal
+takeOf s Nothing = s
+takeOf s (Line f) = lineSeen s f
+takeOf s (Gap g) = gapSeen s g
+takeOf s (Refused n) = cond (isStart (s .first) n) (withFirst s InsideLine) (refusalSeen s n)
+
+-- The end of the capture.
+
+-- finish's answer tells only that the end cut off a line (3) or a gap (9)
+abbrev pub isCut : Answer → Bool
+isCut Nothing = false
+isCut (Line f) = false
+isCut (Gap g) = false
+isCut (Refused n) = eqb n unfinishedLine || eqb n badGap
+
+-- a capture ends anywhere: such an answer is not counted
+unfoldable pub closeOf : Signal → Answer → Signal
+closeOf s last = cond (isCut last) (withFirst s (seen (s .first))) (takeOf s last)
