@@ -1,8 +1,8 @@
 -- Counts, held at the greatest u64.
-use mathlib.Core.Bool.{Bool, cond}
+use mathlib.Core.Bool.{Bool, true, _&&_, cond}
 use mathlib.Core.List.{List, [], _∷_}
 use Prim.Native.Nat.{ℕ, _+_}
-use lib.Dec.{ltb}
+use lib.Dec.{eqb, ltb}
 use lib.ListN.{length, getD, set}
 
 -- where a count stops: the greatest u64
@@ -20,3 +20,8 @@ counting which n (x ∷ w) = counting which (cond (which x) (oneMore n) n) w
 -- counts side by side, with one more at a place: none where there is no such place
 unfoldable pub oneMoreAt : List ℕ → ℕ → List ℕ
 oneMoreAt counts i = cond (ltb i (length counts)) (set counts i (oneMore (getD counts i 0))) counts
+
+-- all of them are 0
+abbrev pub allZero : List ℕ → Bool
+allZero [] = true
+allZero (n ∷ counts) = eqb n 0 && allZero counts

@@ -1,14 +1,15 @@
 -- Laws of counts: a list in two parts; a count above 0 exactly where one of the list is so; counts side by side.
 use mathlib.Core.Path.{_≡_, refl, _∙_, ap, sym}
-use mathlib.Core.Bool.{Bool, true, false, true≢false, _||_, cond, or-true, or-false}
+use mathlib.Core.Bool.{Bool, true, false, true≢false, _&&_, _||_, cond, or-true, or-false}
 use mathlib.Core.List.{List, [], _∷_, _++_}
 use Prim.Native.Nat.{ℕ, _+_, _<_}
+use native.Mathlib.Numerals.{add-one}
 use native.Mathlib.Omega.{arith}
 use lib.Dec.{eqb, ltb}
-use lib.ListN.{length, getD, set, length-set}
-use lib.Seq.{getD-set-same, getD-set-other}
+use lib.ListN.{length, getD, set, drop, length-set}
+use lib.Seq.{getD-set-same, getD-set-other, drop-cons}
 use borrow.Author.Tests.{lt-ltb, ltb-false, eqb-true, eqb-false}
-use Rattle.counts.specs.Counts.{countStop, oneMore, counting, oneMoreAt}
+use Rattle.counts.specs.Counts.{countStop, oneMore, counting, oneMoreAt, allZero}
 
 -- a list in two parts is counted one part after the other
 pub counting-append : {A : Type 0} (which : A → Bool) (n : ℕ) (v w : List A) → counting which n (v ++ w) ≡ counting which (counting which n v) w
@@ -67,3 +68,7 @@ one-more-there counts i j h = either (eqb i j) refl
     either true e =
         ap (λ (k : ℕ). getD (cond (ltb k (length counts)) (set counts k (oneMore (getD counts k 0))) counts) j 0) (eqb-true i j e) ∙ there (ltb j (length counts)) refl
     either false e = elsewhere (λ (q : j ≡ i). eqb-false i j e (sym q)) (ltb i (length counts))
+
+-- from one place on, by the count there
+pub zero-step : (counts : List ℕ) (i : ℕ) → i < length counts → allZero (drop i counts) ≡ (eqb (getD counts i 0) 0 && allZero (drop (i + 1) counts))
+zero-step counts i h = ap allZero (drop-cons counts i 0 h) ∙ ap (λ (k : ℕ). eqb (getD counts i 0) 0 && allZero (drop k counts)) (sym (add-one i))

@@ -1,6 +1,6 @@
 // Counts, single and side by side. They are held at the greatest u64, which no capture reaches. Cost: constant.
 ghost use mathlib.Core.Path.{_≡_};
-ghost use Rattle.counts.specs.Counts.{oneMore, oneMoreAt};
+ghost use Rattle.counts.specs.Counts.{oneMore, oneMoreAt, allZero};
 
 // A count and one more.
 pub fn one_more(count: u64) -> u64
@@ -19,4 +19,18 @@ pub fn add_at(counts: &mut [u64], i: usize)
     if i < counts.len() {
         counts[i] = one_more(counts[i]);
     }
+}
+
+// Whether counts side by side are all 0.
+pub fn are_zero(counts: &[u64]) -> bool
+    ensures { λ r. ⌜ r ≡ allZero (now (counts .entry)) ⌝ }
+{
+    let mut i: usize = 0;
+    while i < counts.len() {
+        if 0 < counts[i] {
+            return false;
+        }
+        i += 1;
+    }
+    true
 }
