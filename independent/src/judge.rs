@@ -1,7 +1,7 @@
 //! Frames of profile 0.
 
 #[derive(Clone, Copy, PartialEq, Eq, Debug)]
-pub enum Verdict {
+pub enum Ruling {
     Waiting,
     Going,
     Complete,
@@ -37,24 +37,24 @@ fn kind_at(place: u16, borders: bool) -> u8 {
 }
 
 impl Judge {
-    pub fn line(&mut self, kind: u8, number: u16) -> Verdict {
+    pub fn line(&mut self, kind: u8, number: u16) -> Ruling {
         if kind > 5 {
-            return Verdict::Refused(13);
+            return Ruling::Refused(13);
         }
         if kind != 0 && number > 4095 {
-            return Verdict::Refused(14);
+            return Ruling::Refused(14);
         }
         let opens = kind == 4 && number == 0;
         let Some((place, borders)) = self.due else {
             if opens {
                 self.due = Some((1, None));
-                return Verdict::Going;
+                return Ruling::Going;
             }
-            return Verdict::Waiting;
+            return Ruling::Waiting;
         };
         self.due = None;
         if kind == 0 {
-            return Verdict::Refused(19);
+            return Ruling::Refused(19);
         }
         let settled = match borders {
             Some(b) => (kind == kind_at(place, b)).then_some(Some(b)),
@@ -68,16 +68,16 @@ impl Judge {
         // After the EOF line no number is compared.
         let numbered = number == place || borders.is_some_and(|b| place > eof_at(b));
         match settled {
-            Some(_) if numbered && place == 303 => Verdict::Complete,
+            Some(_) if numbered && place == 303 => Ruling::Complete,
             Some(b) if numbered => {
                 self.due = Some((place + 1, b));
-                Verdict::Going
+                Ruling::Going
             }
             _ => {
                 if opens {
                     self.due = Some((1, None));
                 }
-                Verdict::Refused(18)
+                Ruling::Refused(18)
             }
         }
     }

@@ -1,7 +1,7 @@
 //! Fluturenc's exported functions, and safe functions over them. Nothing checks these declarations against the Rattle source
 //! (crates/fluturenc/src/lib.rt), whose head says what each call does.
 
-use crate::judge::Verdict;
+use crate::judge::Ruling;
 use crate::reader::Answer;
 
 extern "C" {
@@ -110,12 +110,12 @@ fn repair(number: u64) -> Option<u8> {
     number.checked_sub(1).map(|bit| u8::try_from(bit).expect("a bit is a byte"))
 }
 
-pub fn verdict(number: u8) -> Verdict {
+pub fn ruling(number: u8) -> Ruling {
     match number {
-        0 => Verdict::Waiting,
-        1 => Verdict::Going,
-        2 => Verdict::Complete,
-        n => Verdict::Refused(n),
+        0 => Ruling::Waiting,
+        1 => Ruling::Going,
+        2 => Ruling::Complete,
+        n => Ruling::Refused(n),
     }
 }
 

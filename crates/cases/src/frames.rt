@@ -3,7 +3,7 @@ use crate::text::say;
 use crate::text::say_number;
 use frame::Borders;
 use frame::Judge;
-use frame::Verdict;
+use frame::Ruling;
 
 // A judge, and how many lines it answered Going since its last other answer.
 pub struct Hearing {
@@ -34,23 +34,23 @@ impl Hearing {
         let judge = self.judge;
         let judged = judge.line(kind, number);
         let judge = judged.judge;
-        let verdict = judged.verdict;
-        match verdict {
-            Verdict::Going => {
+        let ruling = judged.ruling;
+        match ruling {
+            Ruling::Going => {
                 let going = std::num::wrapping_add_u64(self.going, 1);
                 Hearing { judge, going }
             }
-            Verdict::Waiting => {
+            Ruling::Waiting => {
                 say_going(self.going);
                 say(b"Waiting\n");
                 Hearing { judge, going: 0 }
             }
-            Verdict::Complete => {
+            Ruling::Complete => {
                 say_going(self.going);
                 say(b"Complete\n");
                 Hearing { judge, going: 0 }
             }
-            Verdict::Refused(number) => {
+            Ruling::Refused(number) => {
                 say_going(self.going);
                 say(b"REFUSED ");
                 say_number(number as u64);

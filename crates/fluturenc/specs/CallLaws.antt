@@ -34,7 +34,7 @@ use Rattle.frame.specs.declared.Judge.the-variants.{Waiting, Due}
 use Rattle.frame.specs.Frame.{judgeOf}
 use Rattle.frame.specs.Frame as frame
 use Rattle.fluturenc.specs.State.{stateLength, bitOf, stored, holdsReader, readerIn}
-use Rattle.fluturenc.specs.Calls.{Called, FeedCalled, answerNumber, openCall, feedCall, feedRan, finishCall, judgeNumber, judgeNumbered, verdictNumber, judgeCall}
+use Rattle.fluturenc.specs.Calls.{Called, FeedCalled, answerNumber, openCall, feedCall, feedRan, finishCall, judgeNumber, judgeNumbered, rulingNumber, judgeCall}
 use Rattle.fluturenc.specs.StateLaws.{reader-back, stored-length, stored-holds}
 
 -- Readers that calls reach: the code is a byte, the test passes, and the body has its length.
@@ -198,7 +198,7 @@ number-back n h = go (eqb n 0) (ltb n 0x10000) (ltb n 0x20000) refl refl refl
 -- judging by number is judging
 pub judges : (j : Judge) (kind number : ℕ) → frame.passes j ≡ true
     → judgeCall (judgeNumber j) kind number
-    ≡ record { answer = verdictNumber (judgeOf j kind number .verdict); judge = judgeNumber (judgeOf j kind number .judge) }
+    ≡ record { answer = rulingNumber (judgeOf j kind number .ruling); judge = judgeNumber (judgeOf j kind number .judge) }
 unfolding judgeCall
 judges j kind number h = simp (lt-ltb (judgeNumber j) 0x30000 (judge-small j h), judge-back j h)
 

@@ -20,8 +20,8 @@ use Rattle.frame.specs.declared.Borders.{Borders}
 use Rattle.frame.specs.declared.Borders.the-variants.{Unsettled, On, Off}
 use Rattle.frame.specs.declared.Judge.{Judge}
 use Rattle.frame.specs.declared.Judge.the-variants as judge
-use Rattle.frame.specs.declared.Verdict.{Verdict}
-use Rattle.frame.specs.declared.Verdict.the-variants as verdict
+use Rattle.frame.specs.declared.Ruling.{Ruling}
+use Rattle.frame.specs.declared.Ruling.the-variants as ruling
 use Rattle.frame.specs.Frame.{judgeOf}
 use Rattle.fluturenc.specs.State.{stateLength, bitOf, stored, holdsReader, readerIn}
 
@@ -103,11 +103,11 @@ bordersNumbered n = cond (ltb n 0x10000) Unsettled (cond (ltb n 0x20000) On Off)
 unfoldable pub judgeNumbered : ℕ → Judge
 judgeNumbered n = cond (eqb n 0) judge.Waiting (judge.Due (n % 0x10000) (bordersNumbered n))
 
-abbrev pub verdictNumber : Verdict → ℕ
-verdictNumber verdict.Waiting = 0
-verdictNumber verdict.Going = 1
-verdictNumber verdict.Complete = 2
-verdictNumber (verdict.Refused n) = n
+abbrev pub rulingNumber : Ruling → ℕ
+rulingNumber ruling.Waiting = 0
+rulingNumber ruling.Going = 1
+rulingNumber ruling.Complete = 2
+rulingNumber (ruling.Refused n) = n
 
 pub record JudgeCalled : Type 0 where
   pub answer : ℕ
@@ -118,7 +118,7 @@ unfoldable pub judgeCall : ℕ → ℕ → ℕ → JudgeCalled
 judgeCall n kind number =
     cond (ltb n 0x30000)
     (record {
-      answer = verdictNumber (judgeOf (judgeNumbered n) kind number .verdict);
+      answer = rulingNumber (judgeOf (judgeNumbered n) kind number .ruling);
       judge = judgeNumber (judgeOf (judgeNumbered n) kind number .judge);
     })
     (record { answer = badState; judge = n })

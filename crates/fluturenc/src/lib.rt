@@ -27,11 +27,11 @@ ghost use lib.Seq.{paste};
 ghost use Rattle.profile.specs.Profile.{profileNumber};
 ghost use Rattle.writer.specs.Writer.{writeOf};
 ghost use Rattle.fluturenc.specs.State.{headLength, stateLength, markNumber, codeOf, markNumbered, profileOf, numberOf, bitOf, headBytes, headIn, tagged, holdsReader, readerIn, stored};
-ghost use Rattle.fluturenc.specs.Calls.{answerNumber, openCall, feedCall, finishCall, judgeNumber, judgeNumbered, verdictNumber, judgeCall};
+ghost use Rattle.fluturenc.specs.Calls.{answerNumber, openCall, feedCall, finishCall, judgeNumber, judgeNumbered, rulingNumber, judgeCall};
 ghost use Rattle.fluturenc.specs.Gives.{StateGives, FeedCallGives, WriteGives, JudgeGives};
 use frame::Borders;
 use frame::Judge;
-use frame::Verdict;
+use frame::Ruling;
 use lent_buffer::Filled;
 use line_code::Kind;
 use mark_answer::Kept;
@@ -156,8 +156,8 @@ pub extern "C" fn fluturenc_judge(judge: &mut u32, kind: u8, number: u16) -> u8
         let d = j.line(kind, number);
         let next = d.judge;
         *judge = judge_number(next);
-        let verdict = d.verdict;
-        return verdict_number(verdict);
+        let ruling = d.ruling;
+        return ruling_number(ruling);
     }
     refusal::BAD_STATE
 }
@@ -430,13 +430,13 @@ fn judge_number(judge: Judge) -> u32
     }
 }
 
-fn verdict_number(verdict: Verdict) -> u8
-    ensures { λ r. ⌜ r ≡ verdictNumber verdict ⌝ }
+fn ruling_number(ruling: Ruling) -> u8
+    ensures { λ r. ⌜ r ≡ rulingNumber ruling ⌝ }
 {
-    match verdict {
-        Verdict::Waiting => 0,
-        Verdict::Going => 1,
-        Verdict::Complete => 2,
-        Verdict::Refused(n) => n,
+    match ruling {
+        Ruling::Waiting => 0,
+        Ruling::Going => 1,
+        Ruling::Complete => 2,
+        Ruling::Refused(n) => n,
     }
 }

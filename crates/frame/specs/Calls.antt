@@ -11,8 +11,8 @@ use Rattle.line_code.specs.LineCode.{kindNumber}
 use Rattle.line_number.specs.LineNumber.{greatest}
 use Rattle.frame.specs.declared.Borders.{Borders}
 use Rattle.frame.specs.declared.Judge.{Judge}
-use Rattle.frame.specs.declared.Verdict.{Verdict}
-use Rattle.frame.specs.declared.Verdict.the-variants as verdict
+use Rattle.frame.specs.declared.Ruling.{Ruling}
+use Rattle.frame.specs.declared.Ruling.the-variants as ruling
 use Rattle.frame.specs.declared.Judged.{Judged}
 use Rattle.frame.specs.Frame.{layout, lastPlace, standsAt, numberDue, judgeOf}
 
@@ -33,19 +33,19 @@ abbrev pub after : Judge → List Line → Judge
 after j [] = j
 after j (l ∷ ls) = after (called j l .judge) ls
 
-abbrev pub verdicts : Judge → List Line → List Verdict
-verdicts j [] = []
-verdicts j (l ∷ ls) = called j l .verdict ∷ verdicts (called j l .judge) ls
+abbrev pub rulings : Judge → List Line → List Ruling
+rulings j [] = []
+rulings j (l ∷ ls) = called j l .ruling ∷ rulings (called j l .judge) ls
 
 -- an accepted line is one that is not refused 13 or 14: those change nothing (and 11 comes from no judge that calls reach)
-abbrev pub accepts : Verdict → Bool
-accepts verdict.Waiting = true
-accepts verdict.Going = true
-accepts verdict.Complete = true
-accepts (verdict.Refused r) = not (eqb r badKind || eqb r numberTooLarge)
+abbrev pub accepts : Ruling → Bool
+accepts ruling.Waiting = true
+accepts ruling.Going = true
+accepts ruling.Complete = true
+accepts (ruling.Refused r) = not (eqb r badKind || eqb r numberTooLarge)
 
 abbrev pub acceptedOne : Judge → Line → List Line
-acceptedOne j l = cond (accepts (called j l .verdict)) (l ∷ []) []
+acceptedOne j l = cond (accepts (called j l .ruling)) (l ∷ []) []
 
 abbrev pub accepted : Judge → List Line → List Line
 accepted j [] = []

@@ -13,8 +13,8 @@ use Rattle.frame.specs.declared.Borders.{Borders}
 use Rattle.frame.specs.declared.Borders.the-variants.{Unsettled, On, Off}
 use Rattle.frame.specs.declared.Judge.{Judge}
 use Rattle.frame.specs.declared.Judge.the-variants.{Waiting, Due}
-use Rattle.frame.specs.declared.Verdict.{Verdict}
-use Rattle.frame.specs.declared.Verdict.the-variants as verdict
+use Rattle.frame.specs.declared.Ruling.{Ruling}
+use Rattle.frame.specs.declared.Ruling.the-variants as ruling
 use Rattle.frame.specs.declared.Judged.{Judged}
 
 -- The layout.
@@ -96,19 +96,19 @@ pub data Said : Type 0 where
   whole-frame : Said
   refused : ℕ → Said
 
--- the program's verdict that says this
-abbrev pub verdictFor : Said → Verdict
-verdictFor still-waiting = verdict.Waiting
-verdictFor on-going = verdict.Going
-verdictFor whole-frame = verdict.Complete
-verdictFor (refused n) = verdict.Refused n
+-- the program's ruling that says this
+abbrev pub rulingFor : Said → Ruling
+rulingFor still-waiting = ruling.Waiting
+rulingFor on-going = ruling.Going
+rulingFor whole-frame = ruling.Complete
+rulingFor (refused n) = ruling.Refused n
 
 -- a judge after a call, and what it answered
-abbrev pub gives : Judge → Verdict → Judged
-gives j v = record { judge = j; verdict = v }
+abbrev pub gives : Judge → Ruling → Judged
+gives j v = record { judge = j; ruling = v }
 
 abbrev pub refuses : Judge → ℕ → Judged
-refuses j n = gives j (verdictFor (refused n))
+refuses j n = gives j (rulingFor (refused n))
 
 -- a frame opens with an SOF numbered 0
 abbrev pub opens : ℕ → ℕ → Bool
@@ -124,12 +124,12 @@ brokenKind = 0
 
 -- a broken line
 abbrev pub broken : Judge → Judged
-broken Waiting = gives Waiting (verdictFor still-waiting)
+broken Waiting = gives Waiting (rulingFor still-waiting)
 broken (Due place b) = refuses Waiting brokenLine
 
 -- a line that is due: Going, or Complete at the last place, then waiting
 abbrev pub onward : ℕ → Borders → ℕ → Judged
-onward place b k = cond (ltb place lastPlace) (gives (Due (place + 1) (settled b place k)) (verdictFor on-going)) (gives Waiting (verdictFor whole-frame))
+onward place b k = cond (ltb place lastPlace) (gives (Due (place + 1) (settled b place k)) (rulingFor on-going)) (gives Waiting (rulingFor whole-frame))
 
 -- a line that is not due: 18, then waiting; but an SOF numbered 0 opens a new frame at once
 abbrev pub astray : ℕ → ℕ → Judged
@@ -137,7 +137,7 @@ astray k n = cond (opens k n) (refuses begun notTheLineDue) (refuses Waiting not
 
 -- a whole line of a kind and number
 abbrev pub whole : Judge → ℕ → ℕ → Judged
-whole Waiting k n = cond (opens k n) (gives begun (verdictFor on-going)) (gives Waiting (verdictFor still-waiting))
+whole Waiting k n = cond (opens k n) (gives begun (rulingFor on-going)) (gives Waiting (rulingFor still-waiting))
 whole (Due place b) k n = cond (lineDue b place k n) (onward place b k) (astray k n)
 
 -- one call: 11, 13, 14, which change nothing; a broken line (kind 0), whose number isn't looked at; or a whole line

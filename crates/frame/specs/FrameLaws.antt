@@ -18,11 +18,11 @@ use Rattle.frame.specs.declared.Borders.{Borders}
 use Rattle.frame.specs.declared.Borders.the-variants.{Unsettled, On, Off}
 use Rattle.frame.specs.declared.Judge.{Judge}
 use Rattle.frame.specs.declared.Judge.the-variants.{Waiting, Due}
-use Rattle.frame.specs.declared.Verdict.{Verdict}
-use Rattle.frame.specs.declared.Verdict.the-variants as verdict
+use Rattle.frame.specs.declared.Ruling.{Ruling}
+use Rattle.frame.specs.declared.Ruling.the-variants as ruling
 use Rattle.frame.specs.declared.Judged.{Judged}
 use Rattle.frame.specs.Frame.{layout, lastPlace, endPlace, settlingPlace, kindAt, standsAt, kindDue, numberDue, lineDue, settled, within, passes, gives, refuses, opens, begun, brokenKind, broken, astray, whole, judgeOf}
-use Rattle.frame.specs.Calls.{Line, line, called, after, verdicts, accepts, acceptedOne, accepted, fits, laidFrom, FirstLines, IsFrame, numberedFrom, frameLines}
+use Rattle.frame.specs.Calls.{Line, line, called, after, rulings, accepts, acceptedOne, accepted, fits, laidFrom, FirstLines, IsFrame, numberedFrom, frameLines}
 use Rattle.bits.specs.Agree.{agree}
 
 -- The layout.
@@ -197,7 +197,7 @@ abbrev Answers : Borders → ℕ → Judged → Type 0
 Answers b place r = answered b place ≡ byNumber b place r
 
 abbrev goesOn : Borders → ℕ → Judged
-goesOn b place = gives (judgeAt b (suc place)) verdict.Going
+goesOn b place = gives (judgeAt b (suc place)) ruling.Going
 
 answers-going : (b : Borders) (n : ℕ) → n < lastPlace - 1 → Answers b (suc n) (goesOn b (suc n))
 unfolding kindAt judgeOf
@@ -205,7 +205,7 @@ answers-going Unsettled = agree (λ (n : ℕ). answered Unsettled (suc n)) (λ (
 answers-going On = agree (λ (n : ℕ). answered On (suc n)) (λ (n : ℕ). byNumber On (suc n) (goesOn On (suc n))) (lastPlace - 1) refl
 answers-going Off = agree (λ (n : ℕ). answered Off (suc n)) (λ (n : ℕ). byNumber Off (suc n) (goesOn Off (suc n))) (lastPlace - 1) refl
 
-answers-last : (b : Borders) → Answers b lastPlace (gives Waiting verdict.Complete)
+answers-last : (b : Borders) → Answers b lastPlace (gives Waiting ruling.Complete)
 unfolding kindAt judgeOf
 answers-last Unsettled = refl
 answers-last On = refl
@@ -221,42 +221,42 @@ fitting b place l r h a =
     ∙ ap₂ (λ (s t : Bool). cond s (cond t r (astray (kindNumber (kindAt b place)) (l .number))) (refuses (judgeAt b place) numberTooLarge)) g n
 
 from-call : (j : Judge) (l : Line) (r : Judged) (ls : List Line) → called j l ≡ r
-    → (verdicts j (l ∷ ls) ≡ r .verdict ∷ verdicts (r .judge) ls) × (after j (l ∷ ls) ≡ after (r .judge) ls)
-from-call j l r ls e = (ap (λ (x : Judged). x .verdict ∷ verdicts (x .judge) ls) e, ap (λ (x : Judged). after (x .judge) ls) e)
+    → (rulings j (l ∷ ls) ≡ r .ruling ∷ rulings (r .judge) ls) × (after j (l ∷ ls) ≡ after (r .judge) ls)
+from-call j l r ls e = (ap (λ (x : Judged). x .ruling ∷ rulings (x .judge) ls) e, ap (λ (x : Judged). after (x .judge) ls) e)
 
 -- so many lines are Going, the last one Complete
-abbrev pub toComplete : ℕ → List Verdict
-toComplete n = replicate n verdict.Going ++ (verdict.Complete ∷ [])
+abbrev pub toComplete : ℕ → List Ruling
+toComplete n = replicate n ruling.Going ++ (ruling.Complete ∷ [])
 
 rest-complete : (b : Borders) (n : ℕ) (l : Line) (ls : List Line) → suc n + length ls ≡ lastPlace → laidFrom b (suc n) (l ∷ ls) ≡ true
-    → (verdicts (judgeAt b (suc n)) (l ∷ ls) ≡ toComplete (length ls)) × (after (judgeAt b (suc n)) (l ∷ ls) ≡ Waiting)
+    → (rulings (judgeAt b (suc n)) (l ∷ ls) ≡ toComplete (length ls)) × (after (judgeAt b (suc n)) (l ∷ ls) ≡ Waiting)
 rest-complete b n l [] e h =
-    let a : Answers b (suc n) (gives Waiting verdict.Complete) = subst (λ (p : ℕ). Answers b p (gives Waiting verdict.Complete)) (omega arith) (answers-last b) in
-    from-call (judgeAt b (suc n)) l (gives Waiting verdict.Complete) [] (fitting b (suc n) l (gives Waiting verdict.Complete) (and-left _ _ h) a)
+    let a : Answers b (suc n) (gives Waiting ruling.Complete) = subst (λ (p : ℕ). Answers b p (gives Waiting ruling.Complete)) (omega arith) (answers-last b) in
+    from-call (judgeAt b (suc n)) l (gives Waiting ruling.Complete) [] (fitting b (suc n) l (gives Waiting ruling.Complete) (and-left _ _ h) a)
 rest-complete b n l (m ∷ ls) e h =
     let f = from-call (judgeAt b (suc n)) l (goesOn b (suc n)) (m ∷ ls) (fitting b (suc n) l (goesOn b (suc n)) (and-left _ _ h) (answers-going b n (omega arith))) in
     let r = rest-complete b (suc n) m ls (omega arith) (and-right (fits b (suc n) l) _ h) in
-    (f .0 ∙ ap (λ (vs : List Verdict). verdict.Going ∷ vs) (r .0), f .1 ∙ r .1)
+    (f .0 ∙ ap (λ (vs : List Ruling). ruling.Going ∷ vs) (r .0), f .1 ∙ r .1)
 
 -- the lines are answered v, then Going up to the last, which is Complete; then the judge waits
-abbrev pub Completes : Judge → Verdict → List Line → Type 0
-Completes j v ls = (verdicts j ls ≡ v ∷ toComplete (lastPlace - 1)) × (after j ls ≡ Waiting)
+abbrev pub Completes : Judge → Ruling → List Line → Type 0
+Completes j v ls = (rulings j ls ≡ v ∷ toComplete (lastPlace - 1)) × (after j ls ≡ Waiting)
 
 -- a whole frame is Complete wherever the judge is: in another frame its first line is refused, and opens it
-pub frame-complete-anywhere : (j : Judge) → passes j ≡ true → (b : Borders) (ls : List Line) → IsFrame b ls → Completes j (called j (line (kindNumber SOF) 0) .verdict) ls
+pub frame-complete-anywhere : (j : Judge) → passes j ≡ true → (b : Borders) (ls : List Line) → IsFrame b ls → Completes j (called j (line (kindNumber SOF) 0) .ruling) ls
 frame-complete-anywhere j h b [] f = absurd (let e = f .0 in omega arith)
 frame-complete-anywhere j h b (l ∷ []) f = absurd (let e = f .0 in omega arith)
 frame-complete-anywhere j h b (l ∷ m ∷ ls) f =
     let s : Line = line (kindNumber SOF) 0 in
-    let v : Verdict = called j s .verdict in
+    let v : Ruling = called j s .ruling in
     let e : length ls ≡ lastPlace - 1 = (let e = f .0 in omega arith) in
     let c = from-call j s (gives begun v) (m ∷ ls) (ap (λ (x : Judge). gives x v) (opened j h)) in
     let r = rest-complete b 0 m ls (omega arith) (and-right (fits b 0 l) _ (f .1)) in
     subst (λ (x : Line). Completes j v (x ∷ m ∷ ls)) (sym (first-is b l (and-left _ _ (f .1))))
-    (c .0 ∙ ap (λ (vs : List Verdict). v ∷ vs) (r .0 ∙ ap toComplete e), c .1 ∙ r .1)
+    (c .0 ∙ ap (λ (vs : List Ruling). v ∷ vs) (r .0 ∙ ap toComplete e), c .1 ∙ r .1)
 
 -- from a waiting judge: Going 303 times, then Complete
-pub frame-complete : (b : Borders) (ls : List Line) → IsFrame b ls → (verdicts Waiting ls ≡ toComplete lastPlace) × (after Waiting ls ≡ Waiting)
+pub frame-complete : (b : Borders) (ls : List Line) → IsFrame b ls → (rulings Waiting ls ≡ toComplete lastPlace) × (after Waiting ls ≡ Waiting)
 unfolding judgeOf
 frame-complete b ls f = frame-complete-anywhere Waiting refl b ls f
 
@@ -271,14 +271,14 @@ IsDue b place l = (lineDue b place (l .kind) (l .number) ≡ true) × (leb (l .n
 pub data Effect (j : Judge) (l : Line) : Judged → Type 0 where
   wrongKind : Effect j l (refuses j badKind)
   wrongNumber : Effect j l (refuses j numberTooLarge)
-  waits : Effect j l (gives Waiting verdict.Waiting)
+  waits : Effect j l (gives Waiting ruling.Waiting)
   breaks : Effect j l (refuses Waiting brokenLine)
   strays : Effect j l (refuses Waiting notTheLineDue)
-  starts : j ≡ Waiting → opens (l .kind) (l .number) ≡ true → Effect j l (gives begun verdict.Going)
+  starts : j ≡ Waiting → opens (l .kind) (l .number) ≡ true → Effect j l (gives begun ruling.Going)
   restarts : opens (l .kind) (l .number) ≡ true → Effect j l (refuses begun notTheLineDue)
   goes : (place : ℕ) (b : Borders) → j ≡ Due place b → IsDue b place l → place < lastPlace
-      → Effect j l (gives (Due (place + 1) (settled b place (l .kind))) verdict.Going)
-  ends : (place : ℕ) (b : Borders) → j ≡ Due place b → IsDue b place l → lastPlace ≤ place → Effect j l (gives Waiting verdict.Complete)
+      → Effect j l (gives (Due (place + 1) (settled b place (l .kind))) ruling.Going)
+  ends : (place : ℕ) (b : Borders) → j ≡ Due place b → IsDue b place l → lastPlace ≤ place → Effect j l (gives Waiting ruling.Complete)
 
 pick : {j : Judge} {l : Line} {x y : Judged} (t : Bool) → (t ≡ true → Effect j l x) → (t ≡ false → Effect j l y) → Effect j l (cond t x y)
 pick true f g = f refl
@@ -306,10 +306,10 @@ effect j l h =
     (λ p. absurd (true≢false (sym h ∙ p)))
 
 -- a call that is not accepted changes nothing
-pub unaccepted : (j : Judge) (l : Line) → passes j ≡ true → accepts (called j l .verdict) ≡ false → called j l .judge ≡ j
+pub unaccepted : (j : Judge) (l : Line) → passes j ≡ true → accepts (called j l .ruling) ≡ false → called j l .judge ≡ j
 unaccepted j l h = by (called j l) (effect j l h)
   where
-    by : (r : Judged) → Effect j l r → accepts (r .verdict) ≡ false → r .judge ≡ j
+    by : (r : Judged) → Effect j l r → accepts (r .ruling) ≡ false → r .judge ≡ j
     by _ wrongKind e = refl
     by _ wrongNumber e = refl
     by _ waits e = absurd (true≢false e)
@@ -427,7 +427,7 @@ traced-first : (past : List Line) (l : Line) → opens (l .kind) (l .number) ≡
 unfolding kindAt
 traced-first past l o = (past, l ∷ [], refl, (refl, subst (λ (x : Line). laidFrom Unsettled 0 (x ∷ []) ≡ true) (sym (opens-is l o)) refl))
 
-traced-effect : (past : List Line) (j : Judge) (l : Line) (r : Judged) → Effect j l r → passes j ≡ true → Traced past j → Traced (past ++ cond (accepts (r .verdict)) (l ∷ []) []) (r .judge)
+traced-effect : (past : List Line) (j : Judge) (l : Line) (r : Judged) → Effect j l r → passes j ≡ true → Traced past j → Traced (past ++ cond (accepts (r .ruling)) (l ∷ []) []) (r .judge)
 traced-effect past j l _ wrongKind h t = simp append-nil t
 traced-effect past j l _ wrongNumber h t = simp append-nil t
 traced-effect past j l _ waits h t = tt
@@ -446,14 +446,14 @@ traced past j (l ∷ ls) h t =
     simp (← append-assoc)
     (traced (past ++ acceptedOne j l) (called j l .judge) ls (passes-effect j l (called j l) e h) (traced-effect past j l (called j l) e h t))
 
-abbrev complete : Verdict → Bool
-complete verdict.Waiting = false
-complete verdict.Going = false
-complete verdict.Complete = true
-complete (verdict.Refused r) = false
+abbrev complete : Ruling → Bool
+complete ruling.Waiting = false
+complete ruling.Going = false
+complete ruling.Complete = true
+complete (ruling.Refused r) = false
 
 -- only a line that is due at the last place is answered Complete
-ends-only : (j : Judge) (l : Line) (r : Judged) → Effect j l r → r .verdict ≡ verdict.Complete
+ends-only : (j : Judge) (l : Line) (r : Judged) → Effect j l r → r .ruling ≡ ruling.Complete
     → (place : ℕ) × (b : Borders) × (j ≡ Due place b) × (IsDue b place l) × (lastPlace ≤ place)
 ends-only j l _ wrongKind e = absurd (true≢false (sym (ap complete e)))
 ends-only j l _ wrongNumber e = absurd (true≢false (sym (ap complete e)))
@@ -472,7 +472,7 @@ traced-whole ls past place b a e (earlier, frame, t, f) = (b, earlier, frame, a 
 
 -- if a call is answered Complete, the accepted lines up to it end in exactly the 304 lines of a frame, borders on (Unsettled has the same) or
 -- off: no damaged frame is Complete
-pub complete-frame : (ls : List Line) (l : Line) → called (after Waiting ls) l .verdict ≡ verdict.Complete
+pub complete-frame : (ls : List Line) (l : Line) → called (after Waiting ls) l .ruling ≡ ruling.Complete
     → (b : Borders) × (earlier : List Line) × (frame : List Line) × (accepted Waiting (ls ++ (l ∷ [])) ≡ earlier ++ frame) × IsFrame b frame
 complete-frame ls l v =
     let j : Judge = after Waiting ls in
@@ -482,4 +482,4 @@ complete-frame ls l v =
     let q : passes (Due (f .0) (f .1)) ≡ true = subst (λ (s : Judge). passes s ≡ true) (f .2) p in
     let t = longer past (f .0) (f .1) l q (f .3) (subst (λ (s : Judge). Traced past s) (f .2) (traced [] Waiting ls refl tt)) in
     traced-whole (accepted Waiting (ls ++ (l ∷ []))) (past ++ (l ∷ [])) (f .0) (settled (f .1) (f .0) (l .kind))
-    (accepted-snoc Waiting ls l ∙ ap (λ (a : Verdict). past ++ cond (accepts a) (l ∷ []) []) v) (omega (arith, passes-high (f .0) (f .1) q)) t
+    (accepted-snoc Waiting ls l ∙ ap (λ (a : Ruling). past ++ cond (accepts a) (l ∷ []) []) v) (omega (arith, passes-high (f .0) (f .1) q)) t

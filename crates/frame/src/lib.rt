@@ -23,7 +23,7 @@ pub enum Judge {
 }
 
 // What the judge answers.
-pub enum Verdict {
+pub enum Ruling {
     Waiting,
     Going,
     Complete,
@@ -33,7 +33,7 @@ pub enum Verdict {
 // A judge after a call, and its answer.
 pub struct Judged {
     pub judge: Judge,
-    pub verdict: Verdict,
+    pub ruling: Ruling,
 }
 
 impl Judge {
@@ -87,7 +87,7 @@ impl Judge {
         match self {
             Judge::Waiting => Judged {
                 judge: self,
-                verdict: Verdict::Waiting,
+                ruling: Ruling::Waiting,
             },
             Judge::Due(_, _) => refused(Judge::Waiting, refusal::BROKEN_LINE),
         }
@@ -221,12 +221,12 @@ impl Borders {
             let borders = self.settled(place, kind);
             return Judged {
                 judge: Judge::Due(place + 1, borders),
-                verdict: Verdict::Going,
+                ruling: Ruling::Going,
             };
         }
         Judged {
             judge: Judge::Waiting,
-            verdict: Verdict::Complete,
+            ruling: Ruling::Complete,
         }
     }
 }
@@ -270,12 +270,12 @@ fn first(kind: u8, number: u16) -> Judged
     if opens(kind, number) {
         return Judged {
             judge: Judge::Due(FIRST_BLACK, Borders::Unsettled),
-            verdict: Verdict::Going,
+            ruling: Ruling::Going,
         };
     }
     Judged {
         judge: Judge::Waiting,
-        verdict: Verdict::Waiting,
+        ruling: Ruling::Waiting,
     }
 }
 
@@ -297,7 +297,7 @@ fn refused(judge: Judge, refusal: u8) -> Judged
 {
     Judged {
         judge,
-        verdict: Verdict::Refused(refusal),
+        ruling: Ruling::Refused(refusal),
     }
 }
 

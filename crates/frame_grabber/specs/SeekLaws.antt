@@ -21,8 +21,8 @@ use Rattle.reader.specs.Reader.{Took, groupNumber, isMark, slide, leaveKept, le
 use Rattle.reader_laws.specs.ByRuns.{took}
 use Rattle.reader_laws.specs.Passes.{Feeding, feed-state, feed-nibble, feed-room, feed-taken, feeding}
 use Rattle.frame.specs.declared.Judge.{Judge}
-use Rattle.frame.specs.declared.Verdict.{Verdict}
-use Rattle.frame.specs.declared.Verdict.the-variants as verdict
+use Rattle.frame.specs.declared.Ruling.{Ruling}
+use Rattle.frame.specs.declared.Ruling.the-variants as ruling
 use Rattle.frame.specs.Calls.{called}
 use Rattle.tally.specs.Tally.{breaksFrame, isBrokenLine}
 use Rattle.tally.specs.Answered.{handedOver}
@@ -188,20 +188,20 @@ either-sized false x y h g = g
 
 handed-sized : (g : Gatherer) (l : Shown) (held : List ℕ) → Sized (rows.handed g l held .output)
 unfolding rows.handed rows.onward rows.keepRow rows.completed rows.refusedBy
-handed-sized g l held = by (called (g .judge) (l .given) .verdict)
+handed-sized g l held = by (called (g .judge) (l .given) .ruling)
   where
     j : Judge
     j = called (g .judge) (l .given) .judge
 
-    by : (v : Verdict) → Sized (rows.byVerdict g l held j v .output)
-    by verdict.Waiting = tt
-    by verdict.Going =
+    by : (v : Ruling) → Sized (rows.byRuling g l held j v .output)
+    by ruling.Waiting = tt
+    by ruling.Going =
         either-sized (isVisible (l .given .kind)) (rows.keepRow g j (l .body) held) (quiet (rows.moved g j (g .kept)) held)
         (λ _. either-sized (eqb (length (l .body)) longest && leb (g .kept + longest) (length held)) _ (rows.refuses g noRoom held) (λ _. tt) tt) tt
-    by verdict.Complete =
+    by ruling.Complete =
         either-sized (leb (g .kept) (length held)) (record { gatherer = rows.moved g j 0; output = complete (g .kept) (take (g .kept) held); buffer = held }) (rows.refuses g noRoom held)
         (λ e. length-take-le (g .kept) held (leb-true _ _ e)) tt
-    by (verdict.Refused n) = either-sized (breaksFrame n) (quiet (rows.moved g j 0) held) (rows.refuses g n held) (λ _. tt) tt
+    by (ruling.Refused n) = either-sized (breaksFrame n) (quiet (rows.moved g j 0) held) (rows.refuses g n held) (λ _. tt) tt
 
 call-sized : (x : rows.Outcome) (a : Given) → Sized (call x a .output)
 call-sized x a = by (shown (handedOver (a .answer)) (a .held)) (call x a) (hands x a)

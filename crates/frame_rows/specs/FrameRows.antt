@@ -13,8 +13,8 @@ use Rattle.stream.specs.declared.Answer.{Answer}
 use Rattle.stream.specs.declared.Answer.the-variants as answer
 use Rattle.frame.specs.declared.Judge.{Judge}
 use Rattle.frame.specs.declared.Judge.the-variants.{Waiting}
-use Rattle.frame.specs.declared.Verdict.{Verdict}
-use Rattle.frame.specs.declared.Verdict.the-variants as verdict
+use Rattle.frame.specs.declared.Ruling.{Ruling}
+use Rattle.frame.specs.declared.Ruling.the-variants as ruling
 use Rattle.frame.specs.Frame.{brokenKind}
 use Rattle.frame.specs.Calls.{Line, line, called}
 use Rattle.tally.specs.Tally.{breaksFrame, isBrokenLine}
@@ -120,14 +120,14 @@ completed s j buffer =
 unfoldable pub refusedBy : Gatherer → Judge → ℕ → List ℕ → Outcome
 refusedBy s j n buffer = cond (breaksFrame n) (quiet (moved s j 0) buffer) (refuses s n buffer)
 
-abbrev pub byVerdict : Gatherer → Shown → List ℕ → Judge → Verdict → Outcome
-byVerdict s l buffer j verdict.Waiting = quiet (moved s j 0) buffer
-byVerdict s l buffer j verdict.Going = onward s j (l .given .kind) (l .body) buffer
-byVerdict s l buffer j verdict.Complete = completed s j buffer
-byVerdict s l buffer j (verdict.Refused n) = refusedBy s j n buffer
+abbrev pub byRuling : Gatherer → Shown → List ℕ → Judge → Ruling → Outcome
+byRuling s l buffer j ruling.Waiting = quiet (moved s j 0) buffer
+byRuling s l buffer j ruling.Going = onward s j (l .given .kind) (l .body) buffer
+byRuling s l buffer j ruling.Complete = completed s j buffer
+byRuling s l buffer j (ruling.Refused n) = refusedBy s j n buffer
 
 unfoldable pub handed : Gatherer → Shown → List ℕ → Outcome
-handed s l buffer = byVerdict s l buffer (called (s .judge) (l .given) .judge) (called (s .judge) (l .given) .verdict)
+handed s l buffer = byRuling s l buffer (called (s .judge) (l .given) .judge) (called (s .judge) (l .given) .ruling)
 
 -- An answer.
 

@@ -23,7 +23,7 @@ use Rattle.frame.specs.declared.Borders.the-variants.{Unsettled, On, Off}
 use Rattle.frame.specs.declared.Judge.{Judge}
 use Rattle.frame.specs.declared.Judge.the-variants.{Waiting, Due}
 use Rattle.frame.specs.declared.Judged.{Judged}
-use Rattle.frame.specs.declared.Verdict.the-variants as verdict
+use Rattle.frame.specs.declared.Ruling.the-variants as ruling
 use Rattle.frame.specs.Frame.{layout, lastPlace, kindAt, standsAt, kindDue, opens, begun, brokenKind, passes, gives}
 use Rattle.frame.specs.Calls.{Line, line, called, after, accepts, accepted, fits, laidFrom, IsFrame}
 use Rattle.bits.specs.Agree.{agree}
@@ -36,7 +36,7 @@ use Rattle.pgm.specs.Pgm.{size}
 use Rattle.frame_rows.specs.declared.Order.{Order}
 use Rattle.frame_rows.specs.declared.Order.the-variants.{AsSent, OddFirst}
 use Rattle.frame_rows.specs.declared.Gatherer.{Gatherer}
-use Rattle.frame_rows.specs.FrameRows.{Shown, pixelsOf, isVisible, rowOf, rowsOf, Output, nothing, complete, refused, Outcome, moved, quiet, refuses, keepRow, onward, completed, refusedBy, byVerdict, handed, shownAs, takeOf}
+use Rattle.frame_rows.specs.FrameRows.{Shown, pixelsOf, isVisible, rowOf, rowsOf, Output, nothing, complete, refused, Outcome, moved, quiet, refuses, keepRow, onward, completed, refusedBy, byRuling, handed, shownAs, takeOf}
 use Rattle.frame_rows.specs.Gathering.{Given, call, calls, start, unlessRefused, shown, taken, linesOf, pictureOf, Completes, Every, Whole}
 
 -- Lists of lines.
@@ -225,7 +225,7 @@ still o ls x out e h =
 
 module _ (o : Order) (ls : List Shown) (x : Outcome) (h : Holds o ls x) (l : Shown) where
   -- a line that the judge hears
-  heard-line : (r : Judged) → called (x .gatherer .judge) (l .given) ≡ r → accepts (r .verdict) ≡ true
+  heard-line : (r : Judged) → called (x .gatherer .judge) (l .given) ≡ r → accepts (r .ruling) ≡ true
       → (after Waiting (linesOf (ls ++ (l ∷ []))) ≡ r .judge) × (accepted Waiting (linesOf (ls ++ (l ∷ []))) ≡ linesOf (ls ++ (l ∷ [])))
   heard-line r e a =
       let s : linesOf (ls ++ (l ∷ [])) ≡ linesOf ls ++ (l .given ∷ []) = lines-append ls (l ∷ []) in
@@ -233,14 +233,14 @@ module _ (o : Order) (ls : List Shown) (x : Outcome) (h : Holds o ls x) (l : Sho
         ap (after Waiting) s ∙ after-snoc Waiting (linesOf ls) (l .given) ∙ ap (λ (t : Judged). t .judge) c,
         ap (accepted Waiting) s
             ∙ accepted-snoc Waiting (linesOf ls) (l .given)
-            ∙ ap (λ (t : Judged). accepted Waiting (linesOf ls) ++ cond (accepts (t .verdict)) (l .given ∷ []) []) c
+            ∙ ap (λ (t : Judged). accepted Waiting (linesOf ls) ++ cond (accepts (t .ruling)) (l .given ∷ []) []) c
             ∙ ap (λ (t : Bool). accepted Waiting (linesOf ls) ++ cond t (l .given ∷ []) []) a
             ∙ ap (λ (t : List Line). t ++ (l .given ∷ [])) (h .heard)
             ∙ sym s,
       )
 
   -- it leaves this judge, these bytes of rows and this buffer, and nothing is said of rows
-  takes : (r : Judged) (kept : ℕ) (buffer : List ℕ) → called (x .gatherer .judge) (l .given) ≡ r → accepts (r .verdict) ≡ true
+  takes : (r : Judged) (kept : ℕ) (buffer : List ℕ) → called (x .gatherer .judge) (l .given) ≡ r → accepts (r .ruling) ≡ true
       → Rows o (ls ++ (l ∷ [])) (r .judge) kept buffer → Holds o (ls ++ (l ∷ [])) (quiet (moved (x .gatherer) (r .judge) kept) buffer)
   takes r kept buffer e a rows =
       record {
@@ -289,21 +289,21 @@ module _ (o : Order) (ls : List Shown) (x : Outcome) (h : Holds o ls x) (l : Sho
   kept-rows place b q = subst (λ (j : Judge). Rows o ls j (x .gatherer .kept) (x .buffer)) q (h .rows)
 
   -- a line that breaks no frame is no SOF numbered 0
-  not-first-within : (place : ℕ) (b : Borders) (r : Judged) → x .gatherer .judge ≡ Due place b → called (x .gatherer .judge) (l .given) ≡ r → isBreak (r .verdict) ≡ false → isFirst l ≡ false
+  not-first-within : (place : ℕ) (b : Borders) (r : Judged) → x .gatherer .judge ≡ Due place b → called (x .gatherer .judge) (l .given) ≡ r → isBreak (r .ruling) ≡ false → isFirst l ≡ false
   not-first-within place b r q c e = by (isFirst l) refl
     where
       by : (t : Bool) → isFirst l ≡ t → isFirst l ≡ false
       by false f = f
       by true f =
           absurd (true≢false
-          (sym (ap (λ (t : Judged). isBreak (t .verdict)) (sof-within place b (sym (ap passes q) ∙ passing)))
-          ∙ sym (ap (λ (y : Line). isBreak (called (Due place b) y .verdict)) (opens-is (l .given) f))
-          ∙ sym (ap (λ (j : Judge). isBreak (called j (l .given) .verdict)) q)
-          ∙ ap (λ (t : Judged). isBreak (t .verdict)) c
+          (sym (ap (λ (t : Judged). isBreak (t .ruling)) (sof-within place b (sym (ap passes q) ∙ passing)))
+          ∙ sym (ap (λ (y : Line). isBreak (called (Due place b) y .ruling)) (opens-is (l .given) f))
+          ∙ sym (ap (λ (j : Judge). isBreak (called j (l .given) .ruling)) q)
+          ∙ ap (λ (t : Judged). isBreak (t .ruling)) c
           ∙ e))
 
   -- a line that was due, and not the last
-  going : (place p : ℕ) (b c : Borders) → x .gatherer .judge ≡ Due place b → called (x .gatherer .judge) (l .given) ≡ gives (Due p c) verdict.Going
+  going : (place p : ℕ) (b c : Borders) → x .gatherer .judge ≡ Due place b → called (x .gatherer .judge) (l .given) ≡ gives (Due p c) ruling.Going
       → let y : Outcome = onward (x .gatherer) (Due p c) (l .given .kind) (l .body) (x .buffer) in Holds o (ls ++ unlessRefused (y .output) (l ∷ [])) y
   unfolding onward keepRow
   going place p b c q e = by (isVisible (l .given .kind)) refl
@@ -315,7 +315,7 @@ module _ (o : Order) (ls : List Shown) (x : Outcome) (h : Holds o ls x) (l : Sho
       n = s .kept + longest
 
       r : Judged
-      r = gives (Due p c) verdict.Going
+      r = gives (Due p c) ruling.Going
 
       kept : Rows o ls (Due place b) (s .kept) (x .buffer)
       kept = kept-rows place b q
@@ -355,7 +355,7 @@ module _ (o : Order) (ls : List Shown) (x : Outcome) (h : Holds o ls x) (l : Sho
 
   -- a frame's last line
   ending : (place : ℕ) (b : Borders) → x .gatherer .judge ≡ Due place b → IsDue b place (l .given) → lastPlace ≤ place
-      → called (x .gatherer .judge) (l .given) ≡ gives Waiting verdict.Complete
+      → called (x .gatherer .judge) (l .given) ≡ gives Waiting ruling.Complete
       → let y : Outcome = completed (x .gatherer) Waiting (x .buffer) in Holds o (ls ++ unlessRefused (y .output) (l ∷ [])) y
   unfolding completed
   ending place b q d g e = by (leb (s .kept) (length (x .buffer))) refl
@@ -364,7 +364,7 @@ module _ (o : Order) (ls : List Shown) (x : Outcome) (h : Holds o ls x) (l : Sho
       s = x .gatherer
 
       r : Judged
-      r = gives Waiting verdict.Complete
+      r = gives Waiting ruling.Complete
 
       kept : Rows o ls (Due place b) (s .kept) (x .buffer)
       kept = kept-rows place b q
@@ -382,7 +382,7 @@ module _ (o : Order) (ls : List Shown) (x : Outcome) (h : Holds o ls x) (l : Sho
 
       done : Completes o (ls ++ (l ∷ [])) (s .kept) (take (s .kept) (x .buffer))
       done =
-          let c = complete-frame (linesOf ls) (l .given) (ap (λ (j : Judge). called j (l .given) .verdict) (h .judge) ∙ ap (λ (t : Judged). t .verdict) e) in
+          let c = complete-frame (linesOf ls) (l .given) (ap (λ (j : Judge). called j (l .given) .ruling) (h .judge) ∙ ap (λ (t : Judged). t .ruling) e) in
           let a : linesOf (ls ++ (l ∷ [])) ≡ c .1 ++ c .2 = sym (heard-line r e refl .1) ∙ ap (accepted Waiting) (lines-append ls (l ∷ [])) ∙ c .3 in
           let t = split (ls ++ (l ∷ [])) (c .1) (c .2) a in
           let f : IsFrame (c .0) (linesOf (t .back)) = subst (IsFrame (c .0)) (sym (t .back-lines)) (c .4) in
@@ -418,7 +418,7 @@ module _ (o : Order) (ls : List Shown) (x : Outcome) (h : Holds o ls x) (l : Sho
   holds-line = by (called (x .gatherer .judge) (l .given)) (effect (x .gatherer .judge) (l .given) passing) refl
     where
       by : (r : Judged) → Effect (x .gatherer .judge) (l .given) r → called (x .gatherer .judge) (l .given) ≡ r
-          → let y : Outcome = byVerdict (x .gatherer) l (x .buffer) (r .judge) (r .verdict) in Holds o (ls ++ unlessRefused (y .output) (l ∷ [])) y
+          → let y : Outcome = byRuling (x .gatherer) l (x .buffer) (r .judge) (r .ruling) in Holds o (ls ++ unlessRefused (y .output) (l ∷ [])) y
       by _ wrongKind e = still o ls x (refused badKind) refl h
       by _ wrongNumber e = still o ls x (refused numberTooLarge) refl h
       by _ waits e = takes _ 0 (x .buffer) e refl refl
@@ -426,7 +426,7 @@ module _ (o : Order) (ls : List Shown) (x : Outcome) (h : Holds o ls x) (l : Sho
       by _ strays e = takes _ 0 (x .buffer) e refl refl
       by _ (starts q f) e =
           let z : x .gatherer .kept ≡ 0 = subst (λ (j : Judge). Rows o ls j (x .gatherer .kept) (x .buffer)) q (h .rows) in
-          simp (first-unseen f, z) (takes (gives begun verdict.Going) 0 (x .buffer) e refl (rows-first f (x .buffer)))
+          simp (first-unseen f, z) (takes (gives begun ruling.Going) 0 (x .buffer) e refl (rows-first f (x .buffer)))
       by _ (restarts f) e = takes _ 0 (x .buffer) e refl (rows-first f (x .buffer))
       by _ (goes place b q d g) e = going place _ b _ q e
       by _ (ends place b q d g) e = ending place b q d g e

@@ -15,16 +15,16 @@ use Rattle.frame.specs.declared.Borders.the-variants.{Unsettled, On, Off}
 use Rattle.frame.specs.declared.Judge.{Judge}
 use Rattle.frame.specs.declared.Judge.the-variants.{Waiting, Due}
 use Rattle.frame.specs.declared.Judged.{Judged}
-use Rattle.frame.specs.declared.Verdict.{Verdict}
-use Rattle.frame.specs.declared.Verdict.the-variants as verdict
+use Rattle.frame.specs.declared.Ruling.{Ruling}
+use Rattle.frame.specs.declared.Ruling.the-variants as ruling
 use Rattle.frame.specs.Frame.{lastPlace, kindAt, begun, passes, judgeOf}
-use Rattle.frame.specs.Calls.{Line, line, called, verdicts, fits, laidFrom, IsFrame}
+use Rattle.frame.specs.Calls.{Line, line, called, rulings, fits, laidFrom, IsFrame}
 use Rattle.frame.specs.FrameLaws.{first-is, sof-within, reached-passes, toComplete, frame-complete}
 use Rattle.tally.specs.Answered.{handedOver}
 use Rattle.pgm.specs.Pgm.{size}
 use Rattle.frame_rows.specs.declared.Order.{Order}
 use Rattle.frame_rows.specs.declared.Gatherer.{Gatherer}
-use Rattle.frame_rows.specs.FrameRows.{Shown, pixelsOf, isVisible, rowOf, rowsOf, complete, Outcome, moved, quiet, keepRow, onward, completed, refusedBy, byVerdict, handed}
+use Rattle.frame_rows.specs.FrameRows.{Shown, pixelsOf, isVisible, rowOf, rowsOf, complete, Outcome, moved, quiet, keepRow, onward, completed, refusedBy, byRuling, handed}
 use Rattle.frame_rows.specs.Gathering.{Given, call, calls, start, shown, taken, linesOf, pictureOf, Every, shownAll, Whole}
 use Rattle.frame_rows.specs.FrameRowsLaws.{rows-append, pixels-length, frame-size, stands, every-snoc, put-rows, put-length, Rows, Holds, Hands, none, one, hands, holds-calls, holds-start}
 
@@ -40,9 +40,9 @@ brings x g l e = by (shown (handedOver (g .answer)) (g .held)) (call x g) (hands
 -- Lines that are due.
 
 module _ (s : Gatherer) (l : Shown) (buffer : List ℕ) where
-  judged : (v : Verdict) → called (s .judge) (l .given) .verdict ≡ v → handed s l buffer ≡ byVerdict s l buffer (called (s .judge) (l .given) .judge) v
+  judged : (v : Ruling) → called (s .judge) (l .given) .ruling ≡ v → handed s l buffer ≡ byRuling s l buffer (called (s .judge) (l .given) .judge) v
   unfolding handed
-  judged v e = ap (byVerdict s l buffer (called (s .judge) (l .given) .judge)) e
+  judged v e = ap (byRuling s l buffer (called (s .judge) (l .given) .judge)) e
 
   seen : (j : Judge) → isVisible (l .given .kind) ≡ true → length (l .body) ≡ longest → s .kept + longest ≤ length buffer
       → onward s j (l .given .kind) (l .body) buffer
@@ -54,20 +54,20 @@ module _ (s : Gatherer) (l : Shown) (buffer : List ℕ) where
   unfolding onward
   unseen j v = simp v
 
-  shows : called (s .judge) (l .given) .verdict ≡ verdict.Complete → s .kept ≤ length buffer → handed s l buffer .output ≡ complete (s .kept) (take (s .kept) buffer)
+  shows : called (s .judge) (l .given) .ruling ≡ ruling.Complete → s .kept ≤ length buffer → handed s l buffer .output ≡ complete (s .kept) (take (s .kept) buffer)
   unfolding completed
-  shows e g = ap (λ (y : Outcome). y .output) (judged verdict.Complete e) ∙ simp (le-leb _ _ g)
+  shows e g = ap (λ (y : Outcome). y .output) (judged ruling.Complete e) ∙ simp (le-leb _ _ g)
 
 -- The rest of a frame, up to its last line.
 
-going-on : (v : Verdict) (j : Judge) (ls : List Shown) (l : Shown) (m : ℕ) → v ∷ verdicts j (linesOf (ls ++ (l ∷ []))) ≡ toComplete m
-    → (v ≡ verdict.Going) × (k : ℕ) × (verdicts j (linesOf (ls ++ (l ∷ []))) ≡ toComplete k)
+going-on : (v : Ruling) (j : Judge) (ls : List Shown) (l : Shown) (m : ℕ) → v ∷ rulings j (linesOf (ls ++ (l ∷ []))) ≡ toComplete m
+    → (v ≡ ruling.Going) × (k : ℕ) × (rulings j (linesOf (ls ++ (l ∷ []))) ≡ toComplete k)
 going-on v j [] l zero e = absurd (let z : _≡_ {A = ℕ} 2 1 = ap length e in omega arith)
 going-on v j (a ∷ ls) l zero e =
-    absurd (let z : _≡_ {A = ℕ} (suc (suc (length (verdicts (called j (a .given) .judge) (linesOf (ls ++ (l ∷ []))))))) 1 = ap length e in omega arith)
+    absurd (let z : _≡_ {A = ℕ} (suc (suc (length (rulings (called j (a .given) .judge) (linesOf (ls ++ (l ∷ []))))))) 1 = ap length e in omega arith)
 going-on v j ls l (suc m) e = (head-eq-of-cons-eq e, m, tail-eq-of-cons-eq e)
 
-only : (v : Verdict) (m : ℕ) → v ∷ [] ≡ toComplete m → v ≡ verdict.Complete
+only : (v : Ruling) (m : ℕ) → v ∷ [] ≡ toComplete m → v ≡ ruling.Complete
 only v zero e = head-eq-of-cons-eq e
 only v (suc zero) e = absurd (let z : _≡_ {A = ℕ} 1 2 = ap length e in omega arith)
 only v (suc (suc m)) e = absurd (let z : _≡_ {A = ℕ} 1 (suc (suc (length (toComplete m)))) = ap length e in omega arith)
@@ -80,7 +80,7 @@ Said o ls x y = y .output ≡ complete (x .gatherer .kept + length (rowsOf o ls)
 record Ready (o : Order) (ls : List Shown) (l : Shown) (x : Outcome) : Type 0 where
   order : x .gatherer .order ≡ o
   count : ℕ
-  due : verdicts (x .gatherer .judge) (linesOf (ls ++ (l ∷ []))) ≡ toComplete count
+  due : rulings (x .gatherer .judge) (linesOf (ls ++ (l ∷ []))) ≡ toComplete count
   whole : Every Whole ls
   room : x .gatherer .kept + length (rowsOf o ls) ≤ length (x .buffer)
 
@@ -95,8 +95,8 @@ after-line o a ls l x f r rest = by (isVisible (a .given .kind)) refl
     j : Judge
     j = called (s .judge) (a .given) .judge
 
-    d : (called (s .judge) (a .given) .verdict ≡ verdict.Going) × (k : ℕ) × (verdicts j (linesOf (ls ++ (l ∷ []))) ≡ toComplete k)
-    d = going-on (called (s .judge) (a .given) .verdict) j ls l (r .count) (r .due)
+    d : (called (s .judge) (a .given) .ruling ≡ ruling.Going) × (k : ℕ) × (rulings j (linesOf (ls ++ (l ∷ []))) ≡ toComplete k)
+    d = going-on (called (s .judge) (a .given) .ruling) j ls l (r .count) (r .due)
 
     n : ℕ
     n = length (rowsOf o ls)
@@ -118,7 +118,7 @@ after-line o a ls l x f r rest = by (isVisible (a .given .kind)) refl
           whole = r .whole .1;
           room = omega (arith, r .room, lengths, ap length e, w, put-length (s .kept) longest (x .buffer) row w g);
         } in
-        ap (λ (z : Outcome). f z .output) (judged s a (x .buffer) verdict.Going (d .0) ∙ seen s a (x .buffer) j v (r .whole .0 v) g)
+        ap (λ (z : Outcome). f z .output) (judged s a (x .buffer) ruling.Going (d .0) ∙ seen s a (x .buffer) j v (r .whole .0 v) g)
         ∙ rest y q
         ∙ ap (λ (k : ℕ). complete k (take (s .kept + longest) (y .buffer) ++ rowsOf o ls)) (omega (arith, lengths, ap length e, w))
         ∙ ap (complete (s .kept + length (rowsOf o (a ∷ ls))))
@@ -135,7 +135,7 @@ after-line o a ls l x f r rest = by (isVisible (a .given .kind)) refl
           whole = r .whole .1;
           room = omega (arith, r .room, ap length e);
         } in
-        ap (λ (z : Outcome). f z .output) (judged s a (x .buffer) verdict.Going (d .0) ∙ unseen s a (x .buffer) j v)
+        ap (λ (z : Outcome). f z .output) (judged s a (x .buffer) ruling.Going (d .0) ∙ unseen s a (x .buffer) j v)
         ∙ rest y q
         ∙ ap (λ (t : List ℕ). complete (s .kept + length t) (take (s .kept) (x .buffer) ++ t)) (sym e)
 
@@ -143,7 +143,7 @@ rest-shown : (o : Order) (gs : List Given) (g : Given) (l : Shown) (x : Outcome)
     → Ready o (shownAll gs) l x → Said o (shownAll gs) x (calls x (gs ++ (g ∷ [])))
 rest-shown o [] g l x e r =
     ap (λ (y : Outcome). y .output) (brings x g l e)
-    ∙ shows (x .gatherer) l (x .buffer) (only (called (x .gatherer .judge) (l .given) .verdict) (r .count) (r .due)) (omega (arith, r .room))
+    ∙ shows (x .gatherer) l (x .buffer) (only (called (x .gatherer .judge) (l .given) .ruling) (r .count) (r .due)) (omega (arith, r .room))
     ∙ ap (λ (k : ℕ). complete k (take (x .gatherer .kept) (x .buffer))) (omega arith)
     ∙ ap (complete (x .gatherer .kept + 0)) (sym (append-nil (take (x .gatherer .kept) (x .buffer))))
 rest-shown o (a ∷ gs) g l x e r = by (shown (handedOver (a .answer)) (a .held)) (call x a) (hands x a) r (λ y. rest-shown o gs g l y e)
@@ -166,14 +166,14 @@ unfolding handed onward refusedBy judgeOf
 opened s l buffer p c e = by (s .judge) refl p
   where
     at : Judge → Line → Outcome
-    at j k = byVerdict s (record { given = k; body = l .body }) buffer (called j k .judge) (called j k .verdict)
+    at j k = byRuling s (record { given = k; body = l .body }) buffer (called j k .judge) (called j k .ruling)
 
     by : (j : Judge) → s .judge ≡ j → passes j ≡ true → handed s l buffer ≡ quiet (moved s begun 0) buffer
     by Waiting q h = ap (λ (j : Judge). at j (l .given)) q ∙ ap (at Waiting) e ∙ ap (λ (n : ℕ). quiet (moved s begun n) buffer) (c q)
     by (Due place b) q h =
         ap (λ (j : Judge). at j (l .given)) q
         ∙ ap (at (Due place b)) e
-        ∙ ap (λ (r : Judged). byVerdict s (record { given = line (kindNumber SOF) 0; body = l .body }) buffer (r .judge) (r .verdict)) (sof-within place b h)
+        ∙ ap (λ (r : Judged). byRuling s (record { given = line (kindNumber SOF) 0; body = l .body }) buffer (r .judge) (r .ruling)) (sof-within place b h)
 
 -- A whole frame.
 
@@ -215,8 +215,8 @@ first-line o b a ls l x f r rest =
     ∙ ap (λ (t : Bool). rowsOf o ls ++ (cond t (pixelsOf o (l .body)) [] ++ [])) u
     ∙ append-nil (rowsOf o ls) in
     let n : length (rowsOf o ls) ≡ size (pictureOf b) = sym (ap length m) ∙ frame-size o b ((a ∷ ls) ++ (l ∷ [])) (r .frame) w in
-    let d : verdicts begun (linesOf (ls ++ (l ∷ []))) ≡ toComplete (lastPlace - 1) =
-    ap (λ (k : Line). verdicts (called Waiting k .judge) (linesOf (ls ++ (l ∷ [])))) (sym i)
+    let d : rulings begun (linesOf (ls ++ (l ∷ []))) ≡ toComplete (lastPlace - 1) =
+    ap (λ (k : Line). rulings (called Waiting k .judge) (linesOf (ls ++ (l ∷ [])))) (sym i)
     ∙ tail-eq-of-cons-eq (frame-complete b (linesOf ((a ∷ ls) ++ (l ∷ []))) (r .frame) .0) in
     let y : Outcome = quiet (moved s begun 0) (x .buffer) in
     let q : Ready o ls l y = record { order = r .order; count = lastPlace - 1; due = d; whole = r .whole .1; room = omega (arith, n, r .room) } in

@@ -15,7 +15,7 @@ ghost use lib.ListN.{length, take, drop};
 ghost use Rattle.profile.specs.Profile.{longest};
 ghost use Rattle.frame_rows.specs.FrameRows.{pixelsOf, fresh, moved, saying, shownAs, keepRow, onward, completed, handed, takeOf, Gives};
 use frame::Judge;
-use frame::Verdict;
+use frame::Ruling;
 use line_code::Kind;
 use profile::Profile;
 use stream::Answer;
@@ -86,12 +86,12 @@ impl Gatherer {
         let before = self.judge;
         let judged = before.line(kind, number);
         let judge = judged.judge;
-        let verdict = judged.verdict;
-        match verdict {
-            Verdict::Waiting => quiet(self.moved(judge, 0)),
-            Verdict::Going => self.onward(judge, kind, line, rows),
-            Verdict::Complete => self.completed(judge, rows),
-            Verdict::Refused(refusal) => {
+        let ruling = judged.ruling;
+        match ruling {
+            Ruling::Waiting => quiet(self.moved(judge, 0)),
+            Ruling::Going => self.onward(judge, kind, line, rows),
+            Ruling::Complete => self.completed(judge, rows),
+            Ruling::Refused(refusal) => {
                 if tally::breaks_frame(refusal) {
                     return quiet(self.moved(judge, 0));
                 }

@@ -7,8 +7,8 @@ use Rattle.stream.specs.declared.GapFacts.{GapFacts}
 use Rattle.stream.specs.declared.LineFacts.{LineFacts}
 use Rattle.stream.specs.declared.Answer.{Answer}
 use Rattle.stream.specs.declared.Answer.the-variants as answer
-use Rattle.frame.specs.declared.Verdict.{Verdict}
-use Rattle.frame.specs.declared.Verdict.the-variants as verdict
+use Rattle.frame.specs.declared.Ruling.{Ruling}
+use Rattle.frame.specs.declared.Ruling.the-variants as ruling
 use Rattle.frame.specs.Frame.{brokenKind}
 use Rattle.frame.specs.Calls.{Line, line}
 use Rattle.tally.specs.declared.Tally.{Tally}
@@ -69,20 +69,20 @@ abbrev pub allHanded : List Answer → List Line
 allHanded [] = []
 allHanded (a ∷ w) = handedOver a ++ allHanded w
 
--- the verdicts that are Complete, and those that break a frame, counted on from n
-abbrev pub isComplete : Verdict → Bool
-isComplete verdict.Waiting = false
-isComplete verdict.Going = false
-isComplete verdict.Complete = true
-isComplete (verdict.Refused refusal) = false
+-- the rulings that are Complete, and those that break a frame, counted on from n
+abbrev pub isComplete : Ruling → Bool
+isComplete ruling.Waiting = false
+isComplete ruling.Going = false
+isComplete ruling.Complete = true
+isComplete (ruling.Refused refusal) = false
 
-abbrev pub isBreak : Verdict → Bool
-isBreak verdict.Waiting = false
-isBreak verdict.Going = false
-isBreak verdict.Complete = false
-isBreak (verdict.Refused refusal) = breaksFrame refusal
+abbrev pub isBreak : Ruling → Bool
+isBreak ruling.Waiting = false
+isBreak ruling.Going = false
+isBreak ruling.Complete = false
+isBreak (ruling.Refused refusal) = breaksFrame refusal
 
-abbrev pub counting : (Verdict → Bool) → ℕ → List Verdict → ℕ
+abbrev pub counting : (Ruling → Bool) → ℕ → List Ruling → ℕ
 counting which n [] = n
 counting which n (v ∷ w) = counting which (cond (which v) (oneMore n) n) w
 

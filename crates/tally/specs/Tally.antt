@@ -10,8 +10,8 @@ use Rattle.frame.specs.declared.Borders.{Borders}
 use Rattle.frame.specs.declared.Borders.the-variants.{Unsettled}
 use Rattle.frame.specs.declared.Judge.{Judge}
 use Rattle.frame.specs.declared.Judge.the-variants.{Waiting, Due}
-use Rattle.frame.specs.declared.Verdict.{Verdict}
-use Rattle.frame.specs.declared.Verdict.the-variants as verdict
+use Rattle.frame.specs.declared.Ruling.{Ruling}
+use Rattle.frame.specs.declared.Ruling.the-variants as ruling
 use Rattle.frame.specs.Frame.{within, brokenKind, judgeOf}
 use Rattle.tally.specs.declared.Tally.{Tally}
 use Rattle.tally.specs.declared.News.{News}
@@ -46,7 +46,7 @@ abbrev pub moved : Tally → Judge → Judge → Tally
 moved t before j =
     record { judge = j; marks = t .marks; frames = opening before j (t .frames); complete = t .complete; broken = t .broken }
 
--- What the judge's verdict tells.
+-- What the judge's ruling tells.
 
 abbrev pub quiet : Tally → Told
 quiet t = record { tally = t; news = Nothing }
@@ -79,15 +79,15 @@ breaksFrame refusal = eqb refusal notTheLineDue || eqb refusal brokenLine
 unfoldable pub refusedBy : Tally → Judge → ℕ → ℕ → Told
 refusedBy t j refusal own = cond (breaksFrame refusal) (brokenBy t j refusal own) (quiet (moved t (t .judge) j))
 
-abbrev pub told : Tally → ℕ → Judge → Verdict → Told
-told t own j verdict.Waiting = quiet (moved t (t .judge) j)
-told t own j verdict.Going = quiet (moved t (t .judge) j)
-told t own j verdict.Complete = completed t j
-told t own j (verdict.Refused refusal) = refusedBy t j refusal own
+abbrev pub told : Tally → ℕ → Judge → Ruling → Told
+told t own j ruling.Waiting = quiet (moved t (t .judge) j)
+told t own j ruling.Going = quiet (moved t (t .judge) j)
+told t own j ruling.Complete = completed t j
+told t own j (ruling.Refused refusal) = refusedBy t j refusal own
 
 -- a line's kind number and number, or kind 0, handed to the judge; and the mark's own answer, 0 for a line
 unfoldable pub handed : Tally → ℕ → ℕ → ℕ → Told
-handed t k n own = told t own (judgeOf (t .judge) k n .judge) (judgeOf (t .judge) k n .verdict)
+handed t k n own = told t own (judgeOf (t .judge) k n .judge) (judgeOf (t .judge) k n .ruling)
 
 -- An answer.
 

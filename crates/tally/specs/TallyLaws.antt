@@ -15,10 +15,10 @@ use Rattle.stream.specs.declared.Answer.the-variants as answer
 use Rattle.frame.specs.declared.Borders.{Borders}
 use Rattle.frame.specs.declared.Judge.{Judge}
 use Rattle.frame.specs.declared.Judge.the-variants.{Waiting, Due}
-use Rattle.frame.specs.declared.Verdict.{Verdict}
-use Rattle.frame.specs.declared.Verdict.the-variants as verdict
+use Rattle.frame.specs.declared.Ruling.{Ruling}
+use Rattle.frame.specs.declared.Ruling.the-variants as ruling
 use Rattle.frame.specs.Frame.{lastPlace, brokenKind, judgeOf}
-use Rattle.frame.specs.Calls.{Line, line, called, after, verdicts, IsFrame}
+use Rattle.frame.specs.Calls.{Line, line, called, after, rulings, IsFrame}
 use Rattle.frame.specs.FrameLaws.{frame-complete}
 use Rattle.tally.specs.declared.Tally.{Tally}
 use Rattle.tally.specs.declared.Told.{Told}
@@ -29,12 +29,12 @@ use Rattle.tally.specs.Answered.{tallied, newsOf, withMark, captureTally
 
 -- Marks.
 
-told-marks : (t : Tally) (own : ℕ) (j : Judge) (v : Verdict) → told t own j v .tally .marks ≡ t .marks
+told-marks : (t : Tally) (own : ℕ) (j : Judge) (v : Ruling) → told t own j v .tally .marks ≡ t .marks
 unfolding refusedBy
-told-marks t own j verdict.Waiting = refl
-told-marks t own j verdict.Going = refl
-told-marks t own j verdict.Complete = refl
-told-marks t own j (verdict.Refused refusal) = either (breaksFrame refusal)
+told-marks t own j ruling.Waiting = refl
+told-marks t own j ruling.Going = refl
+told-marks t own j ruling.Complete = refl
+told-marks t own j (ruling.Refused refusal) = either (breaksFrame refusal)
   where
     either : (b : Bool) → cond b (brokenBy t j refusal own) (quiet (moved t (t .judge) j)) .tally .marks ≡ t .marks
     either true = refl
@@ -42,7 +42,7 @@ told-marks t own j (verdict.Refused refusal) = either (breaksFrame refusal)
 
 handed-marks : (t : Tally) (k n own : ℕ) → handed t k n own .tally .marks ≡ t .marks
 unfolding handed
-handed-marks t k n own = told-marks t own (judgeOf (t .judge) k n .judge) (judgeOf (t .judge) k n .verdict)
+handed-marks t k n own = told-marks t own (judgeOf (t .judge) k n .judge) (judgeOf (t .judge) k n .ruling)
 
 take-marks : (t : Tally) (a : Answer) → takeOf t a .tally .marks ≡ withMark (t .marks) a
 unfolding takeOf
@@ -93,19 +93,19 @@ marks-counted t a = (take-marks t a, close-marks t a)
 -- the judge and the counts d after these calls of the judge in t
 pub record Judges (t : Tally) (ls : List Line) (d : Tally) : Type 0 where
   pub judge : d .judge ≡ after (t .judge) ls
-  pub complete : d .complete ≡ counting isComplete (t .complete) (verdicts (t .judge) ls)
-  pub broken : d .broken ≡ counting isBreak (t .broken) (verdicts (t .judge) ls)
+  pub complete : d .complete ≡ counting isComplete (t .complete) (rulings (t .judge) ls)
+  pub broken : d .broken ≡ counting isBreak (t .broken) (rulings (t .judge) ls)
 
 -- the same, by the tally's own parts
-by-told : (t : Tally) (own : ℕ) (j : Judge) (v : Verdict)
+by-told : (t : Tally) (own : ℕ) (j : Judge) (v : Ruling)
     → (told t own j v .tally .judge ≡ j)
     × (told t own j v .tally .complete ≡ cond (isComplete v) (oneMore (t .complete)) (t .complete))
     × (told t own j v .tally .broken ≡ cond (isBreak v) (oneMore (t .broken)) (t .broken))
 unfolding refusedBy
-by-told t own j verdict.Waiting = (refl, refl, refl)
-by-told t own j verdict.Going = (refl, refl, refl)
-by-told t own j verdict.Complete = (refl, refl, refl)
-by-told t own j (verdict.Refused refusal) = either (breaksFrame refusal)
+by-told t own j ruling.Waiting = (refl, refl, refl)
+by-told t own j ruling.Going = (refl, refl, refl)
+by-told t own j ruling.Complete = (refl, refl, refl)
+by-told t own j (ruling.Refused refusal) = either (breaksFrame refusal)
   where
     either : (breaks : Bool)
         → let d : Told = cond breaks (brokenBy t j refusal own) (quiet (moved t (t .judge) j)) in
@@ -119,7 +119,7 @@ nothing-judged t = record { judge = refl; complete = refl; broken = refl }
 one-judged : (t : Tally) (l : Line) (own : ℕ) → Judges t (l ∷ []) (handed (marked t) (l .kind) (l .number) own .tally)
 unfolding handed
 one-judged t l own =
-    let h = by-told (marked t) own (called (t .judge) l .judge) (called (t .judge) l .verdict) in
+    let h = by-told (marked t) own (called (t .judge) l .judge) (called (t .judge) l .ruling) in
     record { judge = h .0; complete = h .1; broken = h .2 }
 
 take-judged : (t : Tally) (a : Answer) → Judges t (handedOver a) (takeOf t a .tally)
@@ -137,10 +137,10 @@ after-append : (j : Judge) (ls ms : List Line) → after j (ls ++ ms) ≡ after 
 after-append j [] ms = refl
 after-append j (l ∷ ls) ms = after-append (called j l .judge) ls ms
 
-counting-append : (which : Verdict → Bool) (j : Judge) (n : ℕ) (ls ms : List Line)
-    → counting which n (verdicts j (ls ++ ms)) ≡ counting which (counting which n (verdicts j ls)) (verdicts (after j ls) ms)
+counting-append : (which : Ruling → Bool) (j : Judge) (n : ℕ) (ls ms : List Line)
+    → counting which n (rulings j (ls ++ ms)) ≡ counting which (counting which n (rulings j ls)) (rulings (after j ls) ms)
 counting-append which j n [] ms = refl
-counting-append which j n (l ∷ ls) ms = counting-append which (called j l .judge) (cond (which (called j l .verdict)) (oneMore n) n) ls ms
+counting-append which j n (l ∷ ls) ms = counting-append which (called j l .judge) (cond (which (called j l .ruling)) (oneMore n) n) ls ms
 
 then-judged : {t d e : Tally} {ls ms : List Line} → Judges t ls d → Judges d ms e → Judges t (ls ++ ms) e
 then-judged {t} {d} {e} {ls} {ms} p q =
@@ -150,7 +150,7 @@ then-judged {t} {d} {e} {ls} {ms} p q =
       broken = q .broken ∙ simp (p .judge, p .broken) (sym (counting-append isBreak (t .judge) (t .broken) ls ms));
     }
 
--- whatever the answers: the judge is where 01's calls leave it, and each Complete and each 18 or 19 among its verdicts is counted
+-- whatever the answers: the judge is where 01's calls leave it, and each Complete and each 18 or 19 among its rulings is counted
 pub judged-as-said : (t : Tally) (w : List Answer) → Judges t (allHanded w) (tallied t w)
 judged-as-said t [] = nothing-judged t
 judged-as-said t (a ∷ w) = then-judged (take-judged t a) (judged-as-said (takeOf t a .tally) w)
@@ -167,8 +167,8 @@ pub frame-good : (b : Borders) (fs : List LineWithGap) → IsFrame b (linesOf fs
 unfolding isGood oneMore
 frame-good b fs e =
     let p = judged-as-said freshTally (withGaps fs) in
-    let v : verdicts Waiting (allHanded (withGaps fs)) ≡ replicate lastPlace verdict.Going ++ (verdict.Complete ∷ []) =
-    ap (verdicts Waiting) (handed-lines fs) ∙ frame-complete b (linesOf fs) e .0 in
+    let v : rulings Waiting (allHanded (withGaps fs)) ≡ replicate lastPlace ruling.Going ++ (ruling.Complete ∷ []) =
+    ap (rulings Waiting) (handed-lines fs) ∙ frame-complete b (linesOf fs) e .0 in
     let c : tallied freshTally (withGaps fs) .complete ≡ 1 = p .complete ∙ ap (counting isComplete 0) v in
     let d : tallied freshTally (withGaps fs) .broken ≡ 0 = p .broken ∙ ap (counting isBreak 0) v in
     (c, d, simp (c, d))
@@ -191,12 +191,12 @@ record Says (complete₀ broken₀ : ℕ) (d : Told) : Type 0 where
 says-nothing : (t : Tally) → Says (t .complete) (t .broken) (quiet t)
 says-nothing t = record { complete = sym (or-false _); broken = sym (or-false _) }
 
-says-told : (t : Tally) (own : ℕ) (j : Judge) (v : Verdict) → Says (t .complete) (t .broken) (told t own j v)
+says-told : (t : Tally) (own : ℕ) (j : Judge) (v : Ruling) → Says (t .complete) (t .broken) (told t own j v)
 unfolding refusedBy
-says-told t own j verdict.Waiting = says-nothing (moved t (t .judge) j)
-says-told t own j verdict.Going = says-nothing (moved t (t .judge) j)
-says-told t own j verdict.Complete = record { complete = counted (t .complete) ∙ sym (or-true (ltb 0 (t .complete))); broken = sym (or-false _) }
-says-told t own j (verdict.Refused refusal) = either (breaksFrame refusal)
+says-told t own j ruling.Waiting = says-nothing (moved t (t .judge) j)
+says-told t own j ruling.Going = says-nothing (moved t (t .judge) j)
+says-told t own j ruling.Complete = record { complete = counted (t .complete) ∙ sym (or-true (ltb 0 (t .complete))); broken = sym (or-false _) }
+says-told t own j (ruling.Refused refusal) = either (breaksFrame refusal)
   where
     either : (b : Bool) → Says (t .complete) (t .broken) (cond b (brokenBy t j refusal own) (quiet (moved t (t .judge) j)))
     either true = record { complete = sym (or-false _); broken = counted (t .broken) ∙ sym (or-true (ltb 0 (t .broken))) }
@@ -204,7 +204,7 @@ says-told t own j (verdict.Refused refusal) = either (breaksFrame refusal)
 
 says-handed : (t : Tally) (k n own : ℕ) → Says (t .complete) (t .broken) (handed t k n own)
 unfolding handed
-says-handed t k n own = says-told t own (judgeOf (t .judge) k n .judge) (judgeOf (t .judge) k n .verdict)
+says-handed t k n own = says-told t own (judgeOf (t .judge) k n .judge) (judgeOf (t .judge) k n .ruling)
 
 says-take : (t : Tally) (a : Answer) → Says (t .complete) (t .broken) (takeOf t a)
 unfolding takeOf

@@ -7,7 +7,7 @@ ghost use mathlib.Core.Path.{_≡_};
 ghost use Rattle.tally.specs.Tally.{freshTally, oneMore, quiet, marked, isBrokenLine, bordersOf, opening, moved, completed, brokenBy, breaksFrame, refusedBy, handed, takeOf, isUnfinished, cutOf, closeOf, isGood};
 use frame::Borders;
 use frame::Judge;
-use frame::Verdict;
+use frame::Ruling;
 use stream::Answer;
 
 // The judge; the marks answered; the frames that opened, that were complete, and that broke. A count stops at the greatest u64.
@@ -124,12 +124,12 @@ impl Tally {
         let before = self.judge;
         let judged = before.line(kind, number);
         let judge = judged.judge;
-        let verdict = judged.verdict;
-        match verdict {
-            Verdict::Waiting => quiet(self.moved(before, judge)),
-            Verdict::Going => quiet(self.moved(before, judge)),
-            Verdict::Complete => self.completed(judge),
-            Verdict::Refused(number) => self.refused(judge, number, own),
+        let ruling = judged.ruling;
+        match ruling {
+            Ruling::Waiting => quiet(self.moved(before, judge)),
+            Ruling::Going => quiet(self.moved(before, judge)),
+            Ruling::Complete => self.completed(judge),
+            Ruling::Refused(number) => self.refused(judge, number, own),
         }
     }
 

@@ -1,7 +1,7 @@
 //! Runs the proved code and the independent version on the same inputs and compares all that they give back, call by call:
 //! compare [NIBBLES [SEED]]. Shows the first difference and exits 1, if there is one.
 
-use independent::judge::{Judge, Verdict};
+use independent::judge::{Judge, Ruling};
 use independent::layout::Profile;
 use independent::proved;
 use independent::random::Random;
@@ -330,8 +330,8 @@ struct Judges {
 }
 
 impl Judges {
-    fn line(&mut self, kind: u8, number: u16, count: &mut Count) -> Verdict {
-        let ours = proved::verdict(proved::judge(&mut self.proved, kind, number));
+    fn line(&mut self, kind: u8, number: u16, count: &mut Count) -> Ruling {
+        let ours = proved::ruling(proved::judge(&mut self.proved, kind, number));
         let theirs = self.plain.line(kind, number);
         same("judging", &(kind, number, self.proved), ours, theirs);
         count.judged += 1;
@@ -356,7 +356,7 @@ fn compare_judge(random: &mut Random, frames: usize, count: &mut Count) {
                     _ => continue,
                 }
             }
-            if judges.line(kind, number as u16, count) == Verdict::Complete {
+            if judges.line(kind, number as u16, count) == Ruling::Complete {
                 complete += 1;
             }
         }
@@ -396,12 +396,12 @@ fn compare_frames(random: &mut Random, frames: usize, count: &mut Count) {
         while at < nibbles.len() {
             let (answer, taken) = pair.feed(&nibbles[at..], &[0; LONGEST], count, &("frame", frame, at));
             at += taken;
-            let verdict = match answer {
+            let ruling = match answer {
                 Some(Answer::Line { kind, number, .. }) => judges.line(kind, number, count),
                 Some(Answer::Refused(1..=7)) => judges.line(0, 0, count),
                 _ => continue,
             };
-            complete += usize::from(verdict == Verdict::Complete);
+            complete += usize::from(ruling == Ruling::Complete);
         }
     }
     pair.finish(count, &"frames");

@@ -12,7 +12,7 @@ returns c =
     let judge = c .before .before .before .judge-numbered .ensures in
     let line = c .before .before .line .ensures in
     record {
-      says = simp (small, c .verdict-number .ensures, line, judge);
+      says = simp (small, c .ruling-number .ensures, line, judge);
       next = simp (small, c .before .judge-number .ensures, line, judge);
     }
 

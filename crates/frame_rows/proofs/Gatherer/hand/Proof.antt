@@ -1,4 +1,4 @@
--- By the judge's verdict: going and complete by their functions, waiting and 18 or 19 keep no rows, any other refusal changes nothing.
+-- By the judge's ruling: going and complete by their functions, waiting and 18 or 19 keep no rows, any other refusal changes nothing.
 use borrow.Author.Needs.{needs}
 use Rattle.frame_rows.specs.FrameRows.{handed, refusedBy}
 use Rattle.frame_rows.proofs.Answering.{gives, quietly}
@@ -9,7 +9,7 @@ returns : tie.Need-returns
 unfolding handed refusedBy
 returns c =
     let line = c .before .before .before .before .before .before .before .line in
-    gives _ _ _ _ _ (quietly (c .quiet2 .ensures) (c .before .moved2 .ensures)) (simp (← line .ensures, c .before .before .before .before .before .verdict .given .1, ← c .before .before .before .breaks-frame .ensures, c .before .before .if1 .taken))
+    gives _ _ _ _ _ (quietly (c .quiet2 .ensures) (c .before .moved2 .ensures)) (simp (← line .ensures, c .before .before .before .before .before .ruling .given .1, ← c .before .before .before .breaks-frame .ensures, c .before .before .if1 .taken))
 
 returns-2 : tie.Need-returns-2
 unfolding handed
@@ -25,7 +25,7 @@ returns-4 c = simp (← c .before .before .before .before .line .ensures, c .bef
 
 returns-5 : tie.Need-returns-5
 unfolding handed refusedBy
-returns-5 c = gives _ _ _ _ _ (c .refused .ensures) (simp (← c .before .before .before .before .before .before .line .ensures, c .before .before .before .before .verdict .given .1, ← c .before .before .breaks-frame .ensures, c .before .if1 .left))
+returns-5 c = gives _ _ _ _ _ (c .refused .ensures) (simp (← c .before .before .before .before .before .before .line .ensures, c .before .before .before .before .ruling .given .1, ← c .before .before .breaks-frame .ensures, c .before .if1 .left))
 
 pub hand-spec : {M : Type 1} → statement M
 hand-spec =

@@ -1,4 +1,4 @@
--- By the judge's verdict: waiting and going bring no news; a complete frame and a refusal are told by their own functions.
+-- By the judge's ruling: waiting and going bring no news; a complete frame and a refusal are told by their own functions.
 use Rattle.tally.specs.Tally.{handed}
 use borrow.Author.Needs.{needs}
 use Rattle.tally.proofs.Tally.hand.Statement.{statement}
@@ -18,7 +18,7 @@ returns-3 c = simp (← c .before .before .before .line .ensures, c .before .enu
 
 returns-4 : tie.Need-returns-4
 unfolding handed
-returns-4 c = simp (← c .before .before .before .before .line .ensures, c .before .before .verdict .given .1, c .refused .ensures)
+returns-4 c = simp (← c .before .before .before .before .line .ensures, c .before .before .ruling .given .1, c .refused .ensures)
 
 pub hand-spec : {M : Type 1} → statement M
 hand-spec =
