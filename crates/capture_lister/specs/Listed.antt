@@ -24,7 +24,7 @@ use Rattle.capture_lister.specs.declared.Listed.{Listed}
 
 -- a fresh reader and a fresh tally
 abbrev pub freshLister : Mode → Profile → Lister
-freshLister m p = record { mode = m; reader = freshReader p; tally = freshTally }
+freshLister m p = record { mode = m; reader = freshReader p; tally = freshTally p }
 
 -- What is listed.
 
@@ -116,7 +116,7 @@ lastText l room = cond (ltb room (2 * rowRoom)) [] (endText l)
 unfoldable pub finishedOf : Lister → ℕ → Listed
 finishedOf l room =
     record {
-      lister = cond (ltb room (2 * rowRoom)) l (record { mode = l .mode; reader = finishOf (l .reader) .reader; tally = freshTally });
+      lister = cond (ltb room (2 * rowRoom)) l (record { mode = l .mode; reader = finishOf (l .reader) .reader; tally = freshTally (l .tally .profile) });
       taken = 0;
       used = length (lastText l room);
     }

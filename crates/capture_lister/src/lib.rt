@@ -49,7 +49,7 @@ impl Lister {
         ensures { λ r. ⌜ r ≡ freshLister mode profile ⌝ }
     {
         let reader = Reader::fresh(profile);
-        let tally = Tally::new();
+        let tally = Tally::new(profile);
         Lister {
             mode,
             reader,
@@ -136,12 +136,13 @@ impl Lister {
         let fed = reader.finish();
         let answer = fed.answer;
         let tally = self.tally;
+        let profile = tally.profile;
         let told = tally.close(answer);
         let at = put_text(mode, told, answer, out, 0);
         let tally = told.tally;
         let used = put_report(mode, tally, out, at);
         let reader = fed.reader;
-        let tally = Tally::new();
+        let tally = Tally::new(profile);
         let lister = Lister {
             mode,
             reader,

@@ -4,6 +4,7 @@ use crate::text::say_number;
 use frame::Borders;
 use frame::Judge;
 use frame::Ruling;
+use profile::Profile;
 
 // A judge, and how many lines it answered Going since its last other answer.
 pub struct Hearing {
@@ -32,7 +33,7 @@ impl Hearing {
     // A line.
     fn line(self, kind: u8, number: u16) -> Hearing {
         let judge = self.judge;
-        let judged = judge.line(kind, number);
+        let judged = judge.line(Profile::VV5404, kind, number);
         let judge = judged.judge;
         let ruling = judged.ruling;
         match ruling {

@@ -158,13 +158,13 @@ within-high from to n h = leb-true n to (and-right (leb from n) _ h)
 within-low : (from to n : ℕ) → frame.within from to n ≡ true → from ≤ n
 within-low from to n h = leb-true from n (and-left _ _ h)
 
-judge-small : (j : Judge) → frame.passes j ≡ true → judgeNumber j < 0x30000
+judge-small : (j : Judge) → frame.passes VV5404 j ≡ true → judgeNumber j < 0x30000
 judge-small Waiting h = omega arith
 judge-small (Due place Unsettled) h = omega (arith, within-high 1 10 place h)
 judge-small (Due place On) h = omega (arith, within-high 11 303 place h)
 judge-small (Due place Off) h = omega (arith, within-high 11 303 place h)
 
-pub judge-back : (j : Judge) → frame.passes j ≡ true → judgeNumbered (judgeNumber j) ≡ j
+pub judge-back : (j : Judge) → frame.passes VV5404 j ≡ true → judgeNumbered (judgeNumber j) ≡ j
 unfolding judgeNumbered
 judge-back Waiting h = refl
 judge-back (Due place Unsettled) h =
@@ -196,9 +196,9 @@ number-back n h = go (eqb n 0) (ltb n 0x10000) (ltb n 0x20000) refl refl refl
     go false false false e f g = let l = ltb-false n 0x20000 g in omega arith
 
 -- judging by number is judging
-pub judges : (j : Judge) (kind number : ℕ) → frame.passes j ≡ true
+pub judges : (j : Judge) (kind number : ℕ) → frame.passes VV5404 j ≡ true
     → judgeCall (judgeNumber j) kind number
-    ≡ record { answer = rulingNumber (judgeOf j kind number .ruling); judge = judgeNumber (judgeOf j kind number .judge) }
+    ≡ record { answer = rulingNumber (judgeOf VV5404 j kind number .ruling); judge = judgeNumber (judgeOf VV5404 j kind number .judge) }
 unfolding judgeCall
 judges j kind number h = simp (lt-ltb (judgeNumber j) 0x30000 (judge-small j h), judge-back j h)
 

@@ -8,6 +8,7 @@ use Rattle.refusal.specs.Refusal.{badState, noRoom}
 use Rattle.line_code.specs.LineCode.{kindNumber, repairNumber}
 use Rattle.profile.specs.declared.Numbered.{Numbered}
 use Rattle.profile.specs.declared.Numbered.the-variants as numbered
+use Rattle.profile.specs.declared.Profile.the-variants.{VV5404}
 use Rattle.profile.specs.Profile.{profileNumbered}
 use Rattle.stream.specs.declared.Answer.{Answer}
 use Rattle.stream.specs.declared.Answer.the-variants as answers
@@ -118,7 +119,7 @@ unfoldable pub judgeCall : ℕ → ℕ → ℕ → JudgeCalled
 judgeCall n kind number =
     cond (ltb n 0x30000)
     (record {
-      answer = rulingNumber (judgeOf (judgeNumbered n) kind number .ruling);
-      judge = judgeNumber (judgeOf (judgeNumbered n) kind number .judge);
+      answer = rulingNumber (judgeOf VV5404 (judgeNumbered n) kind number .ruling);
+      judge = judgeNumber (judgeOf VV5404 (judgeNumbered n) kind number .judge);
     })
     (record { answer = badState; judge = n })

@@ -145,7 +145,7 @@ pub extern "C" fn fluturenc_write(
     }
 }
 
-// Judges one line, or a broken one. Refused, and then the judge stays as it was: 11, 13, 14, in this order.
+// Judges one line of a profile 0 frame, or a broken one. Refused, and then the judge stays as it was: 11, 13, 14, in this order.
 #[no_mangle]
 pub extern "C" fn fluturenc_judge(judge: &mut u32, kind: u8, number: u16) -> u8
     ensures { λ r. ⌜ JudgeGives (judgeCall (now (judge .entry)) kind number) r (now (judge .exit)) ⌝ }
@@ -153,7 +153,7 @@ pub extern "C" fn fluturenc_judge(judge: &mut u32, kind: u8, number: u16) -> u8
     let n = *judge;
     if n < 3 * PLACES {
         let j = judge_numbered(n);
-        let d = j.line(kind, number);
+        let d = j.line(Profile::VV5404, kind, number);
         let next = d.judge;
         *judge = judge_number(next);
         let ruling = d.ruling;

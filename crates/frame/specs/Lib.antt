@@ -2,3 +2,4 @@ pub mod Frame
 pub mod Places
 pub mod Calls
 pub mod FrameLaws
+pub mod Drawn

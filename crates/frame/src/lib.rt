@@ -1,15 +1,16 @@
-// The judge of profile 0 frames (paper 01, 'Frames of profile 0').
+// The judge of frames: those of profile 0 (paper 01, 'Frames of profile 0') and of the VV5300 (paper 000, 'Frame Level Formatting').
 //
-// In: the kind number and number of each line given out, or kind 0 for a broken line (answers 1 to 7), in order. Out: beside the next
-// judge, Waiting, Going, Complete or a refusal: 18 the line is not the one due, 19 a broken line; and, changing nothing: 11 a judge state
-// that no calls can reach, 13 a kind above 5, 14 a number above 4095. After the EOF line a line's number is not compared (paper 02, A3).
-// Cost: constant.
+// In: the profile; the kind number and number of each line given out, or kind 0 for a broken line (answers 1 to 7), in order. Out: beside
+// the next judge, Waiting, Going, Complete or a refusal: 18 the line is not the one due, 19 a broken line; and, changing nothing: 11 a
+// judge state that no calls can reach with this profile, 13 a kind above 5, 14 a number above 4095. After the EOF line a line's number is
+// not compared (paper 02, A3). Cost: constant.
 ghost use mathlib.Core.Path.{_≡_};
-ghost use Rattle.frame.specs.Frame.{kindAt, endPlace, standsAt, kindDue, numberDue, lineDue, settled, within, passes, refuses, opens, broken, onward, astray, whole, judgeOf};
+ghost use Rattle.frame.specs.Frame.{laidOut, bordersOn, bordersOff, layout, kindAt, standsAt, kindDue, numberDue, lineDue, settled, within, passes, refuses, opens, broken, onward, astray, first, whole, judgeOf};
 ghost use Rattle.frame.specs.Places.{kindWithin};
 use line_code::Kind;
+use profile::Profile;
 
-// Whether a frame shows its borders: settled by the line at place 10.
+// Whether a frame shows its borders: settled by the line at the place of the first visible line with borders on.
 pub enum Borders {
     Unsettled,
     On,
@@ -49,10 +50,10 @@ impl Judge {
     }
 
     // Takes a line, or kind 0 for a broken one. Refused, in this order: 11, 13, 14; then 19, 18.
-    pub fn line(self, kind: u8, number: u16) -> Judged
-        ensures { λ r. ⌜ r ≡ judgeOf self kind number ⌝ }
+    pub fn line(self, profile: Profile, kind: u8, number: u16) -> Judged
+        ensures { λ r. ⌜ r ≡ judgeOf profile self kind number ⌝ }
     {
-        if self.passes() {
+        if self.passes(profile) {
             if kind > Kind::EOF.number() {
                 return refused(self, refusal::BAD_KIND);
             }
@@ -62,22 +63,25 @@ impl Judge {
             if number > line_number::GREATEST {
                 return refused(self, refusal::NUMBER_TOO_LARGE);
             }
-            return self.whole(kind, number);
+            return self.whole(profile, kind, number);
         }
         refused(self, refusal::BAD_STATE)
     }
 
     // The judge's own test: true of the states that calls reach from a fresh judge, and of no other.
-    fn passes(self) -> bool
-        ensures { λ r. ⌜ r ≡ passes self ⌝ }
+    fn passes(self, profile: Profile) -> bool
+        ensures { λ r. ⌜ r ≡ passes profile self ⌝ }
     {
         match self {
             Judge::Waiting => true,
-            Judge::Due(place, borders) => match borders {
-                Borders::Unsettled => within(FIRST_BLACK, SETTLING_PLACE, place),
-                Borders::On => within(SETTLING_PLACE + 1, LAST_PLACE, place),
-                Borders::Off => within(SETTLING_PLACE + 1, LAST_PLACE, place),
-            },
+            Judge::Due(place, borders) => {
+                let on = borders_on(profile);
+                match borders {
+                    Borders::Unsettled => within(FIRST_BLACK, on.from, place),
+                    Borders::On => within(on.from + 1, on.last, place),
+                    Borders::Off => within(on.from + 1, on.last, place),
+                }
+            }
         }
     }
 
@@ -93,14 +97,14 @@ impl Judge {
         }
     }
 
-    fn whole(self, kind: u8, number: u16) -> Judged
-        ensures { λ r. ⌜ r ≡ whole self kind number ⌝ }
+    fn whole(self, profile: Profile, kind: u8, number: u16) -> Judged
+        ensures { λ r. ⌜ r ≡ whole profile self kind number ⌝ }
     {
         match self {
             Judge::Waiting => first(kind, number),
             Judge::Due(place, borders) => {
-                if borders.line_due(place, kind, number) {
-                    return borders.onward(place, kind);
+                if borders.line_due(profile, place, kind, number) {
+                    return borders.onward(profile, place, kind);
                 }
                 astray(kind, number)
             }
@@ -108,99 +112,146 @@ impl Judge {
     }
 }
 
-// The places of a frame: its first line, its first BK and BL line, its first VL line and its EOF line with borders on and off, its last line.
+// The places of a frame's first line, and of its first BK and BL line.
 const FIRST_PLACE: u16 = 0;
 
 const FIRST_BLACK: u16 = 1;
 
 const FIRST_BLANK: u16 = 3;
 
-const FIRST_VISIBLE_ON: u16 = 10;
+// A frame's layout: the places of its first and last visible line, of its EOF line and of its last line.
+struct Layout {
+    from: u16,
+    to: u16,
+    end: u16,
+    last: u16,
+}
 
-const FIRST_VISIBLE_OFF: u16 = 12;
+// The layout of each profile, borders on and off.
+fn borders_on(profile: Profile) -> Layout
+    ensures { λ r. ⌜ r ≡ bordersOn profile ⌝ }
+{
+    match profile {
+        Profile::VV5404 => laid_out(10, 301, 302, 303),
+        Profile::VV5300 => laid_out(11, 134, 145, 146),
+    }
+}
 
-const END_ON: u16 = 302;
+fn borders_off(profile: Profile) -> Layout
+    ensures { λ r. ⌜ r ≡ bordersOff profile ⌝ }
+{
+    match profile {
+        Profile::VV5404 => laid_out(12, 299, 300, 303),
+        Profile::VV5300 => laid_out(13, 132, 145, 146),
+    }
+}
 
-const END_OFF: u16 = 300;
+fn laid_out(from: u16, to: u16, end: u16, last: u16) -> Layout
+    ensures { λ r. ⌜ r ≡ laidOut from to end last ⌝ }
+{
+    Layout {
+        from,
+        to,
+        end,
+        last,
+    }
+}
 
-const LAST_PLACE: u16 = 303;
-
-// Here a VL or a BL settles the borders.
-const SETTLING_PLACE: u16 = FIRST_VISIBLE_ON;
+impl Layout {
+    // The kind at a place.
+    fn kind_within(self, place: u16) -> Kind
+        ensures { λ r. ⌜ r ≡ kindWithin self place ⌝ }
+    {
+        if place < FIRST_BLACK {
+            return Kind::SOF;
+        }
+        if place < FIRST_BLANK {
+            return Kind::BK;
+        }
+        if place < self.from {
+            return Kind::BL;
+        }
+        if place <= self.to {
+            return Kind::VL;
+        }
+        if place == self.end {
+            return Kind::EOF;
+        }
+        Kind::BL
+    }
+}
 
 impl Borders {
-    // The kind of the line at a place.
-    fn kind_at(self, place: u16) -> Kind
-        ensures { λ r. ⌜ r ≡ kindAt self place ⌝ }
+    // The layout of a frame; until the borders are settled, that with borders on.
+    fn layout(self, profile: Profile) -> Layout
+        ensures { λ r. ⌜ r ≡ layout profile self ⌝ }
     {
         match self {
-            Borders::Unsettled => kind_within(FIRST_VISIBLE_ON, END_ON, place),
-            Borders::On => kind_within(FIRST_VISIBLE_ON, END_ON, place),
-            Borders::Off => kind_within(FIRST_VISIBLE_OFF, END_OFF, place),
+            Borders::Unsettled => borders_on(profile),
+            Borders::On => borders_on(profile),
+            Borders::Off => borders_off(profile),
         }
     }
 
     // Whether a line of this kind stands at a place.
-    fn stands_at(self, place: u16, kind: u8) -> bool
-        ensures { λ r. ⌜ r ≡ standsAt self place kind ⌝ }
+    fn stands_at(self, profile: Profile, place: u16, kind: u8) -> bool
+        ensures { λ r. ⌜ r ≡ standsAt profile self place kind ⌝ }
     {
-        kind == self.kind_at(place).number()
+        kind == self.kind_at(profile, place).number()
+    }
+
+    // The kind of the line at a place.
+    fn kind_at(self, profile: Profile, place: u16) -> Kind
+        ensures { λ r. ⌜ r ≡ kindAt profile self place ⌝ }
+    {
+        self.layout(profile).kind_within(place)
     }
 
     // Whether a line of this kind is due at a place.
-    fn kind_due(self, place: u16, kind: u8) -> bool
-        ensures { λ r. ⌜ r ≡ kindDue self place kind ⌝ }
+    fn kind_due(self, profile: Profile, place: u16, kind: u8) -> bool
+        ensures { λ r. ⌜ r ≡ kindDue profile self place kind ⌝ }
     {
         match self {
             Borders::Unsettled => {
-                if Borders::On.stands_at(place, kind) {
+                if Borders::On.stands_at(profile, place, kind) {
                     return true;
                 }
-                Borders::Off.stands_at(place, kind)
+                Borders::Off.stands_at(profile, place, kind)
             }
-            Borders::On => self.stands_at(place, kind),
-            Borders::Off => self.stands_at(place, kind),
-        }
-    }
-
-    // The place of the EOF line.
-    fn end_place(self) -> u16
-        ensures { λ r. ⌜ r ≡ endPlace self ⌝ }
-    {
-        match self {
-            Borders::Unsettled => END_ON,
-            Borders::On => END_ON,
-            Borders::Off => END_OFF,
+            Borders::On => self.stands_at(profile, place, kind),
+            Borders::Off => self.stands_at(profile, place, kind),
         }
     }
 
     // Whether this number is due at a place: the place's own, or, after the EOF line, any.
-    fn number_due(self, place: u16, number: u16) -> bool
-        ensures { λ r. ⌜ r ≡ numberDue self place number ⌝ }
+    fn number_due(self, profile: Profile, place: u16, number: u16) -> bool
+        ensures { λ r. ⌜ r ≡ numberDue profile self place number ⌝ }
     {
         if number == place {
             return true;
         }
-        place > self.end_place()
+        let layout = self.layout(profile);
+        place > layout.end
     }
 
     // Whether this is the line due at a place.
-    fn line_due(self, place: u16, kind: u8, number: u16) -> bool
-        ensures { λ r. ⌜ r ≡ lineDue self place kind number ⌝ }
+    fn line_due(self, profile: Profile, place: u16, kind: u8, number: u16) -> bool
+        ensures { λ r. ⌜ r ≡ lineDue profile self place kind number ⌝ }
     {
-        if self.kind_due(place, kind) {
-            return self.number_due(place, number);
+        if self.kind_due(profile, place, kind) {
+            return self.number_due(profile, place, number);
         }
         false
     }
 
     // The borders after a line that was due.
-    fn settled(self, place: u16, kind: u8) -> Borders
-        ensures { λ r. ⌜ r ≡ settled self place kind ⌝ }
+    fn settled(self, profile: Profile, place: u16, kind: u8) -> Borders
+        ensures { λ r. ⌜ r ≡ settled profile self place kind ⌝ }
     {
         match self {
             Borders::Unsettled => {
-                if place < SETTLING_PLACE {
+                let on = borders_on(profile);
+                if place < on.from {
                     return Borders::Unsettled;
                 }
                 if kind == Kind::VL.number() {
@@ -214,11 +265,12 @@ impl Borders {
     }
 
     // A line that is due.
-    fn onward(self, place: u16, kind: u8) -> Judged
-        ensures { λ r. ⌜ r ≡ onward place self kind ⌝ }
+    fn onward(self, profile: Profile, place: u16, kind: u8) -> Judged
+        ensures { λ r. ⌜ r ≡ onward profile place self kind ⌝ }
     {
-        if place < LAST_PLACE {
-            let borders = self.settled(place, kind);
+        let on = borders_on(profile);
+        if place < on.last {
+            let borders = self.settled(profile, place, kind);
             return Judged {
                 judge: Judge::Due(place + 1, borders),
                 ruling: Ruling::Going,
@@ -229,28 +281,6 @@ impl Borders {
             ruling: Ruling::Complete,
         }
     }
-}
-
-// The kind at a place, by the first visible line and the EOF line.
-fn kind_within(visible: u16, end: u16, place: u16) -> Kind
-    ensures { λ r. ⌜ r ≡ kindWithin visible end place ⌝ }
-{
-    if place < FIRST_BLACK {
-        return Kind::SOF;
-    }
-    if place < FIRST_BLANK {
-        return Kind::BK;
-    }
-    if place < visible {
-        return Kind::BL;
-    }
-    if place < end {
-        return Kind::VL;
-    }
-    if place == end {
-        return Kind::EOF;
-    }
-    Kind::BL
 }
 
 // Whether a line opens a frame: an SOF numbered 0.
@@ -265,7 +295,7 @@ fn opens(kind: u8, number: u16) -> bool
 
 // A line while waiting.
 fn first(kind: u8, number: u16) -> Judged
-    ensures { λ r. ⌜ r ≡ whole Judge.Waiting kind number ⌝ }
+    ensures { λ r. ⌜ r ≡ first kind number ⌝ }
 {
     if opens(kind, number) {
         return Judged {

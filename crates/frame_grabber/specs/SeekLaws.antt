@@ -10,6 +10,7 @@ use lib.Dec.{eqb, leb}
 use lib.Seq.{length-take-le}
 use borrow.Author.Tests.{ne-eqb, leb-true}
 use Rattle.refusal.specs.Refusal.{noRoom}
+use Rattle.profile.specs.declared.Profile.the-variants.{VV5404}
 use Rattle.profile.specs.Profile.{longest}
 use Rattle.stream.specs.Answers.{Outcome}
 use Rattle.stream.specs.Answers as answers
@@ -188,10 +189,10 @@ either-sized false x y h g = g
 
 handed-sized : (g : Gatherer) (l : Shown) (held : List ℕ) → Sized (rows.handed g l held .output)
 unfolding rows.handed rows.onward rows.keepRow rows.completed rows.refusedBy
-handed-sized g l held = by (called (g .judge) (l .given) .ruling)
+handed-sized g l held = by (called VV5404 (g .judge) (l .given) .ruling)
   where
     j : Judge
-    j = called (g .judge) (l .given) .judge
+    j = called VV5404 (g .judge) (l .given) .judge
 
     by : (v : Ruling) → Sized (rows.byRuling g l held j v .output)
     by ruling.Waiting = tt

@@ -8,6 +8,7 @@ use lib.ListN.{length, take, drop}
 use Rattle.refusal.specs.Refusal.{noRoom}
 use Rattle.line_code.specs.declared.Kind.the-variants.{VL}
 use Rattle.line_code.specs.LineCode.{kindNumber}
+use Rattle.profile.specs.declared.Profile.the-variants.{VV5404}
 use Rattle.profile.specs.Profile.{longest}
 use Rattle.stream.specs.declared.Answer.{Answer}
 use Rattle.stream.specs.declared.Answer.the-variants as answer
@@ -127,7 +128,7 @@ byRuling s l buffer j ruling.Complete = completed s j buffer
 byRuling s l buffer j (ruling.Refused n) = refusedBy s j n buffer
 
 unfoldable pub handed : Gatherer → Shown → List ℕ → Outcome
-handed s l buffer = byRuling s l buffer (called (s .judge) (l .given) .judge) (called (s .judge) (l .given) .ruling)
+handed s l buffer = byRuling s l buffer (called VV5404 (s .judge) (l .given) .judge) (called VV5404 (s .judge) (l .given) .ruling)
 
 -- An answer.
 

@@ -15,6 +15,7 @@ use Rattle.bits.specs.Every.{and-left, and-right}
 use Rattle.line_code.specs.declared.Kind.{Kind}
 use Rattle.line_code.specs.declared.Kind.the-variants.{BL, SOF}
 use Rattle.line_code.specs.LineCode.{kindNumber}
+use Rattle.profile.specs.declared.Profile.the-variants.{VV5404}
 use Rattle.profile.specs.Profile.{longest}
 use Rattle.stream.specs.declared.Answer.{Answer}
 use Rattle.stream.specs.declared.Answer.the-variants as answer
@@ -24,7 +25,7 @@ use Rattle.frame.specs.declared.Judge.{Judge}
 use Rattle.frame.specs.declared.Judge.the-variants.{Waiting, Due}
 use Rattle.frame.specs.declared.Judged.{Judged}
 use Rattle.frame.specs.declared.Ruling.the-variants as ruling
-use Rattle.frame.specs.Frame.{layout, lastPlace, kindAt, standsAt, kindDue, opens, begun, brokenKind, passes, gives}
+use Rattle.frame.specs.Frame.{layout, kindsOf, lastPlace, kindAt, standsAt, kindDue, opens, begun, brokenKind, passes, gives}
 use Rattle.frame.specs.Calls.{Line, line, called, after, accepts, accepted, fits, laidFrom, IsFrame}
 use Rattle.bits.specs.Agree.{agree}
 use Rattle.frame.specs.FrameLaws.{frame-length, passes-high, after-snoc, accepted-snoc, opens-is, first-is, sof-within, IsDue, Effect, wrongKind, wrongNumber, waits, breaks, strays, starts, restarts, goes, ends, effect, reached-passes, complete-frame}
@@ -84,42 +85,42 @@ latest-snoc ls l t e = since-append [] ls (l ∷ []) ∙ ap (λ (x : Bool). cond
 
 -- an SOF stands at no place of a frame but the first
 abbrev sofAt : Borders → ℕ → Bool
-sofAt b place = eqb (kindNumber (kindAt b place)) (kindNumber SOF)
+sofAt b place = eqb (kindNumber (kindAt VV5404 b place)) (kindNumber SOF)
 
-sof-once : (b : Borders) (n : ℕ) → n < lastPlace → sofAt b (suc n) ≡ false
+sof-once : (b : Borders) (n : ℕ) → n < lastPlace VV5404 → sofAt b (suc n) ≡ false
 unfolding kindAt
-sof-once Unsettled = agree (λ (n : ℕ). sofAt Unsettled (suc n)) (λ (n : ℕ). false) lastPlace refl
-sof-once On = agree (λ (n : ℕ). sofAt On (suc n)) (λ (n : ℕ). false) lastPlace refl
-sof-once Off = agree (λ (n : ℕ). sofAt Off (suc n)) (λ (n : ℕ). false) lastPlace refl
+sof-once Unsettled = agree (λ (n : ℕ). sofAt Unsettled (suc n)) (λ (n : ℕ). false) (lastPlace VV5404) refl
+sof-once On = agree (λ (n : ℕ). sofAt On (suc n)) (λ (n : ℕ). false) (lastPlace VV5404) refl
+sof-once Off = agree (λ (n : ℕ). sofAt Off (suc n)) (λ (n : ℕ). false) (lastPlace VV5404) refl
 
-pub stands : (b : Borders) (place : ℕ) (l : Line) → fits b place l ≡ true → l .kind ≡ kindNumber (kindAt b place)
+pub stands : (b : Borders) (place : ℕ) (l : Line) → fits VV5404 b place l ≡ true → l .kind ≡ kindNumber (kindAt VV5404 b place)
 stands b place l h = eqb-true (l .kind) _ (and-left _ _ h)
 
-not-first : (b : Borders) (n : ℕ) (l : Shown) → n < lastPlace → fits b (suc n) (l .given) ≡ true → isFirst l ≡ false
+not-first : (b : Borders) (n : ℕ) (l : Shown) → n < lastPlace VV5404 → fits VV5404 b (suc n) (l .given) ≡ true → isFirst l ≡ false
 not-first b n l g h =
     ap (λ (k : ℕ). opens k (l .given .number)) (stands b (suc n) (l .given) h) ∙ ap (λ (t : Bool). t && eqb (l .given .number) 0) (sof-once b n g)
 
-since-laid : (b : Borders) (n : ℕ) (own ls : List Shown) → suc n + length (linesOf ls) ≤ lastPlace + 1 → laidFrom b (suc n) (linesOf ls) ≡ true → since own ls ≡ own ++ ls
+since-laid : (b : Borders) (n : ℕ) (own ls : List Shown) → suc n + length (linesOf ls) ≤ lastPlace VV5404 + 1 → laidFrom VV5404 b (suc n) (linesOf ls) ≡ true → since own ls ≡ own ++ ls
 since-laid b n own [] g h = sym (append-nil own)
 since-laid b n own (l ∷ ls) g h =
     ap (λ (t : Bool). since (cond t [] own ++ (l ∷ [])) ls) (not-first b n l (omega arith) (and-left _ _ h))
-    ∙ since-laid b (suc n) (own ++ (l ∷ [])) ls (omega arith) (and-right (fits b (suc n) (l .given)) _ h)
+    ∙ since-laid b (suc n) (own ++ (l ∷ [])) ls (omega arith) (and-right (fits VV5404 b (suc n) (l .given)) _ h)
     ∙ append-assoc own (l ∷ []) ls
 
 -- where lines end in a whole frame, that is the latest
-frame-latest : (b : Borders) (earlier frame : List Shown) → IsFrame b (linesOf frame) → latest (earlier ++ frame) ≡ frame
+frame-latest : (b : Borders) (earlier frame : List Shown) → IsFrame VV5404 b (linesOf frame) → latest (earlier ++ frame) ≡ frame
 frame-latest b earlier [] f = absurd (let e = f .0 in omega arith)
 frame-latest b earlier (l ∷ ls) f =
     since-append [] earlier (l ∷ ls)
-    ∙ ap (λ (t : Bool). since (cond t [] (latest earlier) ++ (l ∷ [])) ls) (ap (λ (x : Line). opens (x .kind) (x .number)) (first-is b (l .given) (and-left _ _ (f .1))))
-    ∙ since-laid b 0 (l ∷ []) ls (let e = f .0 in omega arith) (and-right (fits b 0 (l .given)) _ (f .1))
+    ∙ ap (λ (t : Bool). since (cond t [] (latest earlier) ++ (l ∷ [])) ls) (ap (λ (x : Line). opens (x .kind) (x .number)) (first-is VV5404 b (l .given) (and-left _ _ (f .1))))
+    ∙ since-laid b 0 (l ∷ []) ls (let e = f .0 in omega arith) (and-right (fits VV5404 b 0 (l .given)) _ (f .1))
 
 -- the last line of a frame is blank
-last-blank : (b : Borders) (k : ℕ) → kindDue b lastPlace k ≡ true → k ≡ kindNumber BL
+last-blank : (b : Borders) (k : ℕ) → kindDue VV5404 b (lastPlace VV5404) k ≡ true → k ≡ kindNumber BL
 unfolding kindAt
-last-blank Unsettled k h = by (standsAt On lastPlace k) (standsAt Off lastPlace k) refl refl h
+last-blank Unsettled k h = by (standsAt VV5404 On (lastPlace VV5404) k) (standsAt VV5404 Off (lastPlace VV5404) k) refl refl h
   where
-    by : (s t : Bool) → standsAt On lastPlace k ≡ s → standsAt Off lastPlace k ≡ t → (s || t) ≡ true → k ≡ kindNumber BL
+    by : (s t : Bool) → standsAt VV5404 On (lastPlace VV5404) k ≡ s → standsAt VV5404 Off (lastPlace VV5404) k ≡ t → (s || t) ≡ true → k ≡ kindNumber BL
     by true t e f g = eqb-true k _ e
     by false t e f g = eqb-true k _ (f ∙ g)
 last-blank On k h = eqb-true k _ h
@@ -161,22 +162,22 @@ abbrev visibleKinds : List Kind → ℕ
 visibleKinds [] = 0
 visibleKinds (k ∷ ks) = counted (isVisible (kindNumber k)) + visibleKinds ks
 
-laid-visibles : (b : Borders) (place : ℕ) (ls : List Line) → place + length ls ≡ lastPlace + 1 → laidFrom b place ls ≡ true → visibles ls ≡ visibleKinds (drop place (layout b))
+laid-visibles : (b : Borders) (place : ℕ) (ls : List Line) → place + length ls ≡ lastPlace VV5404 + 1 → laidFrom VV5404 b place ls ≡ true → visibles ls ≡ visibleKinds (drop place (kindsOf (layout VV5404 b)))
 unfolding kindAt
-laid-visibles b place [] e h = sym (ap visibleKinds (drop-of-length-le (layout b) {i = place} (omega (arith, frame-length b))))
+laid-visibles b place [] e h = sym (ap visibleKinds (drop-of-length-le (kindsOf (layout VV5404 b)) {i = place} (omega (arith, frame-length VV5404 b))))
 laid-visibles b place (l ∷ ls) e h =
-    let g : place < length (layout b) = omega (arith, frame-length b) in
+    let g : place < length (kindsOf (layout VV5404 b)) = omega (arith, frame-length VV5404 b) in
     ap (λ (k : ℕ). counted (isVisible k) + visibles ls) (stands b place l (and-left _ _ h))
-    ∙ ap (λ (m : ℕ). counted (isVisible (kindNumber (kindAt b place))) + m) (laid-visibles b (suc place) ls (omega arith) (and-right (fits b place l) _ h))
-    ∙ sym (ap visibleKinds (drop-cons (layout b) place BL g))
+    ∙ ap (λ (m : ℕ). counted (isVisible (kindNumber (kindAt VV5404 b place))) + m) (laid-visibles b (suc place) ls (omega arith) (and-right (fits VV5404 b place l) _ h))
+    ∙ sym (ap visibleKinds (drop-cons (kindsOf (layout VV5404 b)) place BL g))
 
-frame-visibles : (b : Borders) → visibleKinds (layout b) * longest ≡ size (pictureOf b)
+frame-visibles : (b : Borders) → visibleKinds (kindsOf (layout VV5404 b)) * longest ≡ size (pictureOf b)
 frame-visibles Unsettled = refl
 frame-visibles On = refl
 frame-visibles Off = refl
 
 -- 292 rows with borders on, 288 with borders off
-pub frame-size : (o : Order) (b : Borders) (frame : List Shown) → IsFrame b (linesOf frame) → Every Whole frame → length (rowsOf o frame) ≡ size (pictureOf b)
+pub frame-size : (o : Order) (b : Borders) (frame : List Shown) → IsFrame VV5404 b (linesOf frame) → Every Whole frame → length (rowsOf o frame) ≡ size (pictureOf b)
 frame-size o b frame f w =
     rows-length o frame w ∙ ap (λ (k : ℕ). k * longest) (laid-visibles b 0 (linesOf frame) (omega (arith, f .0)) (f .1)) ∙ frame-visibles b
 
@@ -200,8 +201,8 @@ Rows o ls (Due place b) kept buffer = (take kept buffer ≡ rowsOf o (latest ls)
 -- after the calls that took these lines
 pub record Holds (o : Order) (ls : List Shown) (x : Outcome) : Type 0 where
   pub order : x .gatherer .order ≡ o
-  pub judge : after Waiting (linesOf ls) ≡ x .gatherer .judge
-  pub heard : accepted Waiting (linesOf ls) ≡ linesOf ls
+  pub judge : after VV5404 Waiting (linesOf ls) ≡ x .gatherer .judge
+  pub heard : accepted VV5404 Waiting (linesOf ls) ≡ linesOf ls
   pub rows : Rows o ls (x .gatherer .judge) (x .gatherer .kept) (x .buffer)
   pub done : (n : ℕ) (rows : List ℕ) → x .output ≡ complete n rows → Completes o ls n rows
 
@@ -225,22 +226,22 @@ still o ls x out e h =
 
 module _ (o : Order) (ls : List Shown) (x : Outcome) (h : Holds o ls x) (l : Shown) where
   -- a line that the judge hears
-  heard-line : (r : Judged) → called (x .gatherer .judge) (l .given) ≡ r → accepts (r .ruling) ≡ true
-      → (after Waiting (linesOf (ls ++ (l ∷ []))) ≡ r .judge) × (accepted Waiting (linesOf (ls ++ (l ∷ []))) ≡ linesOf (ls ++ (l ∷ [])))
+  heard-line : (r : Judged) → called VV5404 (x .gatherer .judge) (l .given) ≡ r → accepts (r .ruling) ≡ true
+      → (after VV5404 Waiting (linesOf (ls ++ (l ∷ []))) ≡ r .judge) × (accepted VV5404 Waiting (linesOf (ls ++ (l ∷ []))) ≡ linesOf (ls ++ (l ∷ [])))
   heard-line r e a =
       let s : linesOf (ls ++ (l ∷ [])) ≡ linesOf ls ++ (l .given ∷ []) = lines-append ls (l ∷ []) in
-      let c : called (after Waiting (linesOf ls)) (l .given) ≡ r = ap (λ (j : Judge). called j (l .given)) (h .judge) ∙ e in (
-        ap (after Waiting) s ∙ after-snoc Waiting (linesOf ls) (l .given) ∙ ap (λ (t : Judged). t .judge) c,
-        ap (accepted Waiting) s
-            ∙ accepted-snoc Waiting (linesOf ls) (l .given)
-            ∙ ap (λ (t : Judged). accepted Waiting (linesOf ls) ++ cond (accepts (t .ruling)) (l .given ∷ []) []) c
-            ∙ ap (λ (t : Bool). accepted Waiting (linesOf ls) ++ cond t (l .given ∷ []) []) a
+      let c : called VV5404 (after VV5404 Waiting (linesOf ls)) (l .given) ≡ r = ap (λ (j : Judge). called VV5404 j (l .given)) (h .judge) ∙ e in (
+        ap (after VV5404 Waiting) s ∙ after-snoc VV5404 Waiting (linesOf ls) (l .given) ∙ ap (λ (t : Judged). t .judge) c,
+        ap (accepted VV5404 Waiting) s
+            ∙ accepted-snoc VV5404 Waiting (linesOf ls) (l .given)
+            ∙ ap (λ (t : Judged). accepted VV5404 Waiting (linesOf ls) ++ cond (accepts (t .ruling)) (l .given ∷ []) []) c
+            ∙ ap (λ (t : Bool). accepted VV5404 Waiting (linesOf ls) ++ cond t (l .given ∷ []) []) a
             ∙ ap (λ (t : List Line). t ++ (l .given ∷ [])) (h .heard)
             ∙ sym s,
       )
 
   -- it leaves this judge, these bytes of rows and this buffer, and nothing is said of rows
-  takes : (r : Judged) (kept : ℕ) (buffer : List ℕ) → called (x .gatherer .judge) (l .given) ≡ r → accepts (r .ruling) ≡ true
+  takes : (r : Judged) (kept : ℕ) (buffer : List ℕ) → called VV5404 (x .gatherer .judge) (l .given) ≡ r → accepts (r .ruling) ≡ true
       → Rows o (ls ++ (l ∷ [])) (r .judge) kept buffer → Holds o (ls ++ (l ∷ [])) (quiet (moved (x .gatherer) (r .judge) kept) buffer)
   takes r kept buffer e a rows =
       record {
@@ -282,28 +283,28 @@ module _ (o : Order) (ls : List Shown) (x : Outcome) (h : Holds o ls x) (l : Sho
 
   -- A line while the judge is in a frame.
 
-  passing : passes (x .gatherer .judge) ≡ true
-  passing = sym (ap passes (h .judge)) ∙ reached-passes (linesOf ls)
+  passing : passes VV5404 (x .gatherer .judge) ≡ true
+  passing = sym (ap (passes VV5404) (h .judge)) ∙ reached-passes VV5404 (linesOf ls)
 
   kept-rows : (place : ℕ) (b : Borders) → x .gatherer .judge ≡ Due place b → Rows o ls (Due place b) (x .gatherer .kept) (x .buffer)
   kept-rows place b q = subst (λ (j : Judge). Rows o ls j (x .gatherer .kept) (x .buffer)) q (h .rows)
 
   -- a line that breaks no frame is no SOF numbered 0
-  not-first-within : (place : ℕ) (b : Borders) (r : Judged) → x .gatherer .judge ≡ Due place b → called (x .gatherer .judge) (l .given) ≡ r → isBreak (r .ruling) ≡ false → isFirst l ≡ false
+  not-first-within : (place : ℕ) (b : Borders) (r : Judged) → x .gatherer .judge ≡ Due place b → called VV5404 (x .gatherer .judge) (l .given) ≡ r → isBreak (r .ruling) ≡ false → isFirst l ≡ false
   not-first-within place b r q c e = by (isFirst l) refl
     where
       by : (t : Bool) → isFirst l ≡ t → isFirst l ≡ false
       by false f = f
       by true f =
           absurd (true≢false
-          (sym (ap (λ (t : Judged). isBreak (t .ruling)) (sof-within place b (sym (ap passes q) ∙ passing)))
-          ∙ sym (ap (λ (y : Line). isBreak (called (Due place b) y .ruling)) (opens-is (l .given) f))
-          ∙ sym (ap (λ (j : Judge). isBreak (called j (l .given) .ruling)) q)
+          (sym (ap (λ (t : Judged). isBreak (t .ruling)) (sof-within VV5404 place b (sym (ap (passes VV5404) q) ∙ passing)))
+          ∙ sym (ap (λ (y : Line). isBreak (called VV5404 (Due place b) y .ruling)) (opens-is (l .given) f))
+          ∙ sym (ap (λ (j : Judge). isBreak (called VV5404 j (l .given) .ruling)) q)
           ∙ ap (λ (t : Judged). isBreak (t .ruling)) c
           ∙ e))
 
   -- a line that was due, and not the last
-  going : (place p : ℕ) (b c : Borders) → x .gatherer .judge ≡ Due place b → called (x .gatherer .judge) (l .given) ≡ gives (Due p c) ruling.Going
+  going : (place p : ℕ) (b c : Borders) → x .gatherer .judge ≡ Due place b → called VV5404 (x .gatherer .judge) (l .given) ≡ gives (Due p c) ruling.Going
       → let y : Outcome = onward (x .gatherer) (Due p c) (l .given .kind) (l .body) (x .buffer) in Holds o (ls ++ unlessRefused (y .output) (l ∷ [])) y
   unfolding onward keepRow
   going place p b c q e = by (isVisible (l .given .kind)) refl
@@ -354,8 +355,8 @@ module _ (o : Order) (ls : List Shown) (x : Outcome) (h : Holds o ls x) (l : Sho
       by false v = takes r (s .kept) (x .buffer) e refl (kept .0 ∙ sym (rows-unseen later v), kept .1, whole-later later (kept .2) (whole-unseen v))
 
   -- a frame's last line
-  ending : (place : ℕ) (b : Borders) → x .gatherer .judge ≡ Due place b → IsDue b place (l .given) → lastPlace ≤ place
-      → called (x .gatherer .judge) (l .given) ≡ gives Waiting ruling.Complete
+  ending : (place : ℕ) (b : Borders) → x .gatherer .judge ≡ Due place b → IsDue VV5404 b place (l .given) → lastPlace VV5404 ≤ place
+      → called VV5404 (x .gatherer .judge) (l .given) ≡ gives Waiting ruling.Complete
       → let y : Outcome = completed (x .gatherer) Waiting (x .buffer) in Holds o (ls ++ unlessRefused (y .output) (l ∷ [])) y
   unfolding completed
   ending place b q d g e = by (leb (s .kept) (length (x .buffer))) refl
@@ -372,7 +373,7 @@ module _ (o : Order) (ls : List Shown) (x : Outcome) (h : Holds o ls x) (l : Sho
       blank : l .given .kind ≡ kindNumber BL
       blank =
           last-blank b (l .given .kind)
-          (subst (λ (n : ℕ). kindDue b n (l .given .kind) ≡ true) (omega (arith, passes-high place b (sym (ap passes q) ∙ passing))) (and-left _ _ (d .0)))
+          (subst (λ (n : ℕ). kindDue VV5404 b n (l .given .kind) ≡ true) (omega (arith, passes-high VV5404 place b (sym (ap (passes VV5404) q) ∙ passing))) (and-left _ _ (d .0)))
 
       unseen : isVisible (l .given .kind) ≡ false
       unseen = ap isVisible blank
@@ -382,10 +383,10 @@ module _ (o : Order) (ls : List Shown) (x : Outcome) (h : Holds o ls x) (l : Sho
 
       done : Completes o (ls ++ (l ∷ [])) (s .kept) (take (s .kept) (x .buffer))
       done =
-          let c = complete-frame (linesOf ls) (l .given) (ap (λ (j : Judge). called j (l .given) .ruling) (h .judge) ∙ ap (λ (t : Judged). t .ruling) e) in
-          let a : linesOf (ls ++ (l ∷ [])) ≡ c .1 ++ c .2 = sym (heard-line r e refl .1) ∙ ap (accepted Waiting) (lines-append ls (l ∷ [])) ∙ c .3 in
+          let c = complete-frame VV5404 (linesOf ls) (l .given) (ap (λ (j : Judge). called VV5404 j (l .given) .ruling) (h .judge) ∙ ap (λ (t : Judged). t .ruling) e) in
+          let a : linesOf (ls ++ (l ∷ [])) ≡ c .1 ++ c .2 = sym (heard-line r e refl .1) ∙ ap (accepted VV5404 Waiting) (lines-append ls (l ∷ [])) ∙ c .3 in
           let t = split (ls ++ (l ∷ [])) (c .1) (c .2) a in
-          let f : IsFrame (c .0) (linesOf (t .back)) = subst (IsFrame (c .0)) (sym (t .back-lines)) (c .4) in
+          let f : IsFrame VV5404 (c .0) (linesOf (t .back)) = subst (IsFrame VV5404 (c .0)) (sym (t .back-lines)) (c .4) in
           let m : latest (ls ++ (l ∷ [])) ≡ t .back = ap latest (t .joined) ∙ frame-latest (c .0) (t .front) (t .back) f in
           let w : take (s .kept) (x .buffer) ≡ rowsOf o (t .back) = kept .0 ∙ sym (rows-unseen later unseen) ∙ ap (rowsOf o) m in
           let v : Every Whole (t .back) = subst (Every Whole) m (whole-later later (kept .2) (whole-unseen unseen)) in
@@ -415,9 +416,9 @@ module _ (o : Order) (ls : List Shown) (x : Outcome) (h : Holds o ls x) (l : Sho
   -- any line
   holds-line : let y : Outcome = handed (x .gatherer) l (x .buffer) in Holds o (ls ++ unlessRefused (y .output) (l ∷ [])) y
   unfolding handed refusedBy onward
-  holds-line = by (called (x .gatherer .judge) (l .given)) (effect (x .gatherer .judge) (l .given) passing) refl
+  holds-line = by (called VV5404 (x .gatherer .judge) (l .given)) (effect VV5404 (x .gatherer .judge) (l .given) passing) refl
     where
-      by : (r : Judged) → Effect (x .gatherer .judge) (l .given) r → called (x .gatherer .judge) (l .given) ≡ r
+      by : (r : Judged) → Effect VV5404 (x .gatherer .judge) (l .given) r → called VV5404 (x .gatherer .judge) (l .given) ≡ r
           → let y : Outcome = byRuling (x .gatherer) l (x .buffer) (r .judge) (r .ruling) in Holds o (ls ++ unlessRefused (y .output) (l ∷ [])) y
       by _ wrongKind e = still o ls x (refused badKind) refl h
       by _ wrongNumber e = still o ls x (refused numberTooLarge) refl h

@@ -76,7 +76,7 @@ pub record Completes (o : Order) (ls : List Shown) (n : ℕ) (rows : List ℕ) :
   pub earlier : List Shown
   pub frame : List Shown
   pub ends : ls ≡ earlier ++ frame
-  pub whole : IsFrame borders (linesOf frame)
+  pub whole : IsFrame VV5404 borders (linesOf frame)
   pub shows : rows ≡ rowsOf o frame
   pub sized : length rows ≡ size (pictureOf borders)
   pub used : n ≡ length rows

@@ -9,6 +9,7 @@ use lib.ListN.{length, take, drop, length-append}
 use Rattle.bits.specs.Every.{and-left, and-right}
 use Rattle.line_code.specs.declared.Kind.the-variants.{SOF}
 use Rattle.line_code.specs.LineCode.{kindNumber}
+use Rattle.profile.specs.declared.Profile.the-variants.{VV5404}
 use Rattle.profile.specs.Profile.{longest}
 use Rattle.frame.specs.declared.Borders.{Borders}
 use Rattle.frame.specs.declared.Borders.the-variants.{Unsettled, On, Off}
@@ -40,9 +41,9 @@ brings x g l e = by (shown (handedOver (g .answer)) (g .held)) (call x g) (hands
 -- Lines that are due.
 
 module _ (s : Gatherer) (l : Shown) (buffer : List ℕ) where
-  judged : (v : Ruling) → called (s .judge) (l .given) .ruling ≡ v → handed s l buffer ≡ byRuling s l buffer (called (s .judge) (l .given) .judge) v
+  judged : (v : Ruling) → called VV5404 (s .judge) (l .given) .ruling ≡ v → handed s l buffer ≡ byRuling s l buffer (called VV5404 (s .judge) (l .given) .judge) v
   unfolding handed
-  judged v e = ap (byRuling s l buffer (called (s .judge) (l .given) .judge)) e
+  judged v e = ap (byRuling s l buffer (called VV5404 (s .judge) (l .given) .judge)) e
 
   seen : (j : Judge) → isVisible (l .given .kind) ≡ true → length (l .body) ≡ longest → s .kept + longest ≤ length buffer
       → onward s j (l .given .kind) (l .body) buffer
@@ -54,17 +55,17 @@ module _ (s : Gatherer) (l : Shown) (buffer : List ℕ) where
   unfolding onward
   unseen j v = simp v
 
-  shows : called (s .judge) (l .given) .ruling ≡ ruling.Complete → s .kept ≤ length buffer → handed s l buffer .output ≡ complete (s .kept) (take (s .kept) buffer)
+  shows : called VV5404 (s .judge) (l .given) .ruling ≡ ruling.Complete → s .kept ≤ length buffer → handed s l buffer .output ≡ complete (s .kept) (take (s .kept) buffer)
   unfolding completed
   shows e g = ap (λ (y : Outcome). y .output) (judged ruling.Complete e) ∙ simp (le-leb _ _ g)
 
 -- The rest of a frame, up to its last line.
 
-going-on : (v : Ruling) (j : Judge) (ls : List Shown) (l : Shown) (m : ℕ) → v ∷ rulings j (linesOf (ls ++ (l ∷ []))) ≡ toComplete m
-    → (v ≡ ruling.Going) × (k : ℕ) × (rulings j (linesOf (ls ++ (l ∷ []))) ≡ toComplete k)
+going-on : (v : Ruling) (j : Judge) (ls : List Shown) (l : Shown) (m : ℕ) → v ∷ rulings VV5404 j (linesOf (ls ++ (l ∷ []))) ≡ toComplete m
+    → (v ≡ ruling.Going) × (k : ℕ) × (rulings VV5404 j (linesOf (ls ++ (l ∷ []))) ≡ toComplete k)
 going-on v j [] l zero e = absurd (let z : _≡_ {A = ℕ} 2 1 = ap length e in omega arith)
 going-on v j (a ∷ ls) l zero e =
-    absurd (let z : _≡_ {A = ℕ} (suc (suc (length (rulings (called j (a .given) .judge) (linesOf (ls ++ (l ∷ []))))))) 1 = ap length e in omega arith)
+    absurd (let z : _≡_ {A = ℕ} (suc (suc (length (rulings VV5404 (called VV5404 j (a .given) .judge) (linesOf (ls ++ (l ∷ []))))))) 1 = ap length e in omega arith)
 going-on v j ls l (suc m) e = (head-eq-of-cons-eq e, m, tail-eq-of-cons-eq e)
 
 only : (v : Ruling) (m : ℕ) → v ∷ [] ≡ toComplete m → v ≡ ruling.Complete
@@ -80,7 +81,7 @@ Said o ls x y = y .output ≡ complete (x .gatherer .kept + length (rowsOf o ls)
 record Ready (o : Order) (ls : List Shown) (l : Shown) (x : Outcome) : Type 0 where
   order : x .gatherer .order ≡ o
   count : ℕ
-  due : rulings (x .gatherer .judge) (linesOf (ls ++ (l ∷ []))) ≡ toComplete count
+  due : rulings VV5404 (x .gatherer .judge) (linesOf (ls ++ (l ∷ []))) ≡ toComplete count
   whole : Every Whole ls
   room : x .gatherer .kept + length (rowsOf o ls) ≤ length (x .buffer)
 
@@ -93,10 +94,10 @@ after-line o a ls l x f r rest = by (isVisible (a .given .kind)) refl
     s = x .gatherer
 
     j : Judge
-    j = called (s .judge) (a .given) .judge
+    j = called VV5404 (s .judge) (a .given) .judge
 
-    d : (called (s .judge) (a .given) .ruling ≡ ruling.Going) × (k : ℕ) × (rulings j (linesOf (ls ++ (l ∷ []))) ≡ toComplete k)
-    d = going-on (called (s .judge) (a .given) .ruling) j ls l (r .count) (r .due)
+    d : (called VV5404 (s .judge) (a .given) .ruling ≡ ruling.Going) × (k : ℕ) × (rulings VV5404 j (linesOf (ls ++ (l ∷ []))) ≡ toComplete k)
+    d = going-on (called VV5404 (s .judge) (a .given) .ruling) j ls l (r .count) (r .due)
 
     n : ℕ
     n = length (rowsOf o ls)
@@ -143,7 +144,7 @@ rest-shown : (o : Order) (gs : List Given) (g : Given) (l : Shown) (x : Outcome)
     → Ready o (shownAll gs) l x → Said o (shownAll gs) x (calls x (gs ++ (g ∷ [])))
 rest-shown o [] g l x e r =
     ap (λ (y : Outcome). y .output) (brings x g l e)
-    ∙ shows (x .gatherer) l (x .buffer) (only (called (x .gatherer .judge) (l .given) .ruling) (r .count) (r .due)) (omega (arith, r .room))
+    ∙ shows (x .gatherer) l (x .buffer) (only (called VV5404 (x .gatherer .judge) (l .given) .ruling) (r .count) (r .due)) (omega (arith, r .room))
     ∙ ap (λ (k : ℕ). complete k (take (x .gatherer .kept) (x .buffer))) (omega arith)
     ∙ ap (complete (x .gatherer .kept + 0)) (sym (append-nil (take (x .gatherer .kept) (x .buffer))))
 rest-shown o (a ∷ gs) g l x e r = by (shown (handedOver (a .answer)) (a .held)) (call x a) (hands x a) r (λ y. rest-shown o gs g l y e)
@@ -160,40 +161,40 @@ rest-shown o (a ∷ gs) g l x e r = by (shown (handedOver (a .answer)) (a .held)
 abbrev Clear : Gatherer → Type 0
 Clear s = s .judge ≡ Waiting → s .kept ≡ 0
 
-opened : (s : Gatherer) (l : Shown) (buffer : List ℕ) → passes (s .judge) ≡ true → Clear s → l .given ≡ line (kindNumber SOF) 0
+opened : (s : Gatherer) (l : Shown) (buffer : List ℕ) → passes VV5404 (s .judge) ≡ true → Clear s → l .given ≡ line (kindNumber SOF) 0
     → handed s l buffer ≡ quiet (moved s begun 0) buffer
 unfolding handed onward refusedBy judgeOf
 opened s l buffer p c e = by (s .judge) refl p
   where
     at : Judge → Line → Outcome
-    at j k = byRuling s (record { given = k; body = l .body }) buffer (called j k .judge) (called j k .ruling)
+    at j k = byRuling s (record { given = k; body = l .body }) buffer (called VV5404 j k .judge) (called VV5404 j k .ruling)
 
-    by : (j : Judge) → s .judge ≡ j → passes j ≡ true → handed s l buffer ≡ quiet (moved s begun 0) buffer
+    by : (j : Judge) → s .judge ≡ j → passes VV5404 j ≡ true → handed s l buffer ≡ quiet (moved s begun 0) buffer
     by Waiting q h = ap (λ (j : Judge). at j (l .given)) q ∙ ap (at Waiting) e ∙ ap (λ (n : ℕ). quiet (moved s begun n) buffer) (c q)
     by (Due place b) q h =
         ap (λ (j : Judge). at j (l .given)) q
         ∙ ap (at (Due place b)) e
-        ∙ ap (λ (r : Judged). byRuling s (record { given = line (kindNumber SOF) 0; body = l .body }) buffer (r .judge) (r .ruling)) (sof-within place b h)
+        ∙ ap (λ (r : Judged). byRuling s (record { given = line (kindNumber SOF) 0; body = l .body }) buffer (r .judge) (r .ruling)) (sof-within VV5404 place b h)
 
 -- A whole frame.
 
-laid-last : (b : Borders) (place : ℕ) (ls : List Shown) (l : Shown) → laidFrom b place (linesOf (ls ++ (l ∷ []))) ≡ true → place + length (linesOf (ls ++ (l ∷ []))) ≡ lastPlace + 1
-    → fits b lastPlace (l .given) ≡ true
-laid-last b place [] l h e = subst (λ (n : ℕ). fits b n (l .given) ≡ true) (omega arith) (and-left _ _ h)
-laid-last b place (a ∷ ls) l h e = laid-last b (suc place) ls l (and-right (fits b place (a .given)) _ h) (omega arith)
+laid-last : (b : Borders) (place : ℕ) (ls : List Shown) (l : Shown) → laidFrom VV5404 b place (linesOf (ls ++ (l ∷ []))) ≡ true → place + length (linesOf (ls ++ (l ∷ []))) ≡ lastPlace VV5404 + 1
+    → fits VV5404 b (lastPlace VV5404) (l .given) ≡ true
+laid-last b place [] l h e = subst (λ (n : ℕ). fits VV5404 b n (l .given) ≡ true) (omega arith) (and-left _ _ h)
+laid-last b place (a ∷ ls) l h e = laid-last b (suc place) ls l (and-right (fits VV5404 b place (a .given)) _ h) (omega arith)
 
-last-unseen : (b : Borders) (l : Shown) → fits b lastPlace (l .given) ≡ true → isVisible (l .given .kind) ≡ false
+last-unseen : (b : Borders) (l : Shown) → fits VV5404 b (lastPlace VV5404) (l .given) ≡ true → isVisible (l .given .kind) ≡ false
 unfolding kindAt
-last-unseen Unsettled l h = ap isVisible (stands Unsettled lastPlace (l .given) h)
-last-unseen On l h = ap isVisible (stands On lastPlace (l .given) h)
-last-unseen Off l h = ap isVisible (stands Off lastPlace (l .given) h)
+last-unseen Unsettled l h = ap isVisible (stands Unsettled (lastPlace VV5404) (l .given) h)
+last-unseen On l h = ap isVisible (stands On (lastPlace VV5404) (l .given) h)
+last-unseen Off l h = ap isVisible (stands Off (lastPlace VV5404) (l .given) h)
 
 -- these lines and a last one are a frame's, and there is room for its rows
 record Arrives (o : Order) (b : Borders) (ls : List Shown) (l : Shown) (x : Outcome) : Type 0 where
   order : x .gatherer .order ≡ o
-  passing : passes (x .gatherer .judge) ≡ true
+  passing : passes VV5404 (x .gatherer .judge) ≡ true
   clear : Clear (x .gatherer)
-  frame : IsFrame b (linesOf (ls ++ (l ∷ [])))
+  frame : IsFrame VV5404 b (linesOf (ls ++ (l ∷ [])))
   whole : Every Whole ls
   room : size (pictureOf b) ≤ length (x .buffer)
 
@@ -205,7 +206,7 @@ first-line : (o : Order) (b : Borders) (a : Shown) (ls : List Shown) (l : Shown)
 unfolding judgeOf
 first-line o b a ls l x f r rest =
     let s : Gatherer = x .gatherer in
-    let i : a .given ≡ line (kindNumber SOF) 0 = first-is b (a .given) (and-left _ _ (r .frame .1)) in
+    let i : a .given ≡ line (kindNumber SOF) 0 = first-is VV5404 b (a .given) (and-left _ _ (r .frame .1)) in
     let u : isVisible (l .given .kind) ≡ false = last-unseen b l (laid-last b 0 (a ∷ ls) l (r .frame .1) (omega (arith, r .frame .0))) in
     let v : isVisible (a .given .kind) ≡ false = ap (λ (k : Line). isVisible (k .kind)) i in
     let w : Every Whole ((a ∷ ls) ++ (l ∷ [])) = every-snoc Whole (a ∷ ls) l (r .whole) (λ t. absurd (true≢false (sym t ∙ u))) in
@@ -215,11 +216,11 @@ first-line o b a ls l x f r rest =
     ∙ ap (λ (t : Bool). rowsOf o ls ++ (cond t (pixelsOf o (l .body)) [] ++ [])) u
     ∙ append-nil (rowsOf o ls) in
     let n : length (rowsOf o ls) ≡ size (pictureOf b) = sym (ap length m) ∙ frame-size o b ((a ∷ ls) ++ (l ∷ [])) (r .frame) w in
-    let d : rulings begun (linesOf (ls ++ (l ∷ []))) ≡ toComplete (lastPlace - 1) =
-    ap (λ (k : Line). rulings (called Waiting k .judge) (linesOf (ls ++ (l ∷ [])))) (sym i)
-    ∙ tail-eq-of-cons-eq (frame-complete b (linesOf ((a ∷ ls) ++ (l ∷ []))) (r .frame) .0) in
+    let d : rulings VV5404 begun (linesOf (ls ++ (l ∷ []))) ≡ toComplete (lastPlace VV5404 - 1) =
+    ap (λ (k : Line). rulings VV5404 (called VV5404 Waiting k .judge) (linesOf (ls ++ (l ∷ [])))) (sym i)
+    ∙ tail-eq-of-cons-eq (frame-complete VV5404 b (linesOf ((a ∷ ls) ++ (l ∷ []))) (r .frame) .0) in
     let y : Outcome = quiet (moved s begun 0) (x .buffer) in
-    let q : Ready o ls l y = record { order = r .order; count = lastPlace - 1; due = d; whole = r .whole .1; room = omega (arith, n, r .room) } in
+    let q : Ready o ls l y = record { order = r .order; count = lastPlace VV5404 - 1; due = d; whole = r .whole .1; room = omega (arith, n, r .room) } in
     ap (λ (z : Outcome). f z .output) (opened s a (x .buffer) (r .passing) (r .clear) i)
     ∙ rest y q
     ∙ ap (λ (k : ℕ). complete k (rowsOf o ls)) (omega (arith, n))
@@ -244,7 +245,7 @@ clear-rows o ls x h q = subst (λ (j : Judge). Rows o ls j (x .gatherer .kept) (
 -- after any calls, `before`: where the calls from there on hand over exactly the lines of a frame, the last of them with the last call, each
 -- visible body fills a row, and the buffer has room for the picture, the last call says complete, with the frame's rows
 pub frame-shown : (o : Order) (buffer : List ℕ) (before gs : List Given) (g : Given) (l : Shown) (b : Borders)
-    → shown (handedOver (g .answer)) (g .held) ≡ l ∷ [] → IsFrame b (linesOf (shownAll gs ++ (l ∷ []))) → Every Whole (shownAll gs)
+    → shown (handedOver (g .answer)) (g .held) ≡ l ∷ [] → IsFrame VV5404 b (linesOf (shownAll gs ++ (l ∷ []))) → Every Whole (shownAll gs)
     → size (pictureOf b) ≤ length (calls (start o buffer) before .buffer)
     → calls (calls (start o buffer) before) (gs ++ (g ∷ [])) .output ≡ complete (size (pictureOf b)) (rowsOf o (shownAll gs ++ (l ∷ [])))
 frame-shown o buffer before gs g l b e f w room =
@@ -253,7 +254,7 @@ frame-shown o buffer before gs g l b e f w room =
     arrives-shown o b gs g l x e
     (record {
       order = h .order;
-      passing = sym (ap passes (h .judge)) ∙ reached-passes (linesOf (taken (start o buffer) before));
+      passing = sym (ap (passes VV5404) (h .judge)) ∙ reached-passes VV5404 (linesOf (taken (start o buffer) before));
       clear = clear-rows o (taken (start o buffer) before) x h;
       frame = f;
       whole = w;

@@ -84,7 +84,7 @@ impl Gatherer {
         ensures { λ r. ⌜ Gives (handed self (shownAs kind number (now (line .entry))) (now (rows .entry))) r (now (rows .exit)) ⌝ }
     {
         let before = self.judge;
-        let judged = before.line(kind, number);
+        let judged = before.line(Profile::VV5404, kind, number);
         let judge = judged.judge;
         let ruling = judged.ruling;
         match ruling {

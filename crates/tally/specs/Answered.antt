@@ -3,6 +3,7 @@ use mathlib.Core.Bool.{Bool, true, false, _||_, cond}
 use mathlib.Core.List.{List, [], _∷_, _++_}
 use Prim.Native.Nat.{ℕ}
 use Rattle.line_code.specs.LineCode.{kindNumber}
+use Rattle.profile.specs.declared.Profile.{Profile}
 use Rattle.stream.specs.declared.GapFacts.{GapFacts}
 use Rattle.stream.specs.declared.LineFacts.{LineFacts}
 use Rattle.stream.specs.declared.Answer.{Answer}
@@ -33,11 +34,11 @@ withMark n (answer.Gap g) = oneMore n
 withMark n (answer.Refused r) = oneMore n
 
 -- a whole capture: its answers, and finish's
-abbrev pub captureTally : List Answer → Answer → Tally
-captureTally w last = closeOf (tallied freshTally w) last .tally
+abbrev pub captureTally : Profile → List Answer → Answer → Tally
+captureTally p w last = closeOf (tallied (freshTally p) w) last .tally
 
-abbrev pub captureNews : List Answer → Answer → List News
-captureNews w last = newsOf freshTally w ++ (closeOf (tallied freshTally w) last .news ∷ [])
+abbrev pub captureNews : Profile → List Answer → Answer → List News
+captureNews p w last = newsOf (freshTally p) w ++ (closeOf (tallied (freshTally p) w) last .news ∷ [])
 
 -- one of the news is of a complete frame; of a broken one
 abbrev pub saysComplete : News → Bool

@@ -4,6 +4,7 @@ use Prim.Native.Nat.{ℕ, _+_}
 use lib.Dec.{eqb, ltb}
 use Rattle.refusal.specs.Refusal.{damagedCode, unfinishedLine, noEndOfLine, notTheLineDue, brokenLine}
 use Rattle.line_code.specs.LineCode.{kindNumber}
+use Rattle.profile.specs.declared.Profile.{Profile}
 use Rattle.stream.specs.declared.Answer.{Answer}
 use Rattle.stream.specs.declared.Answer.the-variants as answer
 use Rattle.frame.specs.declared.Borders.{Borders}
@@ -28,12 +29,12 @@ unfoldable pub oneMore : ℕ → ℕ
 oneMore n = cond (ltb n countStop) (n + 1) n
 
 -- a fresh judge, and nothing counted
-abbrev pub freshTally : Tally
-freshTally = record { judge = Waiting; marks = 0; frames = 0; complete = 0; broken = 0 }
+abbrev pub freshTally : Profile → Tally
+freshTally p = record { profile = p; judge = Waiting; marks = 0; frames = 0; complete = 0; broken = 0 }
 
 -- one mark more
 abbrev pub marked : Tally → Tally
-marked t = record { judge = t .judge; marks = oneMore (t .marks); frames = t .frames; complete = t .complete; broken = t .broken }
+marked t = record { profile = t .profile; judge = t .judge; marks = oneMore (t .marks); frames = t .frames; complete = t .complete; broken = t .broken }
 
 -- the frames that opened: one more where the judge waited before and is within a frame afterwards
 abbrev pub opening : Judge → Judge → ℕ → ℕ
@@ -44,7 +45,7 @@ opening (Due place b) j n = n
 -- the judge afterwards; a frame that opens is counted
 abbrev pub moved : Tally → Judge → Judge → Tally
 moved t before j =
-    record { judge = j; marks = t .marks; frames = opening before j (t .frames); complete = t .complete; broken = t .broken }
+    record { profile = t .profile; judge = j; marks = t .marks; frames = opening before j (t .frames); complete = t .complete; broken = t .broken }
 
 -- What the judge's ruling tells.
 
@@ -60,7 +61,7 @@ bordersOf (Due place b) = b
 abbrev pub completed : Tally → Judge → Told
 completed t j =
     record {
-      tally = record { judge = j; marks = t .marks; frames = t .frames; complete = oneMore (t .complete); broken = t .broken };
+      tally = record { profile = t .profile; judge = j; marks = t .marks; frames = t .frames; complete = oneMore (t .complete); broken = t .broken };
       news = Complete (t .frames) (bordersOf (t .judge)) (t .marks);
     }
 
@@ -68,7 +69,7 @@ completed t j =
 abbrev pub brokenBy : Tally → Judge → ℕ → ℕ → Told
 brokenBy t j refusal own =
     record {
-      tally = record { judge = j; marks = t .marks; frames = opening Waiting j (t .frames); complete = t .complete; broken = oneMore (t .broken) };
+      tally = record { profile = t .profile; judge = j; marks = t .marks; frames = opening Waiting j (t .frames); complete = t .complete; broken = oneMore (t .broken) };
       news = Broken (t .frames) (t .marks) refusal own;
     }
 
@@ -87,7 +88,7 @@ told t own j (ruling.Refused refusal) = refusedBy t j refusal own
 
 -- a line's kind number and number, or kind 0, handed to the judge; and the mark's own answer, 0 for a line
 unfoldable pub handed : Tally → ℕ → ℕ → ℕ → Told
-handed t k n own = told t own (judgeOf (t .judge) k n .judge) (judgeOf (t .judge) k n .ruling)
+handed t k n own = told t own (judgeOf (t .profile) (t .judge) k n .judge) (judgeOf (t .profile) (t .judge) k n .ruling)
 
 -- An answer.
 

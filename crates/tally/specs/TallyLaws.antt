@@ -6,10 +6,11 @@ use mathlib.Core.List.{List, [], _∷_, _++_}
 use Prim.Native.Nat.{ℕ, zero, suc, _+_}
 use native.Mathlib.Omega.{arith}
 use lib.Dec.{eqb, ltb}
-use lib.ListN.{replicate}
 use borrow.Author.Tests.{lt-ltb, ltb-false, ne-eqb}
 use Rattle.refusal.specs.Refusal.{unfinishedLine}
 use Rattle.line_code.specs.LineCode.{kindNumber}
+use Rattle.profile.specs.declared.Profile.{Profile}
+use Rattle.profile.specs.declared.Profile.the-variants.{VV5404, VV5300}
 use Rattle.stream.specs.declared.Answer.{Answer}
 use Rattle.stream.specs.declared.Answer.the-variants as answer
 use Rattle.frame.specs.declared.Borders.{Borders}
@@ -19,7 +20,7 @@ use Rattle.frame.specs.declared.Ruling.{Ruling}
 use Rattle.frame.specs.declared.Ruling.the-variants as ruling
 use Rattle.frame.specs.Frame.{lastPlace, brokenKind, judgeOf}
 use Rattle.frame.specs.Calls.{Line, line, called, after, rulings, IsFrame}
-use Rattle.frame.specs.FrameLaws.{frame-complete}
+use Rattle.frame.specs.FrameLaws.{toComplete, frame-complete}
 use Rattle.tally.specs.declared.Tally.{Tally}
 use Rattle.tally.specs.declared.Told.{Told}
 use Rattle.tally.specs.declared.News.{News}
@@ -42,7 +43,7 @@ told-marks t own j (ruling.Refused refusal) = either (breaksFrame refusal)
 
 handed-marks : (t : Tally) (k n own : ℕ) → handed t k n own .tally .marks ≡ t .marks
 unfolding handed
-handed-marks t k n own = told-marks t own (judgeOf (t .judge) k n .judge) (judgeOf (t .judge) k n .ruling)
+handed-marks t k n own = told-marks t own (judgeOf (t .profile) (t .judge) k n .judge) (judgeOf (t .profile) (t .judge) k n .ruling)
 
 take-marks : (t : Tally) (a : Answer) → takeOf t a .tally .marks ≡ withMark (t .marks) a
 unfolding takeOf
@@ -92,62 +93,65 @@ marks-counted t a = (take-marks t a, close-marks t a)
 
 -- the judge and the counts d after these calls of the judge in t
 pub record Judges (t : Tally) (ls : List Line) (d : Tally) : Type 0 where
-  pub judge : d .judge ≡ after (t .judge) ls
-  pub complete : d .complete ≡ counting isComplete (t .complete) (rulings (t .judge) ls)
-  pub broken : d .broken ≡ counting isBreak (t .broken) (rulings (t .judge) ls)
+  pub profile : d .profile ≡ t .profile
+  pub judge : d .judge ≡ after (t .profile) (t .judge) ls
+  pub complete : d .complete ≡ counting isComplete (t .complete) (rulings (t .profile) (t .judge) ls)
+  pub broken : d .broken ≡ counting isBreak (t .broken) (rulings (t .profile) (t .judge) ls)
 
 -- the same, by the tally's own parts
 by-told : (t : Tally) (own : ℕ) (j : Judge) (v : Ruling)
-    → (told t own j v .tally .judge ≡ j)
+    → (told t own j v .tally .profile ≡ t .profile)
+    × (told t own j v .tally .judge ≡ j)
     × (told t own j v .tally .complete ≡ cond (isComplete v) (oneMore (t .complete)) (t .complete))
     × (told t own j v .tally .broken ≡ cond (isBreak v) (oneMore (t .broken)) (t .broken))
 unfolding refusedBy
-by-told t own j ruling.Waiting = (refl, refl, refl)
-by-told t own j ruling.Going = (refl, refl, refl)
-by-told t own j ruling.Complete = (refl, refl, refl)
+by-told t own j ruling.Waiting = (refl, refl, refl, refl)
+by-told t own j ruling.Going = (refl, refl, refl, refl)
+by-told t own j ruling.Complete = (refl, refl, refl, refl)
 by-told t own j (ruling.Refused refusal) = either (breaksFrame refusal)
   where
     either : (breaks : Bool)
         → let d : Told = cond breaks (brokenBy t j refusal own) (quiet (moved t (t .judge) j)) in
-        (d .tally .judge ≡ j) × (d .tally .complete ≡ t .complete) × (d .tally .broken ≡ cond breaks (oneMore (t .broken)) (t .broken))
-    either true = (refl, refl, refl)
-    either false = (refl, refl, refl)
+        (d .tally .profile ≡ t .profile) × (d .tally .judge ≡ j) × (d .tally .complete ≡ t .complete) × (d .tally .broken ≡ cond breaks (oneMore (t .broken)) (t .broken))
+    either true = (refl, refl, refl, refl)
+    either false = (refl, refl, refl, refl)
 
 nothing-judged : (t : Tally) → Judges t [] t
-nothing-judged t = record { judge = refl; complete = refl; broken = refl }
+nothing-judged t = record { profile = refl; judge = refl; complete = refl; broken = refl }
 
 one-judged : (t : Tally) (l : Line) (own : ℕ) → Judges t (l ∷ []) (handed (marked t) (l .kind) (l .number) own .tally)
 unfolding handed
 one-judged t l own =
-    let h = by-told (marked t) own (called (t .judge) l .judge) (called (t .judge) l .ruling) in
-    record { judge = h .0; complete = h .1; broken = h .2 }
+    let h = by-told (marked t) own (called (t .profile) (t .judge) l .judge) (called (t .profile) (t .judge) l .ruling) in
+    record { profile = h .0; judge = h .1; complete = h .2; broken = h .3 }
 
 take-judged : (t : Tally) (a : Answer) → Judges t (handedOver a) (takeOf t a .tally)
 unfolding takeOf
 take-judged t answer.Nothing = nothing-judged t
 take-judged t (answer.Line f) = one-judged t (line (kindNumber (f .kind)) (f .number)) 0
-take-judged t (answer.Gap g) = record { judge = refl; complete = refl; broken = refl }
+take-judged t (answer.Gap g) = record { profile = refl; judge = refl; complete = refl; broken = refl }
 take-judged t (answer.Refused n) = either (isBrokenLine n)
   where
     either : (b : Bool) → Judges t (cond b (line brokenKind 0 ∷ []) []) (cond b (handed (marked t) brokenKind 0 n) (quiet (marked t)) .tally)
     either true = one-judged t (line brokenKind 0) n
-    either false = record { judge = refl; complete = refl; broken = refl }
+    either false = record { profile = refl; judge = refl; complete = refl; broken = refl }
 
-after-append : (j : Judge) (ls ms : List Line) → after j (ls ++ ms) ≡ after (after j ls) ms
-after-append j [] ms = refl
-after-append j (l ∷ ls) ms = after-append (called j l .judge) ls ms
+after-append : (p : Profile) (j : Judge) (ls ms : List Line) → after p j (ls ++ ms) ≡ after p (after p j ls) ms
+after-append p j [] ms = refl
+after-append p j (l ∷ ls) ms = after-append p (called p j l .judge) ls ms
 
-counting-append : (which : Ruling → Bool) (j : Judge) (n : ℕ) (ls ms : List Line)
-    → counting which n (rulings j (ls ++ ms)) ≡ counting which (counting which n (rulings j ls)) (rulings (after j ls) ms)
-counting-append which j n [] ms = refl
-counting-append which j n (l ∷ ls) ms = counting-append which (called j l .judge) (cond (which (called j l .ruling)) (oneMore n) n) ls ms
+counting-append : (which : Ruling → Bool) (p : Profile) (j : Judge) (n : ℕ) (ls ms : List Line)
+    → counting which n (rulings p j (ls ++ ms)) ≡ counting which (counting which n (rulings p j ls)) (rulings p (after p j ls) ms)
+counting-append which p j n [] ms = refl
+counting-append which p j n (l ∷ ls) ms = counting-append which p (called p j l .judge) (cond (which (called p j l .ruling)) (oneMore n) n) ls ms
 
 then-judged : {t d e : Tally} {ls ms : List Line} → Judges t ls d → Judges d ms e → Judges t (ls ++ ms) e
 then-judged {t} {d} {e} {ls} {ms} p q =
     record {
-      judge = q .judge ∙ ap (λ (j : Judge). after j ms) (p .judge) ∙ sym (after-append (t .judge) ls ms);
-      complete = q .complete ∙ simp (p .judge, p .complete) (sym (counting-append isComplete (t .judge) (t .complete) ls ms));
-      broken = q .broken ∙ simp (p .judge, p .broken) (sym (counting-append isBreak (t .judge) (t .broken) ls ms));
+      profile = q .profile ∙ p .profile;
+      judge = q .judge ∙ simp (p .profile, p .judge) (sym (after-append (t .profile) (t .judge) ls ms));
+      complete = q .complete ∙ simp (p .profile, p .judge, p .complete) (sym (counting-append isComplete (t .profile) (t .judge) (t .complete) ls ms));
+      broken = q .broken ∙ simp (p .profile, p .judge, p .broken) (sym (counting-append isBreak (t .profile) (t .judge) (t .broken) ls ms));
     }
 
 -- whatever the answers: the judge is where 01's calls leave it, and each Complete and each 18 or 19 among its rulings is counted
@@ -161,16 +165,22 @@ handed-lines : (fs : List LineWithGap) → allHanded (withGaps fs) ≡ linesOf f
 handed-lines [] = refl
 handed-lines (f ∷ fs) = ap (λ (ls : List Line). line (kindNumber (f .facts .kind)) (f .facts .number) ∷ ls) (handed-lines fs)
 
+-- one of its rulings is Complete, and none breaks it
+counted-once : (p : Profile) → (counting isComplete 0 (toComplete (lastPlace p)) ≡ 1) × (counting isBreak 0 (toComplete (lastPlace p)) ≡ 0)
+unfolding oneMore
+counted-once VV5404 = (refl, refl)
+counted-once VV5300 = (refl, refl)
+
 -- the lines of a frame, repaired or not, each with its own gap, from a fresh tally
-pub frame-good : (b : Borders) (fs : List LineWithGap) → IsFrame b (linesOf fs)
-    → (tallied freshTally (withGaps fs) .complete ≡ 1) × (tallied freshTally (withGaps fs) .broken ≡ 0) × (isGood (tallied freshTally (withGaps fs)) ≡ true)
+pub frame-good : (p : Profile) (b : Borders) (fs : List LineWithGap) → IsFrame p b (linesOf fs)
+    → let t : Tally = tallied (freshTally p) (withGaps fs) in
+    (t .complete ≡ 1) × (t .broken ≡ 0) × (isGood t ≡ true)
 unfolding isGood oneMore
-frame-good b fs e =
-    let p = judged-as-said freshTally (withGaps fs) in
-    let v : rulings Waiting (allHanded (withGaps fs)) ≡ replicate lastPlace ruling.Going ++ (ruling.Complete ∷ []) =
-    ap (rulings Waiting) (handed-lines fs) ∙ frame-complete b (linesOf fs) e .0 in
-    let c : tallied freshTally (withGaps fs) .complete ≡ 1 = p .complete ∙ ap (counting isComplete 0) v in
-    let d : tallied freshTally (withGaps fs) .broken ≡ 0 = p .broken ∙ ap (counting isBreak 0) v in
+frame-good p b fs e =
+    let q = judged-as-said (freshTally p) (withGaps fs) in
+    let v : rulings p Waiting (allHanded (withGaps fs)) ≡ toComplete (lastPlace p) = ap (rulings p Waiting) (handed-lines fs) ∙ frame-complete p b (linesOf fs) e .0 in
+    let c : tallied (freshTally p) (withGaps fs) .complete ≡ 1 = q .complete ∙ ap (counting isComplete 0) v ∙ counted-once p .0 in
+    let d : tallied (freshTally p) (withGaps fs) .broken ≡ 0 = q .broken ∙ ap (counting isBreak 0) v ∙ counted-once p .1 in
     (c, d, simp (c, d))
 
 -- Good exactly when a frame was told complete and none was told broken.
@@ -204,7 +214,7 @@ says-told t own j (ruling.Refused refusal) = either (breaksFrame refusal)
 
 says-handed : (t : Tally) (k n own : ℕ) → Says (t .complete) (t .broken) (handed t k n own)
 unfolding handed
-says-handed t k n own = says-told t own (judgeOf (t .judge) k n .judge) (judgeOf (t .judge) k n .ruling)
+says-handed t k n own = says-told t own (judgeOf (t .profile) (t .judge) k n .judge) (judgeOf (t .profile) (t .judge) k n .ruling)
 
 says-take : (t : Tally) (a : Answer) → Says (t .complete) (t .broken) (takeOf t a)
 unfolding takeOf
@@ -258,12 +268,12 @@ none zero = refl
 none (suc n) = simp (ne-eqb (suc n) 0 (λ e. omega (arith, e)), lt-ltb 0 (suc n) (omega arith))
 
 -- of a whole capture
-pub good-exactly : (w : List Answer) (last : Answer)
-    → isGood (captureTally w last) ≡ (not (some saysBroken (captureNews w last)) && some saysComplete (captureNews w last))
+pub good-exactly : (p : Profile) (w : List Answer) (last : Answer)
+    → isGood (captureTally p w last) ≡ (not (some saysBroken (captureNews p w last)) && some saysComplete (captureNews p w last))
 unfolding isGood
-good-exactly w last =
+good-exactly p w last =
     simp (
-      none (captureTally w last .broken),
-      says-all (λ t. t .broken) saysBroken (λ t a. says-take t a .broken) (λ t a. says-close t a .broken) freshTally w last,
-      says-all (λ t. t .complete) saysComplete (λ t a. says-take t a .complete) (λ t a. says-close t a .complete) freshTally w last,
+      none (captureTally p w last .broken),
+      says-all (λ t. t .broken) saysBroken (λ t a. says-take t a .broken) (λ t a. says-close t a .broken) (freshTally p) w last,
+      says-all (λ t. t .complete) saysComplete (λ t a. says-take t a .complete) (λ t a. says-close t a .complete) (freshTally p) w last,
     )

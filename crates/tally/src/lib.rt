@@ -1,4 +1,4 @@
-// The frames of a profile 0 capture (paper 01, 'Frames of profile 0'): how many are complete, how many are broken, and why.
+// The frames of a capture (paper 01, 'Frames of profile 0'): how many are complete, how many are broken, and why.
 //
 // In: the answer of each call to the reader, in order; at the end, finish's. Out: beside the next tally, news of a frame that is complete,
 // broken, or cut off by the capture's end. Each line given out is handed to the judge, and kind 0 for each answer 1 to 7. Nothing is
@@ -8,10 +8,12 @@ ghost use Rattle.tally.specs.Tally.{freshTally, oneMore, quiet, marked, 
 use frame::Borders;
 use frame::Judge;
 use frame::Ruling;
+use profile::Profile;
 use stream::Answer;
 
-// The judge; the marks answered; the frames that opened, that were complete, and that broke. A count stops at the greatest u64.
+// The profile; the judge; the marks answered; the frames that opened, that were complete, and that broke. A count stops at the greatest u64.
 pub struct Tally {
+    pub profile: Profile,
     pub judge: Judge,
     pub marks: u64,
     pub frames: u64,
@@ -38,11 +40,12 @@ pub struct Told {
 
 impl Tally {
     // A fresh judge, and nothing counted.
-    pub fn new() -> Tally
-        ensures { λ r. ⌜ r ≡ freshTally ⌝ }
+    pub fn new(profile: Profile) -> Tally
+        ensures { λ r. ⌜ r ≡ freshTally profile ⌝ }
     {
         let judge = Judge::new();
         Tally {
+            profile,
             judge,
             marks: 0,
             frames: 0,
@@ -106,9 +109,11 @@ impl Tally {
     fn marked(self) -> Tally
         ensures { λ r. ⌜ r ≡ marked self ⌝ }
     {
+        let profile = self.profile;
         let judge = self.judge;
         let marks = one_more(self.marks);
         Tally {
+            profile,
             judge,
             marks,
             frames: self.frames,
@@ -121,8 +126,9 @@ impl Tally {
     fn hand(self, kind: u8, number: u16, own: u8) -> Told
         ensures { λ r. ⌜ r ≡ handed self kind number own ⌝ }
     {
+        let profile = self.profile;
         let before = self.judge;
-        let judged = before.line(kind, number);
+        let judged = before.line(profile, kind, number);
         let judge = judged.judge;
         let ruling = judged.ruling;
         match ruling {
@@ -137,8 +143,10 @@ impl Tally {
     fn moved(self, before: Judge, judge: Judge) -> Tally
         ensures { λ r. ⌜ r ≡ moved self before judge ⌝ }
     {
+        let profile = self.profile;
         let frames = opening(before, judge, self.frames);
         Tally {
+            profile,
             judge,
             marks: self.marks,
             frames,
@@ -152,8 +160,10 @@ impl Tally {
         ensures { λ r. ⌜ r ≡ completed self judge ⌝ }
     {
         let before = self.judge;
+        let profile = self.profile;
         let complete = one_more(self.complete);
         let tally = Tally {
+            profile,
             judge,
             marks: self.marks,
             frames: self.frames,
@@ -180,8 +190,10 @@ impl Tally {
         ensures { λ r. ⌜ r ≡ brokenBy self judge number own ⌝ }
     {
         let broken = one_more(self.broken);
+        let profile = self.profile;
         let frames = opening(Judge::Waiting, judge, self.frames);
         let tally = Tally {
+            profile,
             judge,
             marks: self.marks,
             frames,

@@ -1,16 +1,24 @@
--- By the judge and its borders: the places 1 to 10 while unsettled, 11 to 303 once settled, each range tested by within.
+-- By the judge and its borders: up to the settling place while unsettled, past it up to the last place once settled, each range tested by within.
+use native.Mathlib.Omega.{arith}
+use Rattle.frame.proofs.PlaceLaws.{settling-small}
 use borrow.Author.Needs.{needs}
 use Rattle.frame.proofs.Judge.passes.Statement.{statement}
 use Rattle.frame.proofs.Judge.passes.Tie as tie
 
+add-within : tie.Need-add-within
+add-within c = simp (c .before .before .before .borders-on .ensures) (omega (arith, settling-small (c .before .before .before .before .before .before .before .args .profile)))
+
+add-within-2 : tie.Need-add-within-2
+add-within-2 c = simp (c .before .before .before .borders-on .ensures) (omega (arith, settling-small (c .before .before .before .before .before .before .before .args .profile)))
+
 returns-2 : tie.Need-returns-2
-returns-2 c = simp (c .before .before .before .before .self .given .1, c .before .enum-told2 .given .1, c .within .ensures)
+returns-2 c = simp (c .before .before .before .before .before .self .given .1, c .before .enum-told2 .given .1, ← c .before .before .before .borders-on .ensures, c .within .ensures)
 
 returns-3 : tie.Need-returns-3
-returns-3 c = simp (c .before .before .before .before .self .given .1, c .before .enum-told3 .given .1, c .within2 .ensures)
+returns-3 c = simp (c .before .before .before .before .before .before .self .given .1, c .before .before .enum-told3 .given .1, ← c .before .before .before .before .borders-on .ensures, c .within2 .ensures)
 
 returns-4 : tie.Need-returns-4
-returns-4 c = simp (c .before .before .before .before .self .given .1, c .before .enum-told4 .given .1, c .within3 .ensures)
+returns-4 c = simp (c .before .before .before .before .before .before .self .given .1, c .before .before .enum-told4 .given .1, ← c .before .before .before .before .borders-on .ensures, c .within3 .ensures)
 
 pub passes-spec : {M : Type 1} → statement M
 passes-spec =
@@ -18,13 +26,14 @@ passes-spec =
     (tie.spec
     (λ c. search needs)
     (λ c. search needs)
+    (λ c κs. search needs)
     (λ c. search needs)
     (λ c κs. search needs)
     (λ c. search needs)
-    (λ c. search needs)
+    add-within
     (λ c κs. search needs)
     (λ c. search needs)
-    (λ c. search needs)
+    add-within-2
     (λ c κs. search needs)
     (λ c. search needs)
     returns-2
