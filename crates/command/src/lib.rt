@@ -1,0 +1,166 @@
+// The words of a command line, and the file or the standard input that a program reads.
+//
+// In: a word as it was typed. Out: what it asks for. A word that begins with `-` and is no option here is Unknown; any other word is a name of
+// a file. Cost: linear in the word.
+ghost use mathlib.Core.Path.{_≡_};
+ghost use lib.ListN.{take};
+ghost use Rattle.text.specs.Text.{ascii};
+ghost use Rattle.command.specs.Word.{same, wordOf};
+use libc::STDERR_FILENO;
+use libc::STDIN_FILENO;
+use profile::Profile;
+
+pub enum Word {
+    Sensor(Profile),
+    OddPixelsFirst,
+    Output,
+    Unknown,
+    Name,
+}
+
+// What a word asks for.
+pub fn meaning(text: &[u8]) -> Word
+    ensures { λ r. ⌜ r ≡ wordOf (now (text .entry)) ⌝ }
+{
+    if is(text, b"vv5404") {
+        return Word::Sensor(Profile::VV5404);
+    }
+    if is(text, b"vv5300") {
+        return Word::Sensor(Profile::VV5300);
+    }
+    if is(text, b"odd-pixels-first") {
+        return Word::OddPixelsFirst;
+    }
+    if is(text, b"-o") {
+        return Word::Output;
+    }
+    if has_dash(text) {
+        return Word::Unknown;
+    }
+    Word::Name
+}
+
+// What a program is asked for: the sensor, and whether it was named; the file's place among the arguments, 0 for standard input; and whether
+// all words were understood.
+pub struct Asked {
+    pub profile: Profile,
+    pub named: bool,
+    pub file: usize,
+    pub understood: bool,
+}
+
+// Reads the arguments `[vv5404|vv5300] [FILE]`.
+pub fn sensor_and_file() -> Asked {
+    let profile = Profile::VV5404;
+    let mut asked = Asked {
+        profile,
+        named: false,
+        file: 0,
+        understood: true,
+    };
+    let count = os::arg_count();
+    let mut i: usize = 1;
+    while i < count {
+        let mut buf = io::buffer();
+        let n = os::arg(i, &mut buf);
+        asked = with(asked, meaning(&buf[..n]), i);
+        i += 1;
+    }
+    asked
+}
+
+// With one word more: a second sensor or file is not understood, nor an option.
+fn with(asked: Asked, word: Word, i: usize) -> Asked {
+    match word {
+        Word::Sensor(profile) => with_sensor(asked, profile),
+        Word::Name => with_file(asked, i),
+        Word::OddPixelsFirst => not_understood(asked),
+        Word::Output => not_understood(asked),
+        Word::Unknown => not_understood(asked),
+    }
+}
+
+fn with_sensor(asked: Asked, profile: Profile) -> Asked {
+    if asked.named {
+        return not_understood(asked);
+    }
+    Asked {
+        profile,
+        named: true,
+        file: asked.file,
+        understood: asked.understood,
+    }
+}
+
+fn with_file(asked: Asked, i: usize) -> Asked {
+    if asked.file == 0 {
+        let profile = asked.profile;
+        return Asked {
+            profile,
+            named: asked.named,
+            file: i,
+            understood: asked.understood,
+        };
+    }
+    not_understood(asked)
+}
+
+fn not_understood(asked: Asked) -> Asked {
+    let profile = asked.profile;
+    Asked {
+        profile,
+        named: asked.named,
+        file: asked.file,
+        understood: false,
+    }
+}
+
+// Opens the file at a place among the arguments, or standard input for 0, and answers its descriptor, or -1, which has been told. Where standard
+// input is a terminal, says what is waited for.
+pub fn open(file: usize) -> i32 {
+    if file == 0 {
+        if libc::isatty(STDIN_FILENO) == 1 {
+            complain(b"waiting for a capture on standard input (or give a file's name)\n");
+        }
+        return STDIN_FILENO;
+    }
+    let mut buf = io::buffer();
+    let n = os::arg(file, &mut buf);
+    let fd = os::open_read(&buf[..n]);
+    if fd < 0 {
+        os::fail(&buf[..n]);
+    }
+    fd
+}
+
+// Writes a line to standard error.
+pub fn complain(text: &[u8]) {
+    io::write_all(STDERR_FILENO, text);
+}
+
+// Whether a text begins with a dash.
+fn has_dash(text: &[u8]) -> bool
+    ensures { λ r. ⌜ r ≡ same (take 1 (now (text .entry))) (ascii "-") ⌝ }
+{
+    if text.len() < 1 {
+        return false;
+    }
+    is(&text[..1], b"-")
+}
+
+// Whether a text is this one.
+fn is(text: &[u8], that: &[u8]) -> bool
+    ensures { λ r. ⌜ r ≡ same (now (text .entry)) (now (that .entry)) ⌝ }
+{
+    if text.len() != that.len() {
+        return false;
+    }
+    let mut i: usize = 0;
+    while i < text.len() {
+        if text[i] != that[i] {
+            return false;
+        }
+        i += 1;
+    }
+    true
+}
