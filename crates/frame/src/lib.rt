@@ -5,7 +5,7 @@
 // judge state that no calls can reach with this profile, 13 a kind above 5, 14 a number above 4095. After the EOF line a line's number is
 // not compared (paper 02, A3). Cost: constant.
 ghost use mathlib.Core.Path.{_≡_};
-ghost use Rattle.frame.specs.Frame.{laidOut, bordersOn, bordersOff, layout, kindAt, standsAt, kindDue, numberDue, lineDue, settled, within, passes, refuses, opens, broken, onward, astray, first, whole, judgeOf};
+ghost use Rattle.frame.specs.Frame.{laidOut, bordersOn, bordersOff, layout, lastPlace, kindAt, standsAt, kindDue, numberDue, lineDue, settled, within, passes, refuses, opens, broken, onward, astray, first, whole, judgeOf};
 ghost use Rattle.frame.specs.Places.{kindWithin};
 use line_code::Kind;
 use profile::Profile;
@@ -125,6 +125,14 @@ struct Layout {
     to: u16,
     end: u16,
     last: u16,
+}
+
+// The place of a frame's last line.
+pub fn last_place(profile: Profile) -> u16
+    ensures { λ r. ⌜ r ≡ lastPlace profile ⌝ }
+{
+    let on = borders_on(profile);
+    on.last
 }
 
 // The layout of each profile, borders on and off.
