@@ -1,6 +1,6 @@
 -- Calls to the judge in a row, and the lines of a whole frame.
 use mathlib.Core.Path.{_≡_}
-use mathlib.Core.Bool.{Bool, true, _&&_, _||_, not, cond}
+use mathlib.Core.Bool.{Bool, true, false, _&&_, _||_, not, cond}
 use mathlib.Core.List.{List, [], _∷_, _++_}
 use Prim.Native.Nat.{ℕ, suc, _+_}
 use lib.Dec.{eqb, leb}
@@ -15,7 +15,7 @@ use Rattle.frame.specs.declared.Judge.{Judge}
 use Rattle.frame.specs.declared.Ruling.{Ruling}
 use Rattle.frame.specs.declared.Ruling.the-variants as ruling
 use Rattle.frame.specs.declared.Judged.{Judged}
-use Rattle.frame.specs.Frame.{layout, kindsOf, lastPlace, standsAt, numberDue, judgeOf}
+use Rattle.frame.specs.Frame.{layout, kindsOf, lastPlace, standsAt, numberDue, judgeOf, breaksFrame}
 
 -- what is handed to the judge
 pub record Line : Type 0 where
@@ -37,6 +37,19 @@ after p j (l ∷ ls) = after p (called p j l .judge) ls
 abbrev pub rulings : Profile → Judge → List Line → List Ruling
 rulings p j [] = []
 rulings p j (l ∷ ls) = called p j l .ruling ∷ rulings p (called p j l .judge) ls
+
+-- a ruling that is Complete; one that breaks a frame
+abbrev pub isComplete : Ruling → Bool
+isComplete ruling.Waiting = false
+isComplete ruling.Going = false
+isComplete ruling.Complete = true
+isComplete (ruling.Refused refusal) = false
+
+abbrev pub isBreak : Ruling → Bool
+isBreak ruling.Waiting = false
+isBreak ruling.Going = false
+isBreak ruling.Complete = false
+isBreak (ruling.Refused refusal) = breaksFrame refusal
 
 -- an accepted line is one that is not refused 13 or 14: those change nothing (and 11 comes from no judge that calls reach)
 abbrev pub accepts : Ruling → Bool

@@ -170,3 +170,7 @@ judgeOf p j k n =
     (cond (eqb k brokenKind) (broken j) (cond (leb n greatest) (whole p j k n) (refuses j numberTooLarge)))
     (refuses j badKind))
     (refuses j badState)
+
+-- 18 and 19 break a frame; 11, 13 and 14 leave the judge as it was
+abbrev pub breaksFrame : ℕ → Bool
+breaksFrame refusal = eqb refusal notTheLineDue || eqb refusal brokenLine

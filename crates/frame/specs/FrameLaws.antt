@@ -24,7 +24,7 @@ use Rattle.frame.specs.declared.Ruling.{Ruling}
 use Rattle.frame.specs.declared.Ruling.the-variants as ruling
 use Rattle.frame.specs.declared.Judged.{Judged}
 use Rattle.frame.specs.Frame.{layout, kindsOf, lastPlace, endPlace, settlingPlace, kindAt, standsAt, kindDue, numberDue, lineDue, settled, within, passes, gives, refuses, opens, begun, brokenKind, broken, astray, whole, judgeOf}
-use Rattle.frame.specs.Calls.{Line, line, called, after, rulings, accepts, acceptedOne, accepted, fits, laidFrom, FirstLines, IsFrame, numberedFrom, frameLines}
+use Rattle.frame.specs.Calls.{Line, line, called, after, rulings, isComplete, accepts, acceptedOne, accepted, fits, laidFrom, FirstLines, IsFrame, numberedFrom, frameLines}
 use Rattle.bits.specs.Agree.{agree}
 
 -- The layout.
@@ -496,23 +496,17 @@ traced p past j (l ∷ ls) h t =
     simp (← append-assoc)
     (traced p (past ++ acceptedOne p j l) (called p j l .judge) ls (passes-effect p j l (called p j l) e h) (traced-effect p past j l (called p j l) e h t))
 
-abbrev complete : Ruling → Bool
-complete ruling.Waiting = false
-complete ruling.Going = false
-complete ruling.Complete = true
-complete (ruling.Refused r) = false
-
 -- only a line that is due at the last place is answered Complete
 ends-only : (p : Profile) (j : Judge) (l : Line) (r : Judged) → Effect p j l r → r .ruling ≡ ruling.Complete
     → (place : ℕ) × (b : Borders) × (j ≡ Due place b) × (IsDue p b place l) × (lastPlace p ≤ place)
-ends-only p j l _ wrongKind e = absurd (true≢false (sym (ap complete e)))
-ends-only p j l _ wrongNumber e = absurd (true≢false (sym (ap complete e)))
-ends-only p j l _ waits e = absurd (true≢false (sym (ap complete e)))
-ends-only p j l _ breaks e = absurd (true≢false (sym (ap complete e)))
-ends-only p j l _ strays e = absurd (true≢false (sym (ap complete e)))
-ends-only p j l _ (starts q o) e = absurd (true≢false (sym (ap complete e)))
-ends-only p j l _ (restarts o) e = absurd (true≢false (sym (ap complete e)))
-ends-only p j l _ (goes place b q d g) e = absurd (true≢false (sym (ap complete e)))
+ends-only p j l _ wrongKind e = absurd (true≢false (sym (ap isComplete e)))
+ends-only p j l _ wrongNumber e = absurd (true≢false (sym (ap isComplete e)))
+ends-only p j l _ waits e = absurd (true≢false (sym (ap isComplete e)))
+ends-only p j l _ breaks e = absurd (true≢false (sym (ap isComplete e)))
+ends-only p j l _ strays e = absurd (true≢false (sym (ap isComplete e)))
+ends-only p j l _ (starts q o) e = absurd (true≢false (sym (ap isComplete e)))
+ends-only p j l _ (restarts o) e = absurd (true≢false (sym (ap isComplete e)))
+ends-only p j l _ (goes place b q d g) e = absurd (true≢false (sym (ap isComplete e)))
 ends-only p j l _ (ends place b q d g) e = (place, b, q, d, g)
 
 -- the lines of a judge past the last place end in a whole frame

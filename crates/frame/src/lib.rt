@@ -3,12 +3,14 @@
 // In: the profile; the kind number and number of each line given out, or kind 0 for a broken line (answers 1 to 7), in order. Out: beside
 // the next judge, Waiting, Going, Complete or a refusal: 18 the line is not the one due, 19 a broken line; and, changing nothing: 11 a
 // judge state that no calls can reach with this profile, 13 a kind above 5, 14 a number above 4095. After the EOF line a line's number is
-// not compared (paper 02, A3). Cost: constant.
+// not compared (paper 02, A3). A capture is judged by handing over what `handed_over` has of each answer. Cost: constant.
 ghost use mathlib.Core.Path.{_≡_};
-ghost use Rattle.frame.specs.Frame.{laidOut, bordersOn, bordersOff, layout, lastPlace, kindAt, standsAt, kindDue, numberDue, lineDue, settled, within, passes, refuses, opens, broken, onward, astray, first, whole, judgeOf};
+ghost use Rattle.frame.specs.Frame.{laidOut, bordersOn, bordersOff, layout, lastPlace, kindAt, standsAt, kindDue, numberDue, lineDue, settled, within, passes, refuses, opens, broken, onward, astray, first, whole, judgeOf, breaksFrame};
+ghost use Rattle.frame.specs.Handing.{isBrokenLine, handedOver};
 ghost use Rattle.frame.specs.Places.{kindWithin};
 use line_code::Kind;
 use profile::Profile;
+use stream::Answer;
 
 // Whether a frame shows its borders: settled by the line at the place of the first visible line with borders on.
 pub enum Borders {
@@ -110,6 +112,52 @@ impl Judge {
             }
         }
     }
+}
+
+// What of an answer is handed to the judge: nothing, or a kind number and a number.
+pub enum Handed {
+    Nothing,
+    Line(u8, u16),
+}
+
+// Each line given out is handed over, and kind 0 for each answer 1 to 7.
+pub fn handed_over(answer: Answer) -> Handed
+    ensures { λ r. ⌜ r ≡ handedOver answer ⌝ }
+{
+    match answer {
+        Answer::Nothing => Handed::Nothing,
+        Answer::Line(facts) => {
+            let kind = facts.kind;
+            Handed::Line(kind.number(), facts.number)
+        }
+        Answer::Gap(_) => Handed::Nothing,
+        Answer::Refused(number) => {
+            if is_broken_line(number) {
+                return Handed::Line(Judge::BROKEN, 0);
+            }
+            Handed::Nothing
+        }
+    }
+}
+
+// Whether a refusal of the judge, 18 or 19, breaks the frame.
+pub fn breaks_frame(number: u8) -> bool
+    ensures { λ r. ⌜ r ≡ breaksFrame number ⌝ }
+{
+    if number == refusal::NOT_THE_LINE_DUE {
+        return true;
+    }
+    number == refusal::BROKEN_LINE
+}
+
+// Whether an answer's refusal number, 1 to 7, is that of a broken line.
+fn is_broken_line(number: u8) -> bool
+    ensures { λ r. ⌜ r ≡ isBrokenLine number ⌝ }
+{
+    if number < refusal::DAMAGED_CODE {
+        return false;
+    }
+    number <= refusal::NO_END_OF_LINE
 }
 
 // The places of a frame's first line, and of its first BK and BL line.

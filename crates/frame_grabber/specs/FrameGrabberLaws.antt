@@ -20,10 +20,9 @@ use Rattle.reader.specs.Reader.{Took, freshReader, taking, feedOf}
 use Rattle.reader.proofs.Told.{take-profile}
 use Rattle.reader_laws.specs.Sound.{Sound, sound-nothing, sound-line, sound-gap, sound-refused, take-sound}
 use Rattle.reader_laws.specs.Passes.{passes-test, fresh-ok, Feeding, feed-state, feed-nibble, feed-room, feed-taken, feeding}
+use Rattle.frame.specs.declared.Handed.the-variants as hand
 use Rattle.frame.specs.Frame.{brokenKind}
-use Rattle.frame.specs.Calls.{line}
-use Rattle.tally.specs.Tally.{isBrokenLine}
-use Rattle.tally.specs.Answered.{handedOver}
+use Rattle.frame.specs.Handing.{isBrokenLine, asLines, handedLines}
 use Rattle.frame_rows.specs.declared.Order.{Order}
 use Rattle.frame_rows.specs.FrameRows.{Shown, complete, isVisible}
 use Rattle.frame_rows.specs.FrameRows as rows
@@ -37,7 +36,7 @@ use Rattle.frame_grabber.specs.PieceLaws.{grab-is, pieces-whole}
 
 -- Lines are laid out as 01 says.
 
-broken-laid : (b : Bool) (held : List ℕ) → Every Laid (shown (cond b (line brokenKind 0 ∷ []) []) held)
+broken-laid : (b : Bool) (held : List ℕ) → Every Laid (shown (asLines (cond b (hand.Line brokenKind 0) hand.Nothing)) held)
 broken-laid true held = (λ e. absurd (true≢false (sym e)), tt)
 broken-laid false held = tt
 
@@ -49,7 +48,7 @@ kind-laid SOF body f e = absurd (true≢false (sym e))
 kind-laid EOF body f e = absurd (true≢false (sym e))
 
 abbrev GivenLaid : Outcome → Type 0
-GivenLaid o = Every Laid (shown (handedOver (answerFor o)) (bufferAfter o blank))
+GivenLaid o = Every Laid (shown (handedLines (answerFor o)) (bufferAfter o blank))
 
 sound-laid : {o : Outcome} → Sound VV5404 o → GivenLaid o
 sound-laid sound-nothing = tt
@@ -91,7 +90,7 @@ givens-laid (n ∷ w) r x e =
     let t = feedOf r n longest in
     let q = fed-laid r n e in
     let y = call x (given t) in
-    every-append Laid (unlessRefused (y .output) (shown (handedOver (given t .answer)) (given t .held))) (taken y (givens (t .reader) w))
+    every-append Laid (unlessRefused (y .output) (shown (handedLines (given t .answer)) (given t .held))) (taken y (givens (t .reader) w))
     (kept-laid (isRefused (y .output)) _ (q .0)) (givens-laid w (t .reader) y (q .1))
 
 -- The picture.

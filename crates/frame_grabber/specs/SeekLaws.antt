@@ -25,8 +25,8 @@ use Rattle.frame.specs.declared.Judge.{Judge}
 use Rattle.frame.specs.declared.Ruling.{Ruling}
 use Rattle.frame.specs.declared.Ruling.the-variants as ruling
 use Rattle.frame.specs.Calls.{called}
-use Rattle.tally.specs.Tally.{breaksFrame, isBrokenLine}
-use Rattle.tally.specs.Answered.{handedOver}
+use Rattle.frame.specs.Frame.{breaksFrame}
+use Rattle.frame.specs.Handing.{isBrokenLine, handedLines}
 use Rattle.frame_rows.specs.declared.Gatherer.{Gatherer}
 use Rattle.frame_rows.specs.FrameRows.{Output, Shown, nothing, complete, refused, isVisible, quiet}
 use Rattle.frame_rows.specs.FrameRows as rows
@@ -205,7 +205,7 @@ handed-sized g l held = by (called VV5404 (g .judge) (l .given) .ruling)
     by (ruling.Refused n) = either-sized (breaksFrame n) (quiet (rows.moved g j 0) held) (rows.refuses g n held) (λ _. tt) tt
 
 call-sized : (x : rows.Outcome) (a : Given) → Sized (call x a .output)
-call-sized x a = by (shown (handedOver (a .answer)) (a .held)) (call x a) (hands x a)
+call-sized x a = by (shown (handedLines (a .answer)) (a .held)) (call x a) (hands x a)
   where
     by : (ls : List Shown) (y : rows.Outcome) → Hands x ls y → Sized (y .output)
     by _ _ none = tt

@@ -11,14 +11,15 @@ use Rattle.line_code.specs.LineCode.{kindNumber}
 use Rattle.profile.specs.declared.Profile.the-variants.{VV5404}
 use Rattle.profile.specs.Profile.{longest}
 use Rattle.stream.specs.declared.Answer.{Answer}
-use Rattle.stream.specs.declared.Answer.the-variants as answer
+use Rattle.frame.specs.declared.Handed.{Handed}
+use Rattle.frame.specs.declared.Handed.the-variants as hand
 use Rattle.frame.specs.declared.Judge.{Judge}
 use Rattle.frame.specs.declared.Judge.the-variants.{Waiting}
 use Rattle.frame.specs.declared.Ruling.{Ruling}
 use Rattle.frame.specs.declared.Ruling.the-variants as ruling
-use Rattle.frame.specs.Frame.{brokenKind}
+use Rattle.frame.specs.Frame.{breaksFrame}
 use Rattle.frame.specs.Calls.{Line, line, called}
-use Rattle.tally.specs.Tally.{breaksFrame, isBrokenLine}
+use Rattle.frame.specs.Handing.{handedOver}
 use Rattle.pixel_order.specs.declared.Way.the-variants.{ToPixels}
 use Rattle.pixel_order.specs.PixelOrder.{reordered}
 use Rattle.frame_rows.specs.declared.Order.{Order}
@@ -136,9 +137,10 @@ handed s l buffer = byRuling s l buffer (called VV5404 (s .judge) (l .given) .ju
 abbrev pub shownAs : ℕ → ℕ → List ℕ → Shown
 shownAs k n held = record { given = line k n; body = take longest held }
 
--- each line given out is handed to the judge, and kind 0 for answers 1 to 7; with the line buffer and the rows' buffer
+-- what is handed to the judge, with the line buffer and the rows' buffer
+abbrev pub handing : Gatherer → Handed → List ℕ → List ℕ → Outcome
+handing s hand.Nothing held buffer = quiet s buffer
+handing s (hand.Line k n) held buffer = handed s (shownAs k n held) buffer
+
 unfoldable pub takeOf : Gatherer → Answer → List ℕ → List ℕ → Outcome
-takeOf s answer.Nothing held buffer = quiet s buffer
-takeOf s (answer.Line f) held buffer = handed s (shownAs (kindNumber (f .kind)) (f .number) held) buffer
-takeOf s (answer.Gap g) held buffer = quiet s buffer
-takeOf s (answer.Refused n) held buffer = cond (isBrokenLine n) (handed s (shownAs brokenKind 0 held) buffer) (quiet s buffer)
+takeOf s a held buffer = handing s (handedOver a) held buffer

@@ -17,27 +17,26 @@ use Rattle.line_code.specs.declared.Kind.the-variants.{BL, SOF}
 use Rattle.line_code.specs.LineCode.{kindNumber}
 use Rattle.profile.specs.declared.Profile.the-variants.{VV5404}
 use Rattle.profile.specs.Profile.{longest}
-use Rattle.stream.specs.declared.Answer.{Answer}
-use Rattle.stream.specs.declared.Answer.the-variants as answer
 use Rattle.frame.specs.declared.Borders.{Borders}
 use Rattle.frame.specs.declared.Borders.the-variants.{Unsettled, On, Off}
+use Rattle.frame.specs.declared.Handed.{Handed}
+use Rattle.frame.specs.declared.Handed.the-variants as hand
 use Rattle.frame.specs.declared.Judge.{Judge}
 use Rattle.frame.specs.declared.Judge.the-variants.{Waiting, Due}
 use Rattle.frame.specs.declared.Judged.{Judged}
 use Rattle.frame.specs.declared.Ruling.the-variants as ruling
-use Rattle.frame.specs.Frame.{layout, kindsOf, lastPlace, kindAt, standsAt, kindDue, opens, begun, brokenKind, passes, gives}
-use Rattle.frame.specs.Calls.{Line, line, called, after, accepts, accepted, fits, laidFrom, IsFrame}
+use Rattle.frame.specs.Frame.{layout, kindsOf, lastPlace, kindAt, standsAt, kindDue, opens, begun, passes, gives}
+use Rattle.frame.specs.Calls.{Line, line, called, after, isBreak, accepts, accepted, fits, laidFrom, IsFrame}
 use Rattle.bits.specs.Agree.{agree}
 use Rattle.frame.specs.FrameLaws.{frame-length, passes-high, after-snoc, accepted-snoc, opens-is, first-is, sof-within, IsDue, Effect, wrongKind, wrongNumber, waits, breaks, strays, starts, restarts, goes, ends, effect, reached-passes, complete-frame}
-use Rattle.tally.specs.Tally.{isBrokenLine}
-use Rattle.tally.specs.Answered.{handedOver, isBreak}
+use Rattle.frame.specs.Handing.{handedOver, asLines, handedLines}
 use Rattle.pixel_order.specs.declared.Way.the-variants.{ToPixels}
 use Rattle.pixel_order.specs.PixelOrderLaws.{reordered-length}
 use Rattle.pgm.specs.Pgm.{size}
 use Rattle.frame_rows.specs.declared.Order.{Order}
 use Rattle.frame_rows.specs.declared.Order.the-variants.{AsSent, OddFirst}
 use Rattle.frame_rows.specs.declared.Gatherer.{Gatherer}
-use Rattle.frame_rows.specs.FrameRows.{Shown, pixelsOf, isVisible, rowOf, rowsOf, Output, nothing, complete, refused, Outcome, moved, quiet, refuses, keepRow, onward, completed, refusedBy, byRuling, handed, shownAs, takeOf}
+use Rattle.frame_rows.specs.FrameRows.{Shown, pixelsOf, isVisible, rowOf, rowsOf, Output, nothing, complete, refused, Outcome, moved, quiet, refuses, keepRow, onward, completed, refusedBy, byRuling, handed, shownAs, handing, takeOf}
 use Rattle.frame_rows.specs.Gathering.{Given, call, calls, start, unlessRefused, shown, taken, linesOf, pictureOf, Completes, Every, Whole}
 
 -- Lists of lines.
@@ -438,26 +437,19 @@ pub data Hands (x : Outcome) : List Shown → Outcome → Type 0 where
   none : Hands x [] (quiet (x .gatherer) (x .buffer))
   one : (l : Shown) → Hands x (l ∷ []) (handed (x .gatherer) l (x .buffer))
 
-pub hands : (x : Outcome) (g : Given) → Hands x (shown (handedOver (g .answer)) (g .held)) (call x g)
+pub hands : (x : Outcome) (g : Given) → Hands x (shown (handedLines (g .answer)) (g .held)) (call x g)
 unfolding takeOf
-hands x g = by (g .answer)
+hands x g = by (handedOver (g .answer))
   where
-    broken : (t : Bool)
-        → Hands x (shown (cond t (line brokenKind 0 ∷ []) []) (g .held)) (cond t (handed (x .gatherer) (shownAs brokenKind 0 (g .held)) (x .buffer)) (quiet (x .gatherer) (x .buffer)))
-    broken true = one (shownAs brokenKind 0 (g .held))
-    broken false = none
-
-    by : (a : Answer) → Hands x (shown (handedOver a) (g .held)) (takeOf (x .gatherer) a (g .held) (x .buffer))
-    by answer.Nothing = none
-    by (answer.Line f) = one (shownAs (kindNumber (f .kind)) (f .number) (g .held))
-    by (answer.Gap g) = none
-    by (answer.Refused n) = broken (isBrokenLine n)
+    by : (h : Handed) → Hands x (shown (asLines h) (g .held)) (handing (x .gatherer) h (g .held) (x .buffer))
+    by hand.Nothing = none
+    by (hand.Line k n) = one (shownAs k n (g .held))
 
 -- Calls.
 
 holds-call : (o : Order) (ls : List Shown) (x : Outcome) (g : Given) → Holds o ls x
-    → Holds o (ls ++ unlessRefused (call x g .output) (shown (handedOver (g .answer)) (g .held))) (call x g)
-holds-call o ls x g h = by (shown (handedOver (g .answer)) (g .held)) (call x g) (hands x g)
+    → Holds o (ls ++ unlessRefused (call x g .output) (shown (handedLines (g .answer)) (g .held))) (call x g)
+holds-call o ls x g h = by (shown (handedLines (g .answer)) (g .held)) (call x g) (hands x g)
   where
     by : (ms : List Shown) (y : Outcome) → Hands x ms y → Holds o (ls ++ unlessRefused (y .output) ms) y
     by _ _ none = still o ls x nothing refl h
@@ -466,7 +458,7 @@ holds-call o ls x g h = by (shown (handedOver (g .answer)) (g .held)) (call x g)
 pub holds-calls : (o : Order) (ls : List Shown) (x : Outcome) (gs : List Given) → Holds o ls x → Holds o (ls ++ taken x gs) (calls x gs)
 holds-calls o ls x [] h = subst (λ (t : List Shown). Holds o t x) (sym (append-nil ls)) h
 holds-calls o ls x (g ∷ gs) h =
-    let a : List Shown = unlessRefused (call x g .output) (shown (handedOver (g .answer)) (g .held)) in
+    let a : List Shown = unlessRefused (call x g .output) (shown (handedLines (g .answer)) (g .held)) in
     subst (λ (t : List Shown). Holds o t (calls (call x g) gs)) (append-assoc ls a (taken (call x g) gs))
     (holds-calls o (ls ++ a) (call x g) gs (holds-call o ls x g h))
 

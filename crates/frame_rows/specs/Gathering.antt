@@ -12,7 +12,7 @@ use Rattle.stream.specs.declared.Answer.{Answer}
 use Rattle.frame.specs.declared.Borders.{Borders}
 use Rattle.frame.specs.declared.Borders.the-variants as frame
 use Rattle.frame.specs.Calls.{Line, IsFrame}
-use Rattle.tally.specs.Answered.{handedOver}
+use Rattle.frame.specs.Handing.{handedLines}
 use Rattle.pgm.specs.Pgm.{size}
 use Rattle.pgm.specs.declared.Borders as picture
 use Rattle.pgm.specs.declared.Borders.the-variants as pgm
@@ -53,12 +53,12 @@ shown (l ∷ ls) held = shownAs (l .kind) (l .number) held ∷ shown ls held
 
 abbrev pub taken : Outcome → List Given → List Shown
 taken x [] = []
-taken x (g ∷ gs) = unlessRefused (call x g .output) (shown (handedOver (g .answer)) (g .held)) ++ taken (call x g) gs
+taken x (g ∷ gs) = unlessRefused (call x g .output) (shown (handedLines (g .answer)) (g .held)) ++ taken (call x g) gs
 
 -- refused or not
 abbrev pub shownAll : List Given → List Shown
 shownAll [] = []
-shownAll (g ∷ gs) = shown (handedOver (g .answer)) (g .held) ++ shownAll gs
+shownAll (g ∷ gs) = shown (handedLines (g .answer)) (g .held) ++ shownAll gs
 
 abbrev pub linesOf : List Shown → List Line
 linesOf [] = []

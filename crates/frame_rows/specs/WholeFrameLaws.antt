@@ -21,7 +21,7 @@ use Rattle.frame.specs.declared.Ruling.the-variants as ruling
 use Rattle.frame.specs.Frame.{lastPlace, kindAt, begun, passes, judgeOf}
 use Rattle.frame.specs.Calls.{Line, line, called, rulings, fits, laidFrom, IsFrame}
 use Rattle.frame.specs.FrameLaws.{first-is, sof-within, reached-passes, toComplete, frame-complete}
-use Rattle.tally.specs.Answered.{handedOver}
+use Rattle.frame.specs.Handing.{handedLines}
 use Rattle.pgm.specs.Pgm.{size}
 use Rattle.frame_rows.specs.declared.Order.{Order}
 use Rattle.frame_rows.specs.declared.Gatherer.{Gatherer}
@@ -31,8 +31,8 @@ use Rattle.frame_rows.specs.FrameRowsLaws.{rows-append, pixels-length, f
 
 -- The call that brings a line.
 
-brings : (x : Outcome) (g : Given) (l : Shown) → shown (handedOver (g .answer)) (g .held) ≡ l ∷ [] → call x g ≡ handed (x .gatherer) l (x .buffer)
-brings x g l e = by (shown (handedOver (g .answer)) (g .held)) (call x g) (hands x g) e
+brings : (x : Outcome) (g : Given) (l : Shown) → shown (handedLines (g .answer)) (g .held) ≡ l ∷ [] → call x g ≡ handed (x .gatherer) l (x .buffer)
+brings x g l e = by (shown (handedLines (g .answer)) (g .held)) (call x g) (hands x g) e
   where
     by : (ls : List Shown) (y : Outcome) → Hands x ls y → ls ≡ l ∷ [] → y ≡ handed (x .gatherer) l (x .buffer)
     by _ _ none f = absurd (let z : _≡_ {A = ℕ} 0 1 = ap length f in omega arith)
@@ -140,14 +140,14 @@ after-line o a ls l x f r rest = by (isVisible (a .given .kind)) refl
         ∙ rest y q
         ∙ ap (λ (t : List ℕ). complete (s .kept + length t) (take (s .kept) (x .buffer) ++ t)) (sym e)
 
-rest-shown : (o : Order) (gs : List Given) (g : Given) (l : Shown) (x : Outcome) → shown (handedOver (g .answer)) (g .held) ≡ l ∷ []
+rest-shown : (o : Order) (gs : List Given) (g : Given) (l : Shown) (x : Outcome) → shown (handedLines (g .answer)) (g .held) ≡ l ∷ []
     → Ready o (shownAll gs) l x → Said o (shownAll gs) x (calls x (gs ++ (g ∷ [])))
 rest-shown o [] g l x e r =
     ap (λ (y : Outcome). y .output) (brings x g l e)
     ∙ shows (x .gatherer) l (x .buffer) (only (called VV5404 (x .gatherer .judge) (l .given) .ruling) (r .count) (r .due)) (omega (arith, r .room))
     ∙ ap (λ (k : ℕ). complete k (take (x .gatherer .kept) (x .buffer))) (omega arith)
     ∙ ap (complete (x .gatherer .kept + 0)) (sym (append-nil (take (x .gatherer .kept) (x .buffer))))
-rest-shown o (a ∷ gs) g l x e r = by (shown (handedOver (a .answer)) (a .held)) (call x a) (hands x a) r (λ y. rest-shown o gs g l y e)
+rest-shown o (a ∷ gs) g l x e r = by (shown (handedLines (a .answer)) (a .held)) (call x a) (hands x a) r (λ y. rest-shown o gs g l y e)
   where
     by : (ls : List Shown) (y : Outcome) → Hands x ls y → Ready o (ls ++ shownAll gs) l x
         → ((z : Outcome) → Ready o (shownAll gs) l z → Said o (shownAll gs) z (calls z (gs ++ (g ∷ []))))
@@ -226,10 +226,10 @@ first-line o b a ls l x f r rest =
     ∙ ap (λ (k : ℕ). complete k (rowsOf o ls)) (omega (arith, n))
     ∙ ap (complete (size (pictureOf b))) (sym m)
 
-arrives-shown : (o : Order) (b : Borders) (gs : List Given) (g : Given) (l : Shown) (x : Outcome) → shown (handedOver (g .answer)) (g .held) ≡ l ∷ []
+arrives-shown : (o : Order) (b : Borders) (gs : List Given) (g : Given) (l : Shown) (x : Outcome) → shown (handedLines (g .answer)) (g .held) ≡ l ∷ []
     → Arrives o b (shownAll gs) l x → SaysAll o b (shownAll gs) l (calls x (gs ++ (g ∷ [])))
 arrives-shown o b [] g l x e r = absurd (let z = r .frame .0 in omega arith)
-arrives-shown o b (a ∷ gs) g l x e r = by (shown (handedOver (a .answer)) (a .held)) (call x a) (hands x a) r (λ y. arrives-shown o b gs g l y e)
+arrives-shown o b (a ∷ gs) g l x e r = by (shown (handedLines (a .answer)) (a .held)) (call x a) (hands x a) r (λ y. arrives-shown o b gs g l y e)
   where
     by : (ls : List Shown) (y : Outcome) → Hands x ls y → Arrives o b (ls ++ shownAll gs) l x
         → ((z : Outcome) → Arrives o b (shownAll gs) l z → SaysAll o b (shownAll gs) l (calls z (gs ++ (g ∷ []))))
@@ -245,7 +245,7 @@ clear-rows o ls x h q = subst (λ (j : Judge). Rows o ls j (x .gatherer .kept) (
 -- after any calls, `before`: where the calls from there on hand over exactly the lines of a frame, the last of them with the last call, each
 -- visible body fills a row, and the buffer has room for the picture, the last call says complete, with the frame's rows
 pub frame-shown : (o : Order) (buffer : List ℕ) (before gs : List Given) (g : Given) (l : Shown) (b : Borders)
-    → shown (handedOver (g .answer)) (g .held) ≡ l ∷ [] → IsFrame VV5404 b (linesOf (shownAll gs ++ (l ∷ []))) → Every Whole (shownAll gs)
+    → shown (handedLines (g .answer)) (g .held) ≡ l ∷ [] → IsFrame VV5404 b (linesOf (shownAll gs ++ (l ∷ []))) → Every Whole (shownAll gs)
     → size (pictureOf b) ≤ length (calls (start o buffer) before .buffer)
     → calls (calls (start o buffer) before) (gs ++ (g ∷ [])) .output ≡ complete (size (pictureOf b)) (rowsOf o (shownAll gs ++ (l ∷ [])))
 frame-shown o buffer before gs g l b e f w room =

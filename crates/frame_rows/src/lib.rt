@@ -1,7 +1,7 @@
 // The rows of a picture, gathered from the reader's answers (paper 02, A1 and A2): the visible lines of a complete profile 0 frame.
 //
-// In: the answer of each call to the reader, in order, with the line buffer as it is then, and a lent buffer for rows. Each line given out
-// goes to the judge, and kind 0 for each answer 1 to 7. A visible line that is due puts its 356 pixels after the rows kept, as sent, or in
+// In: the answer of each call to the reader, in order, with the line buffer as it is then, and a lent buffer for rows. What
+// frame::handed_over has of an answer goes to the judge. A visible line that is due puts its 356 pixels after the rows kept, as sent, or in
 // order where the head sends odd pixels first; a frame that breaks leaves none. Out: beside the next gatherer, nothing yet, or at a frame's
 // last line the length of its rows, which stand at the front of the buffer; `pgm::write` takes them. Refused, and then nothing changes: 11
 // and 14 as the judge refuses them; 12 where a row is due and the line buffer is shorter than 356 or the rows' buffer has no room for it,
@@ -14,6 +14,7 @@ ghost use lib.Dec.{leb};
 ghost use lib.ListN.{length, take, drop};
 ghost use Rattle.profile.specs.Profile.{longest};
 ghost use Rattle.frame_rows.specs.FrameRows.{pixelsOf, fresh, moved, saying, shownAs, keepRow, onward, completed, handed, takeOf, Gives};
+use frame::Handed;
 use frame::Judge;
 use frame::Ruling;
 use line_code::Kind;
@@ -63,19 +64,10 @@ impl Gatherer {
     pub fn take(self, answer: Answer, line: &[u8], rows: &mut [u8]) -> Gathered
         ensures { λ r. ⌜ Gives (takeOf self answer (now (line .entry)) (now (rows .entry))) r (now (rows .exit)) ⌝ }
     {
-        match answer {
-            Answer::Nothing => quiet(self),
-            Answer::Line(facts) => {
-                let kind = facts.kind;
-                self.hand(kind.number(), facts.number, line, rows)
-            }
-            Answer::Gap(_) => quiet(self),
-            Answer::Refused(number) => {
-                if tally::is_broken_line(number) {
-                    return self.hand(Judge::BROKEN, 0, line, rows);
-                }
-                quiet(self)
-            }
+        let handed = frame::handed_over(answer);
+        match handed {
+            Handed::Nothing => quiet(self),
+            Handed::Line(kind, number) => self.hand(kind, number, line, rows),
         }
     }
 
@@ -92,7 +84,7 @@ impl Gatherer {
             Ruling::Going => self.onward(judge, kind, line, rows),
             Ruling::Complete => self.completed(judge, rows),
             Ruling::Refused(refusal) => {
-                if tally::breaks_frame(refusal) {
+                if frame::breaks_frame(refusal) {
                     return quiet(self.moved(judge, 0));
                 }
                 refused(self, refusal)

@@ -1,4 +1,4 @@
--- A capture's answers in a row: the tally after them, what they told, and what 01 hands to the judge.
+-- A capture's answers in a row: the tally after them, what they told, and what the judge said of them.
 use mathlib.Core.Bool.{Bool, true, false, _||_, cond}
 use mathlib.Core.List.{List, [], _∷_, _++_}
 use Prim.Native.Nat.{ℕ}
@@ -9,13 +9,11 @@ use Rattle.stream.specs.declared.LineFacts.{LineFacts}
 use Rattle.stream.specs.declared.Answer.{Answer}
 use Rattle.stream.specs.declared.Answer.the-variants as answer
 use Rattle.frame.specs.declared.Ruling.{Ruling}
-use Rattle.frame.specs.declared.Ruling.the-variants as ruling
-use Rattle.frame.specs.Frame.{brokenKind}
 use Rattle.frame.specs.Calls.{Line, line}
 use Rattle.tally.specs.declared.Tally.{Tally}
 use Rattle.tally.specs.declared.News.{News}
 use Rattle.tally.specs.declared.News.the-variants.{Nothing, Complete, Broken, Cut}
-use Rattle.tally.specs.Tally.{oneMore, freshTally, breaksFrame, isBrokenLine, takeOf, closeOf}
+use Rattle.tally.specs.Tally.{oneMore, freshTally, takeOf, closeOf}
 
 -- the tally after some answers, and what they told
 abbrev pub tallied : Tally → List Answer → Tally
@@ -57,32 +55,9 @@ abbrev pub some : (News → Bool) → List News → Bool
 some says [] = false
 some says (n ∷ w) = says n || some says w
 
--- What 01 hands to the judge.
+-- What the judge said.
 
--- each line given out, and kind 0 for each answer 1 to 7
-abbrev pub handedOver : Answer → List Line
-handedOver answer.Nothing = []
-handedOver (answer.Line f) = line (kindNumber (f .kind)) (f .number) ∷ []
-handedOver (answer.Gap g) = []
-handedOver (answer.Refused n) = cond (isBrokenLine n) (line brokenKind 0 ∷ []) []
-
-abbrev pub allHanded : List Answer → List Line
-allHanded [] = []
-allHanded (a ∷ w) = handedOver a ++ allHanded w
-
--- the rulings that are Complete, and those that break a frame, counted on from n
-abbrev pub isComplete : Ruling → Bool
-isComplete ruling.Waiting = false
-isComplete ruling.Going = false
-isComplete ruling.Complete = true
-isComplete (ruling.Refused refusal) = false
-
-abbrev pub isBreak : Ruling → Bool
-isBreak ruling.Waiting = false
-isBreak ruling.Going = false
-isBreak ruling.Complete = false
-isBreak (ruling.Refused refusal) = breaksFrame refusal
-
+-- the rulings of a sort, counted on from n
 abbrev pub counting : (Ruling → Bool) → ℕ → List Ruling → ℕ
 counting which n [] = n
 counting which n (v ∷ w) = counting which (cond (which v) (oneMore n) n) w

@@ -1,19 +1,21 @@
 -- The frames of a capture, from the answers of the reader's calls (01, 'Frames of profile 0').
-use mathlib.Core.Bool.{Bool, false, _&&_, _||_, cond}
+use mathlib.Core.Bool.{Bool, false, _&&_, cond}
 use Prim.Native.Nat.{ℕ, _+_}
 use lib.Dec.{eqb, ltb}
-use Rattle.refusal.specs.Refusal.{damagedCode, unfinishedLine, noEndOfLine, notTheLineDue, brokenLine}
-use Rattle.line_code.specs.LineCode.{kindNumber}
+use Rattle.refusal.specs.Refusal.{unfinishedLine}
 use Rattle.profile.specs.declared.Profile.{Profile}
 use Rattle.stream.specs.declared.Answer.{Answer}
 use Rattle.stream.specs.declared.Answer.the-variants as answer
 use Rattle.frame.specs.declared.Borders.{Borders}
 use Rattle.frame.specs.declared.Borders.the-variants.{Unsettled}
+use Rattle.frame.specs.declared.Handed.{Handed}
+use Rattle.frame.specs.declared.Handed.the-variants as hand
 use Rattle.frame.specs.declared.Judge.{Judge}
 use Rattle.frame.specs.declared.Judge.the-variants.{Waiting, Due}
 use Rattle.frame.specs.declared.Ruling.{Ruling}
 use Rattle.frame.specs.declared.Ruling.the-variants as ruling
-use Rattle.frame.specs.Frame.{within, brokenKind, judgeOf}
+use Rattle.frame.specs.Frame.{judgeOf, breaksFrame}
+use Rattle.frame.specs.Handing.{handedOver}
 use Rattle.tally.specs.declared.Tally.{Tally}
 use Rattle.tally.specs.declared.News.{News}
 use Rattle.tally.specs.declared.News.the-variants.{Nothing, Complete, Broken, Cut}
@@ -73,10 +75,6 @@ brokenBy t j refusal own =
       news = Broken (t .frames) (t .marks) refusal own;
     }
 
--- 18 and 19 break a frame; 11, 13 and 14 leave the judge as it was
-abbrev pub breaksFrame : ℕ → Bool
-breaksFrame refusal = eqb refusal notTheLineDue || eqb refusal brokenLine
-
 unfoldable pub refusedBy : Tally → Judge → ℕ → ℕ → Told
 refusedBy t j refusal own = cond (breaksFrame refusal) (brokenBy t j refusal own) (quiet (moved t (t .judge) j))
 
@@ -92,16 +90,27 @@ handed t k n own = told t own (judgeOf (t .profile) (t .judge) k n .judge) (judg
 
 -- An answer.
 
--- answers 1 to 7
-unfoldable pub isBrokenLine : ℕ → Bool
-isBrokenLine n = within damagedCode noEndOfLine n
+-- every answer but Nothing counts a mark
+abbrev pub markedBy : Tally → Answer → Tally
+markedBy t answer.Nothing = t
+markedBy t (answer.Line f) = marked t
+markedBy t (answer.Gap g) = marked t
+markedBy t (answer.Refused n) = marked t
 
--- every answer but Nothing counts a mark; a line is handed to the judge, and kind 0 for answers 1 to 7
+-- the refusal that a mark was answered; 0 where it was not refused
+abbrev pub ownAnswer : Answer → ℕ
+ownAnswer answer.Nothing = 0
+ownAnswer (answer.Line f) = 0
+ownAnswer (answer.Gap g) = 0
+ownAnswer (answer.Refused n) = n
+
+-- what is handed to the judge; and the mark's own answer
+abbrev pub handing : Tally → Handed → ℕ → Told
+handing t hand.Nothing own = quiet t
+handing t (hand.Line k n) own = handed t k n own
+
 unfoldable pub takeOf : Tally → Answer → Told
-takeOf t answer.Nothing = quiet t
-takeOf t (answer.Line f) = handed (marked t) (kindNumber (f .kind)) (f .number) 0
-takeOf t (answer.Gap g) = quiet (marked t)
-takeOf t (answer.Refused n) = cond (isBrokenLine n) (handed (marked t) brokenKind 0 n) (quiet (marked t))
+takeOf t a = handing (markedBy t a) (handedOver a) (ownAnswer a)
 
 -- The end of the capture.
 

@@ -14,19 +14,22 @@ use Rattle.profile.specs.declared.Profile.the-variants.{VV5404, VV5300}
 use Rattle.stream.specs.declared.Answer.{Answer}
 use Rattle.stream.specs.declared.Answer.the-variants as answer
 use Rattle.frame.specs.declared.Borders.{Borders}
+use Rattle.frame.specs.declared.Handed.{Handed}
+use Rattle.frame.specs.declared.Handed.the-variants as hand
 use Rattle.frame.specs.declared.Judge.{Judge}
 use Rattle.frame.specs.declared.Judge.the-variants.{Waiting, Due}
 use Rattle.frame.specs.declared.Ruling.{Ruling}
 use Rattle.frame.specs.declared.Ruling.the-variants as ruling
-use Rattle.frame.specs.Frame.{lastPlace, brokenKind, judgeOf}
-use Rattle.frame.specs.Calls.{Line, line, called, after, rulings, IsFrame}
+use Rattle.frame.specs.Frame.{lastPlace, judgeOf, breaksFrame}
+use Rattle.frame.specs.Calls.{Line, line, called, after, rulings, isComplete, isBreak, IsFrame}
+use Rattle.frame.specs.Handing.{handedOver, asLines, handedLines, allHanded}
 use Rattle.frame.specs.FrameLaws.{toComplete, frame-complete}
 use Rattle.tally.specs.declared.Tally.{Tally}
 use Rattle.tally.specs.declared.Told.{Told}
 use Rattle.tally.specs.declared.News.{News}
 use Rattle.tally.specs.declared.News.the-variants.{Nothing, Complete, Broken, Cut}
-use Rattle.tally.specs.Tally.{oneMore, countStop, freshTally, marked, moved, quiet, brokenBy, breaksFrame, refusedBy, told, handed, isBrokenLine, takeOf, cutWithin, cutOf, isUnfinished, ended, closeOf, isGood}
-use Rattle.tally.specs.Answered.{tallied, newsOf, withMark, captureTally, captureNews, saysComplete, saysBroken, some, handedOver, allHanded, isComplete, isBreak, counting, linesOf, withGaps, LineWithGap}
+use Rattle.tally.specs.Tally.{oneMore, countStop, freshTally, marked, moved, quiet, brokenBy, refusedBy, told, handed, handing, takeOf, cutWithin, cutOf, isUnfinished, ended, closeOf, isGood}
+use Rattle.tally.specs.Answered.{tallied, newsOf, withMark, captureTally, captureNews, saysComplete, saysBroken, some, counting, linesOf, withGaps, LineWithGap}
 
 -- Marks.
 
@@ -45,16 +48,16 @@ handed-marks : (t : Tally) (k n own : ℕ) → handed t k n own .tally .marks �
 unfolding handed
 handed-marks t k n own = told-marks t own (judgeOf (t .profile) (t .judge) k n .judge) (judgeOf (t .profile) (t .judge) k n .ruling)
 
+handing-marks : (t : Tally) (h : Handed) (own : ℕ) → handing t h own .tally .marks ≡ t .marks
+handing-marks t hand.Nothing own = refl
+handing-marks t (hand.Line k n) own = handed-marks t k n own
+
 take-marks : (t : Tally) (a : Answer) → takeOf t a .tally .marks ≡ withMark (t .marks) a
 unfolding takeOf
 take-marks t answer.Nothing = refl
-take-marks t (answer.Line f) = handed-marks (marked t) (kindNumber (f .kind)) (f .number) 0
+take-marks t (answer.Line f) = handing-marks (marked t) (handedOver (answer.Line f)) 0
 take-marks t (answer.Gap g) = refl
-take-marks t (answer.Refused n) = either (isBrokenLine n)
-  where
-    either : (b : Bool) → cond b (handed (marked t) brokenKind 0 n) (quiet (marked t)) .tally .marks ≡ oneMore (t .marks)
-    either true = handed-marks (marked t) brokenKind 0 n
-    either false = refl
+take-marks t (answer.Refused n) = handing-marks (marked t) (handedOver (answer.Refused n)) n
 
 cut-marks : (t : Tally) → cutOf t .tally .marks ≡ t .marks
 unfolding cutOf
@@ -125,16 +128,16 @@ one-judged t l own =
     let h = by-told (marked t) own (called (t .profile) (t .judge) l .judge) (called (t .profile) (t .judge) l .ruling) in
     record { profile = h .0; judge = h .1; complete = h .2; broken = h .3 }
 
-take-judged : (t : Tally) (a : Answer) → Judges t (handedOver a) (takeOf t a .tally)
+handing-judged : (t : Tally) (h : Handed) (own : ℕ) → Judges t (asLines h) (handing (marked t) h own .tally)
+handing-judged t hand.Nothing own = record { profile = refl; judge = refl; complete = refl; broken = refl }
+handing-judged t (hand.Line k n) own = one-judged t (line k n) own
+
+take-judged : (t : Tally) (a : Answer) → Judges t (handedLines a) (takeOf t a .tally)
 unfolding takeOf
 take-judged t answer.Nothing = nothing-judged t
-take-judged t (answer.Line f) = one-judged t (line (kindNumber (f .kind)) (f .number)) 0
-take-judged t (answer.Gap g) = record { profile = refl; judge = refl; complete = refl; broken = refl }
-take-judged t (answer.Refused n) = either (isBrokenLine n)
-  where
-    either : (b : Bool) → Judges t (cond b (line brokenKind 0 ∷ []) []) (cond b (handed (marked t) brokenKind 0 n) (quiet (marked t)) .tally)
-    either true = one-judged t (line brokenKind 0) n
-    either false = record { profile = refl; judge = refl; complete = refl; broken = refl }
+take-judged t (answer.Line f) = handing-judged t (handedOver (answer.Line f)) 0
+take-judged t (answer.Gap g) = handing-judged t hand.Nothing 0
+take-judged t (answer.Refused n) = handing-judged t (handedOver (answer.Refused n)) n
 
 after-append : (p : Profile) (j : Judge) (ls ms : List Line) → after p j (ls ++ ms) ≡ after p (after p j ls) ms
 after-append p j [] ms = refl
@@ -216,16 +219,16 @@ says-handed : (t : Tally) (k n own : ℕ) → Says (t .complete) (t .broken) (ha
 unfolding handed
 says-handed t k n own = says-told t own (judgeOf (t .profile) (t .judge) k n .judge) (judgeOf (t .profile) (t .judge) k n .ruling)
 
+says-handing : (t : Tally) (h : Handed) (own : ℕ) → Says (t .complete) (t .broken) (handing t h own)
+says-handing t hand.Nothing own = says-nothing t
+says-handing t (hand.Line k n) own = says-handed t k n own
+
 says-take : (t : Tally) (a : Answer) → Says (t .complete) (t .broken) (takeOf t a)
 unfolding takeOf
 says-take t answer.Nothing = says-nothing t
-says-take t (answer.Line f) = says-handed (marked t) (kindNumber (f .kind)) (f .number) 0
+says-take t (answer.Line f) = says-handing (marked t) (handedOver (answer.Line f)) 0
 says-take t (answer.Gap g) = says-nothing (marked t)
-says-take t (answer.Refused n) = either (isBrokenLine n)
-  where
-    either : (b : Bool) → Says (t .complete) (t .broken) (cond b (handed (marked t) brokenKind 0 n) (quiet (marked t)))
-    either true = says-handed (marked t) brokenKind 0 n
-    either false = says-nothing (marked t)
+says-take t (answer.Refused n) = says-handing (marked t) (handedOver (answer.Refused n)) n
 
 says-cut : (t : Tally) → Says (t .complete) (t .broken) (cutOf t)
 unfolding cutOf

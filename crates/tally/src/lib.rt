@@ -1,11 +1,12 @@
 // The frames of a capture (paper 01, 'Frames of profile 0'): how many are complete, how many are broken, and why.
 //
 // In: the answer of each call to the reader, in order; at the end, finish's. Out: beside the next tally, news of a frame that is complete,
-// broken, or cut off by the capture's end. Each line given out is handed to the judge, and kind 0 for each answer 1 to 7. Nothing is
+// broken, or cut off by the capture's end. What frame::handed_over has of an answer is handed to the judge. Nothing is
 // refused; where the judge refuses 11, 13 or 14, which leave it as it was, the mark is counted. Cost: constant.
 ghost use mathlib.Core.Path.{_≡_};
-ghost use Rattle.tally.specs.Tally.{freshTally, oneMore, quiet, marked, isBrokenLine, bordersOf, opening, moved, completed, brokenBy, breaksFrame, refusedBy, handed, takeOf, isUnfinished, cutOf, closeOf, isGood};
+ghost use Rattle.tally.specs.Tally.{freshTally, oneMore, quiet, marked, markedBy, ownAnswer, bordersOf, opening, moved, completed, brokenBy, refusedBy, handed, takeOf, isUnfinished, cutOf, closeOf, isGood};
 use frame::Borders;
+use frame::Handed;
 use frame::Judge;
 use frame::Ruling;
 use profile::Profile;
@@ -58,19 +59,11 @@ impl Tally {
     pub fn take(self, answer: Answer) -> Told
         ensures { λ r. ⌜ r ≡ takeOf self answer ⌝ }
     {
-        match answer {
-            Answer::Nothing => quiet(self),
-            Answer::Line(facts) => {
-                let kind = facts.kind;
-                self.marked().hand(kind.number(), facts.number, NO_REFUSAL)
-            }
-            Answer::Gap(_) => quiet(self.marked()),
-            Answer::Refused(number) => {
-                if is_broken_line(number) {
-                    return self.marked().hand(Judge::BROKEN, 0, number);
-                }
-                quiet(self.marked())
-            }
+        let tally = self.marked_by(answer);
+        let handed = frame::handed_over(answer);
+        match handed {
+            Handed::Nothing => quiet(tally),
+            Handed::Line(kind, number) => { tally.hand(kind, number, own_answer(answer)) }
         }
     }
 
@@ -119,6 +112,18 @@ impl Tally {
             frames: self.frames,
             complete: self.complete,
             broken: self.broken,
+        }
+    }
+
+    // Every answer but Nothing is a mark's.
+    fn marked_by(self, answer: Answer) -> Tally
+        ensures { λ r. ⌜ r ≡ markedBy self answer ⌝ }
+    {
+        match answer {
+            Answer::Nothing => self,
+            Answer::Line(_) => self.marked(),
+            Answer::Gap(_) => self.marked(),
+            Answer::Refused(_) => self.marked(),
         }
     }
 
@@ -178,7 +183,7 @@ impl Tally {
     fn refused(self, judge: Judge, number: u8, own: u8) -> Told
         ensures { λ r. ⌜ r ≡ refusedBy self judge number own ⌝ }
     {
-        if breaks_frame(number) {
+        if frame::breaks_frame(number) {
             return self.broken_by(judge, number, own);
         }
         let before = self.judge;
@@ -221,35 +226,24 @@ impl Tally {
     }
 }
 
-// Whether an answer's refusal number, 1 to 7, is that of a broken line.
-pub fn is_broken_line(number: u8) -> bool
-    ensures { λ r. ⌜ r ≡ isBrokenLine number ⌝ }
-{
-    if number < refusal::DAMAGED_CODE {
-        return false;
-    }
-    number <= refusal::NO_END_OF_LINE
-}
-
-// Whether a refusal of the judge, 18 or 19, breaks the frame.
-pub fn breaks_frame(number: u8) -> bool
-    ensures { λ r. ⌜ r ≡ breaksFrame number ⌝ }
-{
-    if number == refusal::NOT_THE_LINE_DUE {
-        return true;
-    }
-    number == refusal::BROKEN_LINE
-}
-
-// A line that is given out has no refusal.
-const NO_REFUSAL: u8 = 0;
-
 // A tally without news.
 fn quiet(tally: Tally) -> Told
     ensures { λ r. ⌜ r ≡ quiet tally ⌝ }
 {
     let news = News::Nothing;
     Told { tally, news }
+}
+
+// The refusal that a mark was answered; 0 where it was not refused.
+fn own_answer(answer: Answer) -> u8
+    ensures { λ r. ⌜ r ≡ ownAnswer answer ⌝ }
+{
+    match answer {
+        Answer::Nothing => 0,
+        Answer::Line(_) => 0,
+        Answer::Gap(_) => 0,
+        Answer::Refused(number) => number,
+    }
 }
 
 // Whether the capture ended within a line.

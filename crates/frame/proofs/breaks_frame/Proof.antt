@@ -1,7 +1,7 @@
 -- 18 is tested first; a number that is not 18 breaks a frame only where it is 19.
 use borrow.Author.Tests.{eq-eqb, ne-eqb}
-use Rattle.tally.proofs.breaks_frame.Statement.{statement}
-use Rattle.tally.proofs.breaks_frame.Tie as tie
+use Rattle.frame.proofs.breaks_frame.Statement.{statement}
+use Rattle.frame.proofs.breaks_frame.Tie as tie
 
 returns : tie.Need-returns
 returns c = simp (eq-eqb _ _ (c .if1 .taken))
