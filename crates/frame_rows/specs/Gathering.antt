@@ -10,12 +10,12 @@ use Rattle.profile.specs.Profile.{longest}
 use Rattle.profile.specs.Layout.{rules, fits}
 use Rattle.stream.specs.declared.Answer.{Answer}
 use Rattle.frame.specs.declared.Borders.{Borders}
-use Rattle.frame.specs.declared.Borders.the-variants as frame
+use Rattle.frame.specs.declared.Borders.the-variants.{Unsettled, On, Off}
 use Rattle.frame.specs.Calls.{Line, IsFrame}
 use Rattle.frame.specs.Handing.{handedLines}
 use Rattle.pgm.specs.Pgm.{size}
-use Rattle.pgm.specs.declared.Borders as picture
-use Rattle.pgm.specs.declared.Borders.the-variants as pgm
+use Rattle.pgm.specs.declared.Format.{Format}
+use Rattle.pgm.specs.declared.Format.the-variants.{Bordered, Plain}
 use Rattle.frame_rows.specs.declared.Order.{Order}
 use Rattle.frame_rows.specs.FrameRows.{Shown, isVisible, rowsOf, Output, nothing, complete, refused, Outcome, fresh, quiet, shownAs, takeOf}
 
@@ -65,10 +65,10 @@ linesOf [] = []
 linesOf (l ∷ ls) = l .given ∷ linesOf ls
 
 -- the picture of a frame: borders on (Unsettled has the same) or off
-abbrev pub pictureOf : Borders → picture.Borders
-pictureOf frame.Unsettled = pgm.On
-pictureOf frame.On = pgm.On
-pictureOf frame.Off = pgm.Off
+abbrev pub pictureOf : Borders → Format
+pictureOf Unsettled = Bordered
+pictureOf On = Bordered
+pictureOf Off = Plain
 
 -- the lines taken end in those of a whole frame, and the rows are its rows, all of them
 pub record Completes (o : Order) (ls : List Shown) (n : ℕ) (rows : List ℕ) : Type 0 where

@@ -80,7 +80,7 @@ module _ (o : Order) (ls : List Shown) (n : ℕ) (rows : List ℕ) (c : Complete
   pub rows-picture : Every Laid ls → Picture rows (imageOf (pictureOf (c .borders)) rows)
   rows-picture h =
       record {
-        borders = pictureOf (c .borders);
+        format = pictureOf (c .borders);
         sized = c .sized;
         good = ap pixels (c .shows) ∙ rows-pixels o (c .frame) (every-back Laid (c .earlier) (c .frame) (subst (Every Laid) (c .ends) h));
         made = refl;

@@ -11,20 +11,20 @@ use Rattle.profile.specs.declared.Profile.the-variants.{VV5404}
 use Rattle.profile.specs.Profile.{bodyLength}
 use Rattle.profile.specs.Layout.{isPixel}
 use Rattle.lent_buffer.specs.Filled.{Output, refused, require, fitted}
-use Rattle.pgm.specs.declared.Borders.{Borders}
-use Rattle.pgm.specs.declared.Borders.the-variants.{On, Off}
+use Rattle.pgm.specs.declared.Format.{Format}
+use Rattle.pgm.specs.declared.Format.the-variants.{Bordered, Plain}
 
 -- the pixels of a row: a visible line's body
 abbrev pub width : ℕ
 width = bodyLength VV5404
 
 -- the rows of a picture: a frame's visible lines with borders on, or off
-abbrev pub height : Borders → ℕ
-height On = 292
-height Off = 288
+abbrev pub height : Format → ℕ
+height Bordered = 292
+height Plain = 288
 
 -- the pixels of a picture
-abbrev pub size : Borders → ℕ
+abbrev pub size : Format → ℕ
 size b = height b * width
 
 -- the greatest value of a pixel, as the header gives it
@@ -32,7 +32,7 @@ abbrev pub maxval : ℕ
 maxval = 255
 
 -- the format's name, width and height, the greatest value, each line with its newline
-unfoldable pub header : Borders → List ℕ
+unfoldable pub header : Format → List ℕ
 header b = ascii "P5\n" ++ (decimal width ++ (space ∷ (decimal (height b) ++ (newline ∷ (decimal maxval ++ (newline ∷ []))))))
 
 -- a number in three decimal digits, as each number of the header has
@@ -43,7 +43,7 @@ abbrev pub headerLength : ℕ
 headerLength = 15
 
 -- the file of rows: the header, then the pixels
-abbrev pub imageOf : Borders → List ℕ → List ℕ
+abbrev pub imageOf : Format → List ℕ → List ℕ
 imageOf b rows = header b ++ rows
 
 -- each byte is a pixel, 01 to FE
@@ -53,10 +53,10 @@ pixels (p ∷ ps) = isPixel p && pixels ps
 
 -- the file of a picture: as many rows as its border setting has, pixels only, after that header
 pub record Picture (rows file : List ℕ) : Type 0 where
-  pub borders : Borders
-  pub sized : length rows ≡ size borders
+  pub format : Format
+  pub sized : length rows ≡ size format
   pub good : pixels rows ≡ true
-  pub made : file ≡ imageOf borders rows
+  pub made : file ≡ imageOf format rows
 
 -- a file starts with these bytes
 abbrev pub starts : List ℕ → List ℕ → Bool
@@ -65,11 +65,11 @@ starts (b ∷ bs) [] = false
 starts (b ∷ bs) (x ∷ xs) = eqb x b && starts bs xs
 
 -- by the border setting that passes a test; a refusal where neither does
-unfoldable pub either : (Borders → Bool) → (Borders → Output) → ℕ → Output
-either test then n = cond (test On) (then On) (cond (test Off) (then Off) (refused n))
+unfoldable pub either : (Format → Bool) → (Format → Output) → ℕ → Output
+either test then n = cond (test Bordered) (then Bordered) (cond (test Plain) (then Plain) (refused n))
 
 -- 22, 12, or the file: of rows of a picture's size, and the room
-abbrev pub writeAs : Borders → List ℕ → ℕ → Output
+abbrev pub writeAs : Format → List ℕ → ℕ → Output
 writeAs b rows room = require (pixels rows) badPixel (fitted (imageOf b rows) room)
 
 -- what writing answers: 21, or by the size of the rows
@@ -77,7 +77,7 @@ unfoldable pub writeOf : List ℕ → ℕ → Output
 writeOf rows room = either (λ b. eqb (length rows) (size b)) (λ b. writeAs b rows room) wrongPictureLength
 
 -- 21, 22, 12, or the rows: of what follows a header, and the room
-abbrev pub readAs : Borders → List ℕ → ℕ → Output
+abbrev pub readAs : Format → List ℕ → ℕ → Output
 readAs b rows room = require (eqb (length rows) (size b)) wrongPictureLength (require (pixels rows) badPixel (fitted rows room))
 
 -- what reading answers: 20, or by the header of the file

@@ -13,10 +13,10 @@ ghost use Rattle.pgm.specs.Pgm.{height, size, header, headerLength, pixe
 use lent_buffer::Filled;
 use profile::Profile;
 
-// The two sizes of a picture: a frame's visible lines with borders on, or off.
-pub enum Borders {
-    On,
-    Off,
+// The two formats of a picture: a frame's visible lines with borders on, and plain, with borders off.
+pub enum Format {
+    Bordered,
+    Plain,
 }
 
 // The rows of a picture with borders on, and off.
@@ -39,11 +39,11 @@ pub const LONGEST_FILE: usize = HEADER + MOST_PIXELS;
 pub fn write(rows: &[u8], file: &mut [u8]) -> Filled
     ensures { λ r. ⌜ Gives (writeOf (now (rows .entry)) (length (now (file .entry)))) r (now (file .entry)) (now (file .exit)) ⌝ }
 {
-    if rows.len() == Borders::On.size() {
-        return write_as(Borders::On, rows, file);
+    if rows.len() == Format::Bordered.size() {
+        return write_as(Format::Bordered, rows, file);
     }
-    if rows.len() == Borders::Off.size() {
-        return write_as(Borders::Off, rows, file);
+    if rows.len() == Format::Plain.size() {
+        return write_as(Format::Plain, rows, file);
     }
     Filled::Refused(refusal::WRONG_PICTURE_LENGTH)
 }
@@ -56,23 +56,23 @@ pub fn read(file: &[u8], rows: &mut [u8]) -> Filled
         return Filled::Refused(refusal::BAD_HEADER);
     }
     let body = &file[HEADER..];
-    if Borders::On.heads(file) {
-        return read_as(Borders::On, body, rows);
+    if Format::Bordered.heads(file) {
+        return read_as(Format::Bordered, body, rows);
     }
-    if Borders::Off.heads(file) {
-        return read_as(Borders::Off, body, rows);
+    if Format::Plain.heads(file) {
+        return read_as(Format::Plain, body, rows);
     }
     Filled::Refused(refusal::BAD_HEADER)
 }
 
-impl Borders {
+impl Format {
     // The rows of a picture.
     pub fn height(self) -> usize
         ensures { λ r. ⌜ r ≡ height self ⌝ }
     {
         match self {
-            Borders::On => HEIGHT_ON,
-            Borders::Off => HEIGHT_OFF,
+            Format::Bordered => HEIGHT_ON,
+            Format::Plain => HEIGHT_OFF,
         }
     }
 
@@ -134,15 +134,15 @@ fn digit(n: usize) -> u8
 }
 
 // Rows of a picture's size into its file.
-fn write_as(borders: Borders, rows: &[u8], file: &mut [u8]) -> Filled
-    ensures { λ r. ⌜ Gives (writeAs borders (now (rows .entry)) (length (now (file .entry)))) r (now (file .entry)) (now (file .exit)) ⌝ }
+fn write_as(format: Format, rows: &[u8], file: &mut [u8]) -> Filled
+    ensures { λ r. ⌜ Gives (writeAs format (now (rows .entry)) (length (now (file .entry)))) r (now (file .entry)) (now (file .exit)) ⌝ }
 {
     if all_pixels(rows) {
         let length = HEADER + rows.len();
         if file.len() < length {
             return Filled::Refused(refusal::NO_ROOM);
         }
-        bytes::copy(&borders.header(), file);
+        bytes::copy(&format.header(), file);
         bytes::copy(rows, &mut file[HEADER..]);
         return Filled::Length(length);
     }
@@ -150,10 +150,10 @@ fn write_as(borders: Borders, rows: &[u8], file: &mut [u8]) -> Filled
 }
 
 // What follows a file's header, into rows.
-fn read_as(borders: Borders, body: &[u8], rows: &mut [u8]) -> Filled
-    ensures { λ r. ⌜ Gives (readAs borders (now (body .entry)) (length (now (rows .entry)))) r (now (rows .entry)) (now (rows .exit)) ⌝ }
+fn read_as(format: Format, body: &[u8], rows: &mut [u8]) -> Filled
+    ensures { λ r. ⌜ Gives (readAs format (now (body .entry)) (length (now (rows .entry)))) r (now (rows .entry)) (now (rows .exit)) ⌝ }
 {
-    if body.len() != borders.size() {
+    if body.len() != format.size() {
         return Filled::Refused(refusal::WRONG_PICTURE_LENGTH);
     }
     if all_pixels(body) {

@@ -14,14 +14,14 @@ use Rattle.pgm.proofs.read_as.Tie as tie
 
 returns : tie.Need-returns
 unfolding require
-returns c = refuses _ _ _ (simp (ne-eqb _ (size (c .before .before .before .before .args .borders)) (λ e. c .if1 .taken (e ∙ sym (c .before .size .ensures)))))
+returns c = refuses _ _ _ (simp (ne-eqb _ (size (c .before .before .before .before .args .format)) (λ e. c .if1 .taken (e ∙ sym (c .before .size .ensures)))))
 
 returns-2 : tie.Need-returns-2
 unfolding require
 returns-2 c =
     let args = c .before .before .before .before .before .before .before .args in
     refuses _ _ _
-    (simp (eq-eqb _ (size (args .borders)) (c .before .before .before .if1 .left ∙ c .before .before .before .before .size .ensures), ← c .before .before .all-pixels .ensures, c .before .if2 .taken, lt-leb _ _ (c .if3 .taken)))
+    (simp (eq-eqb _ (size (args .format)) (c .before .before .before .if1 .left ∙ c .before .before .before .before .size .ensures), ← c .before .before .all-pixels .ensures, c .before .if2 .taken, lt-leb _ _ (c .if3 .taken)))
 
 returns-3 : tie.Need-returns-3
 unfolding require
@@ -31,7 +31,7 @@ returns-3 c =
     let a = c .before .before .before .before .before .before .before .before .before .before .before .args in
     let n = c .before .before .copy .ensures .0 in
     fills _ _ (a .body .now) _ _
-    (simp (eq-eqb _ (size (a .borders)) (test-1 .left ∙ size-there .ensures), ← c .before .before .before .before .before .before .all-pixels .ensures, c .before .before .before .before .before .if2 .taken, le-leb _ _ (c .before .before .before .before .if3 .left), n))
+    (simp (eq-eqb _ (size (a .format)) (test-1 .left ∙ size-there .ensures), ← c .before .before .before .before .before .before .all-pixels .ensures, c .before .before .before .before .before .if2 .taken, le-leb _ _ (c .before .before .before .before .if3 .left), n))
     (sym n)
     (c .before .before .copy .ensures .1 ∙ ap (λ (l : List ℕ). l ++ drop (length (a .body .now)) (a .rows .now)) (take-length (a .body .now)) ∙ ap (λ (m : ℕ). a .body .now ++ drop m (a .rows .now)) (sym n))
 
@@ -39,7 +39,7 @@ returns-4 : tie.Need-returns-4
 unfolding require
 returns-4 c =
     refuses _ _ _
-    (simp (eq-eqb _ (size (c .before .before .before .before .before .before .args .borders)) (c .before .before .if1 .left ∙ c .before .before .before .size .ensures), ← c .before .all-pixels .ensures, c .if2 .left))
+    (simp (eq-eqb _ (size (c .before .before .before .before .before .before .args .format)) (c .before .before .if1 .left ∙ c .before .before .before .size .ensures), ← c .before .all-pixels .ensures, c .if2 .left))
 
 pub read-as-spec : {M : Type 1} → statement M
 read-as-spec =

@@ -2,7 +2,7 @@
 use mathlib.Core.Path.{sym, _∙_}
 use borrow.Author.Tests.{eq-eqb, ne-eqb}
 use Rattle.lent_buffer.specs.FilledLaws.{refuses}
-use Rattle.pgm.specs.declared.Borders.the-variants.{On, Off}
+use Rattle.pgm.specs.declared.Format.the-variants.{Bordered, Plain}
 use Rattle.pgm.specs.Pgm.{size, either, writeOf}
 use borrow.Author.Needs.{needs}
 use Rattle.pgm.proofs.write.Statement.{statement}
@@ -10,20 +10,20 @@ use Rattle.pgm.proofs.write.Tie as tie
 
 returns : tie.Need-returns
 unfolding writeOf either
-returns c = simp (eq-eqb _ (size On) (c .before .before .before .before .if1 .taken ∙ c .before .before .before .before .before .size .ensures)) (c .before .before .write-as .ensures)
+returns c = simp (eq-eqb _ (size Bordered) (c .before .before .before .before .if1 .taken ∙ c .before .before .before .before .before .size .ensures)) (c .before .before .write-as .ensures)
 
 returns-2 : tie.Need-returns-2
 unfolding writeOf either
 returns-2 c =
     let size-there = c .before .before .before .before .before .before .before .size in
-    simp (ne-eqb _ (size On) (λ e. c .before .before .before .before .before .before .if1 .left (e ∙ sym (size-there .ensures))), eq-eqb _ (size Off) (c .before .before .before .before .if2 .taken ∙ c .before .before .before .before .before .size2 .ensures))
+    simp (ne-eqb _ (size Bordered) (λ e. c .before .before .before .before .before .before .if1 .left (e ∙ sym (size-there .ensures))), eq-eqb _ (size Plain) (c .before .before .before .before .if2 .taken ∙ c .before .before .before .before .before .size2 .ensures))
     (c .before .before .write-as2 .ensures)
 
 returns-3 : tie.Need-returns-3
 unfolding writeOf either
 returns-3 c =
     refuses _ _ _
-    (simp (ne-eqb _ (size On) (λ e. c .before .before .if1 .left (e ∙ sym (c .before .before .before .size .ensures))), ne-eqb _ (size Off) (λ e. c .if2 .left (e ∙ sym (c .before .size2 .ensures)))))
+    (simp (ne-eqb _ (size Bordered) (λ e. c .before .before .if1 .left (e ∙ sym (c .before .before .before .size .ensures))), ne-eqb _ (size Plain) (λ e. c .if2 .left (e ∙ sym (c .before .size2 .ensures)))))
 
 pub write-spec : {M : Type 1} → statement M
 write-spec =

@@ -13,7 +13,7 @@ returns : tie.Need-returns
 unfolding require
 returns c =
     let a = c .before .before .before .before .before .args in
-    refuses _ _ _ (simp (← c .before .before .all-pixels .ensures, c .before .if1 .taken, image-length (a .borders) (a .rows .now), lt-leb _ _ (c .if2 .taken)))
+    refuses _ _ _ (simp (← c .before .before .all-pixels .ensures, c .before .if1 .taken, image-length (a .format) (a .rows .now), lt-leb _ _ (c .if2 .taken)))
 
 returns-2 : tie.Need-returns-2
 unfolding require
@@ -23,10 +23,10 @@ returns-2 c =
     let test-2 = c .before .before .before .before .before .before .before .before .before .before .if2 in
     let header = c .before .before .before .before .before .before .before .before .before .header in
     let a = c .before .before .before .before .before .before .before .before .before .before .before .before .before .before .before .args in
-    fills _ _ (imageOf (a .borders) (a .rows .now)) _ _
-    (simp (← all-pixels .ensures, test-1 .taken, image-length (a .borders) (a .rows .now), le-leb _ _ (test-2 .left)))
-    (image-length (a .borders) (a .rows .now))
-    (copied headerLength _ _ (a .rows .now) (a .file .now) _ _ (header-length (a .borders)) (header .ensures) (c .before .before .before .before .before .before .copy .ensures .1) (c .before .before .copy2 .ensures .1))
+    fills _ _ (imageOf (a .format) (a .rows .now)) _ _
+    (simp (← all-pixels .ensures, test-1 .taken, image-length (a .format) (a .rows .now), le-leb _ _ (test-2 .left)))
+    (image-length (a .format) (a .rows .now))
+    (copied headerLength _ _ (a .rows .now) (a .file .now) _ _ (header-length (a .format)) (header .ensures) (c .before .before .before .before .before .before .copy .ensures .1) (c .before .before .copy2 .ensures .1))
 
 returns-3 : tie.Need-returns-3
 unfolding require

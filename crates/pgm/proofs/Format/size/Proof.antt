@@ -2,8 +2,8 @@
 use native.Mathlib.Omega.{arith}
 use Rattle.pgm.specs.PgmLaws.{height-most}
 use borrow.Author.Needs.{needs}
-use Rattle.pgm.proofs.Borders.size.Statement.{statement}
-use Rattle.pgm.proofs.Borders.size.Tie as tie
+use Rattle.pgm.proofs.Format.size.Statement.{statement}
+use Rattle.pgm.proofs.Format.size.Tie as tie
 
 mul-result : tie.Need-mul-result
 mul-result c = omega (arith, height-most (c .before .args .self), c .height .ensures)

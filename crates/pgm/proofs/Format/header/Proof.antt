@@ -1,8 +1,8 @@
 -- The header, digit by digit: each is its number's, and each number has three.
 use Rattle.pgm.specs.PgmLaws.{header-digits}
 use borrow.Author.Needs.{needs}
-use Rattle.pgm.proofs.Borders.header.Statement.{statement}
-use Rattle.pgm.proofs.Borders.header.Tie as tie
+use Rattle.pgm.proofs.Format.header.Statement.{statement}
+use Rattle.pgm.proofs.Format.header.Tie as tie
 
 returns : tie.Need-returns
 returns c =

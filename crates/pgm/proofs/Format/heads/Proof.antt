@@ -8,8 +8,8 @@ use lib.ListN.{length, drop}
 use Rattle.pgm.specs.Pgm.{headerLength, starts}
 use Rattle.pgm.specs.PgmLaws.{header-length}
 use Rattle.pgm.proofs.Scanning.{starts-step, starts-end}
-use Rattle.pgm.proofs.Borders.heads.Statement.{statement}
-use Rattle.pgm.proofs.Borders.heads.Tie as tie
+use Rattle.pgm.proofs.Format.heads.Statement.{statement}
+use Rattle.pgm.proofs.Format.heads.Tie as tie
 
 abbrev Inv-loop : tie.InvT-loop
 Inv-loop file text i₀ i = (i ≤ headerLength) × (starts text file ≡ starts (drop i text) (drop i file))
