@@ -1,0 +1,268 @@
+// What is told of a whole capture, below its frames: their counts, what was out of order, the repairs, the periods, and the verdict.
+//
+// In: what was found in the capture, whether the signal was lost, and the verdict. Out: the report's bytes at the front of the buffer, and how
+// many they are. A count that is 0 has no line. Nothing is refused: a buffer of fewer than ROOM bytes stays as it was, and the count is 0.
+// Cost: linear in the report.
+ghost use lib.ListN.{length};
+ghost use Rattle.text.specs.Put.{Puts, AtFront};
+ghost use Rattle.report.specs.Report.{countLine, frameCounts, framesLines, refusedCodes, brokenLines, refusedEnds, refusedLines, lowBits, highBits, repairedLines, rangeWords, periodLines, lostLine, otherSensor, hintLine, verdictLines, reportOf, ifRoom};
+use profile::Profile;
+use signal::First;
+use signal::Signal;
+use signal::Spacing;
+use text::put;
+use text::put_decimal;
+use verdict::Findings;
+use verdict::Verdict;
+
+// The bytes that no report exceeds.
+pub const ROOM: usize = 2048;
+
+// Puts the report at the front of a buffer.
+pub fn put_report(findings: Findings, lost: bool, verdict: Verdict, out: &mut [u8]) -> usize
+    ensures { λ r. ⌜ AtFront (ifRoom (length (now (out .entry))) (reportOf findings lost verdict)) r (now (out .entry)) (now (out .exit)) ⌝ }
+{
+    if out.len() < ROOM {
+        return 0;
+    }
+    let at = put_frames(findings, out);
+    let signal = findings.signal;
+    let at = put_refused(signal, out, at);
+    let at = put_repaired(signal, out, at);
+    let spacing = signal.spacing;
+    let at = put_periods(spacing, out, at);
+    let at = put_lost(lost, out, at);
+    let tally = findings.tally;
+    let profile = tally.profile;
+    let at = put_hint(profile, signal, out, at);
+    put_verdict(verdict, out, at)
+}
+
+// A line with a count, where that is not 0: the words before it, the count, the words after it.
+fn put_count(before: &[u8], count: u64, after: &[u8], out: &mut [u8], at: usize) -> usize
+    ensures { λ r. ⌜ Puts (now (out .entry)) at (countLine (now (before .entry)) count (now (after .entry))) r (now (out .exit)) ⌝ }
+{
+    if count == 0 {
+        return at;
+    }
+    let at = put(before, out, at);
+    let at = put_decimal(count, out, at);
+    put(after, out, at)
+}
+
+// The frames, and the lines outside them.
+fn put_frames(findings: Findings, out: &mut [u8]) -> usize
+    ensures { λ r. ⌜ Puts (now (out .entry)) 0 (framesLines findings) r (now (out .exit)) ⌝ }
+{
+    let at = put_frame_counts(findings, out);
+    let outside = findings.outside;
+    let at = put_count(
+        b"lines before the first frame: ",
+        outside.early,
+        b"\n",
+        out,
+        at,
+    );
+    put_count(b"lines outside frames: ", outside.later, b"\n", out, at)
+}
+
+fn put_frame_counts(findings: Findings, out: &mut [u8]) -> usize
+    ensures { λ r. ⌜ Puts (now (out .entry)) 0 (frameCounts findings) r (now (out .exit)) ⌝ }
+{
+    let tally = findings.tally;
+    let at = put(b"frames: ", out, 0);
+    let at = put_decimal(tally.complete, out, at);
+    let at = put(b" complete, ", out, at);
+    let at = put_decimal(tally.broken, out, at);
+    let at = put(b" broken, ", out, at);
+    let at = put_decimal(findings.cut, out, at);
+    put(b" cut off\n", out, at)
+}
+
+// Refused marks, by number: by their codes, lines, and ends of lines.
+fn put_refused(signal: Signal, out: &mut [u8], at: usize) -> usize
+    ensures { λ r. ⌜ Puts (now (out .entry)) at (refusedLines (signal .refused)) r (now (out .exit)) ⌝ }
+{
+    let at = put_refused_codes(signal, out, at);
+    let at = put_broken_lines(signal, out, at);
+    put_refused_ends(signal, out, at)
+}
+
+fn put_refused_codes(signal: Signal, out: &mut [u8], at: usize) -> usize
+    ensures { λ r. ⌜ Puts (now (out .entry)) at (refusedCodes (signal .refused)) r (now (out .exit)) ⌝ }
+{
+    let refused = signal.refused;
+    let at = put_count(b"refused: 1 x ", refused[1], b", damaged code\n", out, at);
+    put_count(b"refused: 2 x ", refused[2], b", reserved code\n", out, at)
+}
+
+fn put_broken_lines(signal: Signal, out: &mut [u8], at: usize) -> usize
+    ensures { λ r. ⌜ Puts (now (out .entry)) at (brokenLines (signal .refused)) r (now (out .exit)) ⌝ }
+{
+    let refused = signal.refused;
+    let at = put_count(
+        b"refused: 3 x ",
+        refused[3],
+        b", unfinished line\n",
+        out,
+        at,
+    );
+    let at = put_count(b"refused: 4 x ", refused[4], b", wrong length\n", out, at);
+    let at = put_count(b"refused: 5 x ", refused[5], b", bad number\n", out, at);
+    let at = put_count(
+        b"refused: 6 x ",
+        refused[6],
+        b", bad byte in the body\n",
+        out,
+        at,
+    );
+    put_count(b"refused: 7 x ", refused[7], b", no end of line\n", out, at)
+}
+
+fn put_refused_ends(signal: Signal, out: &mut [u8], at: usize) -> usize
+    ensures { λ r. ⌜ Puts (now (out .entry)) at (refusedEnds (signal .refused)) r (now (out .exit)) ⌝ }
+{
+    let refused = signal.refused;
+    let at = put_count(
+        b"refused: 8 x ",
+        refused[8],
+        b", end of line without a line\n",
+        out,
+        at,
+    );
+    put_count(b"refused: 9 x ", refused[9], b", bad gap\n", out, at)
+}
+
+// Repaired codes, by bit: the depot's tally of bad wires.
+fn put_repaired(signal: Signal, out: &mut [u8], at: usize) -> usize
+    ensures { λ r. ⌜ Puts (now (out .entry)) at (repairedLines (signal .repaired)) r (now (out .exit)) ⌝ }
+{
+    let at = put_low_bits(signal, out, at);
+    put_high_bits(signal, out, at)
+}
+
+fn put_low_bits(signal: Signal, out: &mut [u8], at: usize) -> usize
+    ensures { λ r. ⌜ Puts (now (out .entry)) at (lowBits (signal .repaired)) r (now (out .exit)) ⌝ }
+{
+    let repaired = signal.repaired;
+    let at = put_count(b"repaired: bit 0 x ", repaired[0], b"\n", out, at);
+    let at = put_count(b"repaired: bit 1 x ", repaired[1], b"\n", out, at);
+    let at = put_count(b"repaired: bit 2 x ", repaired[2], b"\n", out, at);
+    put_count(b"repaired: bit 3 x ", repaired[3], b"\n", out, at)
+}
+
+fn put_high_bits(signal: Signal, out: &mut [u8], at: usize) -> usize
+    ensures { λ r. ⌜ Puts (now (out .entry)) at (highBits (signal .repaired)) r (now (out .exit)) ⌝ }
+{
+    let repaired = signal.repaired;
+    let at = put_count(b"repaired: bit 4 x ", repaired[4], b"\n", out, at);
+    let at = put_count(b"repaired: bit 5 x ", repaired[5], b"\n", out, at);
+    let at = put_count(b"repaired: bit 6 x ", repaired[6], b"\n", out, at);
+    put_count(b"repaired: bit 7 x ", repaired[7], b"\n", out, at)
+}
+
+// The periods of the lines: a drifting clock shows in the last line.
+fn put_periods(spacing: Spacing, out: &mut [u8], at: usize) -> usize
+    ensures { λ r. ⌜ Puts (now (out .entry)) at (periodLines spacing) r (now (out .exit)) ⌝ }
+{
+    let at = put_count(
+        b"period: ",
+        spacing.thirty,
+        b" lines at 30 frames a second\n",
+        out,
+        at,
+    );
+    let at = put_count(
+        b"period: ",
+        spacing.twentyfive,
+        b" lines at 25 frames a second\n",
+        out,
+        at,
+    );
+    if spacing.others == 0 {
+        return at;
+    }
+    let at = put(b"period: ", out, at);
+    let at = put_decimal(spacing.others, out, at);
+    let at = put(b" others, ", out, at);
+    put_range(spacing, out, at)
+}
+
+// The least and the greatest of the other periods.
+fn put_range(spacing: Spacing, out: &mut [u8], at: usize) -> usize
+    ensures { λ r. ⌜ Puts (now (out .entry)) at (rangeWords spacing) r (now (out .exit)) ⌝ }
+{
+    let at = put_decimal(spacing.least as u64, out, at);
+    let at = put(b" to ", out, at);
+    let at = put_decimal(spacing.greatest as u64, out, at);
+    put(b" nibbles\n", out, at)
+}
+
+fn put_lost(lost: bool, out: &mut [u8], at: usize) -> usize
+    ensures { λ r. ⌜ Puts (now (out .entry)) at (lostLine lost) r (now (out .exit)) ⌝ }
+{
+    if lost {
+        return put(
+            b"signal lost: no mark in the last part of the capture\n",
+            out,
+            at,
+        );
+    }
+    at
+}
+
+// Where marks were read and no line: the capture may be the other sensor's.
+fn put_hint(profile: Profile, signal: Signal, out: &mut [u8], at: usize) -> usize
+    ensures { λ r. ⌜ Puts (now (out .entry)) at (hintLine profile (signal .lines) (signal .first)) r (now (out .exit)) ⌝ }
+{
+    if 0 < signal.lines {
+        return at;
+    }
+    let first = signal.first;
+    match first {
+        First::Unseen => at,
+        First::InsideLine => put_other_sensor(profile, out, at),
+        First::Other => put_other_sensor(profile, out, at),
+    }
+}
+
+fn put_other_sensor(profile: Profile, out: &mut [u8], at: usize) -> usize
+    ensures { λ r. ⌜ Puts (now (out .entry)) at (otherSensor profile) r (now (out .exit)) ⌝ }
+{
+    match profile {
+        Profile::VV5404 => put(
+            b"no line of a VV5404; for a VV5300 head: frames vv5300\n",
+            out,
+            at,
+        ),
+        Profile::VV5300 => put(
+            b"no line of a VV5300; for a VV5404 head: frames vv5404\n",
+            out,
+            at,
+        ),
+    }
+}
+
+// What to do, and the verdict in the last line.
+fn put_verdict(verdict: Verdict, out: &mut [u8], at: usize) -> usize
+    ensures { λ r. ⌜ Puts (now (out .entry)) at (verdictLines verdict) r (now (out .exit)) ⌝ }
+{
+    match verdict {
+        Verdict::Good => put(b"GOOD\n", out, at),
+        Verdict::CheckTheClip => put(
+            b"something is out of order: take another capture before anyone takes the head\nCHECK THE CLIP\n",
+            out,
+            at,
+        ),
+        Verdict::NotGood => put(
+            b"no frame is complete: seat the clip again and take another capture\nNOT GOOD\n",
+            out,
+            at,
+        ),
+        Verdict::NoSignal => put(
+            b"no mark at all: is the head powered, and the clip on its bus?\nNO SIGNAL\n",
+            out,
+            at,
+        ),
+    }
+}
