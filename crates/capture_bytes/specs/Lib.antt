@@ -1,2 +1,3 @@
 pub mod Unpacked
 pub mod UnpackedLaws
+pub mod EndToEnd

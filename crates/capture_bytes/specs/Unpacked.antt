@@ -11,3 +11,7 @@ fitting bytes room = min bytes (room / 2)
 -- the buffer with the nibbles of the first i bytes at its front, and the rest as it was
 abbrev pub unpacked : List ℕ → List ℕ → ℕ → List ℕ
 unpacked bytes buffer i = nibbles (take i bytes) ++ drop (2 * i) buffer
+
+-- the nibbles of bytes from a place on, up to the end of the byte before another
+abbrev pub portion : List ℕ → ℕ → ℕ → List ℕ
+portion bytes at end = drop at (nibbles (take end bytes))

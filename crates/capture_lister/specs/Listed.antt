@@ -9,7 +9,6 @@ use Rattle.profile.specs.declared.Profile.{Profile}
 use Rattle.profile.specs.Profile.{longest}
 use Rattle.stream.specs.declared.Answer.{Answer}
 use Rattle.stream.specs.Answers.{answerFor}
-use Rattle.stream.specs.Written.{nibbles}
 use Rattle.reader.specs.Reader.{passes, freshReader, feedOf, finishOf}
 use Rattle.tally.specs.declared.Tally.{Tally}
 use Rattle.tally.specs.declared.Told.{Told}
@@ -70,30 +69,29 @@ abbrev pub listText : Lister → List ℕ → List ℕ
 listText l [] = []
 listText l (n ∷ w) = nibbleText l n ++ listText (afterNibble l n) w
 
--- Bytes, with a buffer.
+-- With a buffer.
 
--- how many bytes are taken of a reader that passes its own test: as long as there is room for the text of two nibbles
+-- how many nibbles are taken of a reader that passes its own test: as long as there is room for the text of one more
 abbrev pub takenFrom : Lister → ℕ → List ℕ → ℕ
 takenFrom l room [] = 0
-takenFrom l room (b ∷ bs) =
-    cond (ltb room (2 * rowRoom)) 0
-    (suc (takenFrom (listAfter l (nibbles (b ∷ []))) (room - length (listText l (nibbles (b ∷ [])))) bs))
+takenFrom l room (n ∷ w) = cond (ltb room rowRoom) 0 (suc (takenFrom (afterNibble l n) (room - length (nibbleText l n)) w))
 
 -- none of any other
 abbrev pub takenOf : Lister → ℕ → List ℕ → ℕ
-takenOf l room bs = cond (passes (l .reader .head)) (takenFrom l room bs) 0
+takenOf l room w = cond (passes (l .reader .head)) (takenFrom l room w) 0
 
--- the nibbles of the bytes that are taken
-abbrev pub takenNibbles : Lister → ℕ → List ℕ → List ℕ
-takenNibbles l room bs = nibbles (take (takenOf l room bs) bs)
+-- a lister after a call, how many nibbles it took, and the text it put
+pub record ListedText : Type 0 where
+  pub lister : Lister
+  pub taken : ℕ
+  pub text : List ℕ
 
--- the text of a piece, in a buffer with this room
-unfoldable pub listedText : Lister → ℕ → List ℕ → List ℕ
-listedText l room bs = listText l (takenNibbles l room bs)
+-- the lister after so many nibbles, and their text
+abbrev pub listedUpTo : Lister → List ℕ → ℕ → ListedText
+listedUpTo l w k = record { lister = listAfter l (take k w); taken = k; text = listText l (take k w) }
 
-unfoldable pub listedOf : Lister → ℕ → List ℕ → Listed
-listedOf l room bs =
-    record { lister = listAfter l (takenNibbles l room bs); taken = takenOf l room bs; used = length (listedText l room bs) }
+unfoldable pub listedOf : Lister → ℕ → List ℕ → ListedText
+listedOf l room w = listedUpTo l w (takenOf l room w)
 
 -- Finish.
 
@@ -108,20 +106,17 @@ lastTold l = closeOf (l .tally) (lastAnswer l)
 abbrev pub endText : Lister → List ℕ
 endText l = textOf (l .mode) (lastTold l) (lastAnswer l) ++ reportOf (l .mode) (lastTold l .tally)
 
--- where the buffer has room for any
-unfoldable pub lastText : Lister → ℕ → List ℕ
-lastText l room = cond (ltb room (2 * rowRoom)) [] (endText l)
+-- room for any
+abbrev pub endRoom : ℕ
+endRoom = 2 * rowRoom
 
--- a lister with the reader that finish leaves, and a fresh tally; as it was where the buffer has no room
-unfoldable pub finishedOf : Lister → ℕ → Listed
+-- where the buffer has it, a lister with the reader that finish leaves, and a fresh tally; else the lister as it was, and no text
+unfoldable pub finishedOf : Lister → ℕ → ListedText
 finishedOf l room =
-    record {
-      lister = cond (ltb room (2 * rowRoom)) l (record { mode = l .mode; reader = finishOf (l .reader) .reader; tally = freshTally (l .tally .profile) });
-      taken = 0;
-      used = length (lastText l room);
-    }
+    cond (ltb room endRoom) (record { lister = l; taken = 0; text = [] })
+    (record { lister = record { mode = l .mode; reader = finishOf (l .reader) .reader; tally = freshTally (l .tally .profile) }; taken = 0; text = endText l })
 
--- what a call gives back, as one sentence: the result as the definition has it, and its text at the front of the buffer
-pub record ListGives (listed : Listed) (text : List ℕ) (r : Listed) (before after : List ℕ) : Type 0 where
-  pub next : r ≡ listed
-  pub leaves : after ≡ onFront text before
+-- what a call gives back, as one sentence: the lister and the count as the definition has them, and its text at the front of the buffer
+pub record ListGives (g : ListedText) (r : Listed) (before after : List ℕ) : Type 0 where
+  pub next : r ≡ record { lister = g .lister; taken = g .taken; used = length (g .text) }
+  pub leaves : after ≡ onFront (g .text) before

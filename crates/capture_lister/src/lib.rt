@@ -1,22 +1,21 @@
 // A capture listed: bytes in, text out. The text is a row for each mark (paper 01, the program's output), or a line for each frame.
 //
-// In: the bytes of a capture, piece after piece, each byte its two nibbles, the high one first; finish at the end. Out: the text of the
-// marks that are answered, at the front of a lent buffer, and how many bytes were taken and used. A piece is taken as far as the buffer
-// has room for the text of one byte more. Nothing is refused. Cost: that of the reader's runs, and linear in the text.
+// In: the bytes of a capture, piece after piece, each byte its two nibbles, the high one first, and the place of a nibble from which a piece is
+// taken; finish at the end. Out: the text of the marks that are answered, at the front of a lent buffer, and how many nibbles were taken and
+// bytes used. A piece is taken as far as the buffer has room for the text of one mark more. Nothing is refused. Cost: that of the reader's
+// runs, and linear in the text.
 ghost use mathlib.Core.Path.{_≡_};
-ghost use Prim.Native.Nat.{_+_, _*_, _≤_, min};
-ghost use lib.ListN.{length};
-ghost use Rattle.profile.specs.Profile.{longest};
+ghost use mathlib.Core.Bool.{_&&_};
+ghost use Prim.Native.Nat.{_+_, _/_, _≤_};
+ghost use lib.Dec.{leb, ltb};
+ghost use lib.ListN.{length, drop};
 ghost use Rattle.stream.specs.Written.{nibbles};
-ghost use Rattle.reader_laws.specs.Passing.{Ok};
 ghost use Rattle.tally.specs.Tally.{isGood};
 ghost use Rattle.listing.specs.Rows.{rowOf, rowRoom, ifRoom};
 ghost use Rattle.listing.specs.Frames.{newsLine, summaryLines};
 ghost use Rattle.text.specs.Put.{Put, AtFront};
-ghost use Rattle.capture_lister.specs.Portions.{byteRoom, portionOf, lister, Lists};
-ghost use Rattle.capture_lister.specs.Listed.{ListGives, freshLister, headText, textOf, reportOf, listedOf, listedText, finishedOf, lastText};
+ghost use Rattle.capture_lister.specs.Listed.{ListGives, freshLister, headText, textOf, reportOf, listedOf, finishedOf};
 use profile::Profile;
-use reader::Head;
 use reader::Reader;
 use stream::Answer;
 use tally::News;
@@ -36,7 +35,7 @@ pub struct Lister {
     pub tally: Tally,
 }
 
-// A lister after a call, the bytes it took, and the bytes of the buffer that it filled.
+// A lister after a call, the nibbles it took, and the bytes of the buffer that it filled.
 pub struct Listed {
     pub lister: Lister,
     pub taken: usize,
@@ -68,9 +67,9 @@ impl Lister {
         }
     }
 
-    // Lists the bytes of a piece, as far as the buffer has room. A reader that fails its own test takes nothing.
-    pub fn list(self, input: &[u8], out: &mut [u8]) -> Listed
-        ensures { λ r. ⌜ ListGives (listedOf self (length (now (out .entry))) (now (input .entry))) (listedText self (length (now (out .entry))) (now (input .entry))) r (now (out .entry)) (now (out .exit)) ⌝ }
+    // Lists the nibbles of a piece's bytes from a place on, as far as the buffer has room. A reader that fails its own test takes nothing.
+    pub fn list(self, input: &[u8], from: usize, out: &mut [u8]) -> Listed
+        ensures { λ r. ⌜ ListGives (listedOf self (length (now (out .entry))) (drop from (nibbles (now (input .entry))))) r (now (out .entry)) (now (out .exit)) ⌝ }
     {
         let mode = self.mode;
         let reader = self.reader;
@@ -80,25 +79,15 @@ impl Lister {
             let mut line = [0u8; Profile::LONGEST];
             let mut tally = self.tally;
             let mut used: usize = 0;
-            let mut i: usize = 0;
-            let mut n = portion(input.len(), out.len());
-            while 0 < n {
-                let end = i + n;
-                let t = list_portion(
-                    mode,
-                    head,
-                    &mut body,
-                    tally,
-                    &input[i..end],
-                    &mut line,
-                    out,
-                    used,
-                );
+            let mut at = from;
+            while goes_on(input.len(), at, out.len() - used) {
+                let t = capture_bytes::run(head, &mut body, input, at, &mut line);
                 head = t.head;
-                tally = t.tally;
-                used = t.used;
-                i = end;
-                n = portion(input.len() - i, out.len() - used);
+                let answer = t.answer;
+                at += t.taken;
+                let told = tally.take(answer);
+                tally = told.tally;
+                used = put_text(mode, told, answer, out, used);
             }
             let reader = Reader { head, body };
             let lister = Lister {
@@ -108,7 +97,7 @@ impl Lister {
             };
             return Listed {
                 lister,
-                taken: i,
+                taken: at - from,
                 used,
             };
         }
@@ -119,12 +108,12 @@ impl Lister {
         }
     }
 
-    // Lists the last mark, if there is one, and what stands below the list, and leaves a fresh lister. A buffer of fewer than BYTE bytes
+    // Lists the last mark, if there is one, and what stands below the list, and leaves a fresh lister. A buffer of fewer than END bytes
     // leaves all as it was.
     pub fn finish(self, out: &mut [u8]) -> Listed
-        ensures { λ r. ⌜ ListGives (finishedOf self (length (now (out .entry)))) (lastText self (length (now (out .entry)))) r (now (out .entry)) (now (out .exit)) ⌝ }
+        ensures { λ r. ⌜ ListGives (finishedOf self (length (now (out .entry)))) r (now (out .entry)) (now (out .exit)) ⌝ }
     {
-        if out.len() < BYTE {
+        if out.len() < END {
             return Listed {
                 lister: self,
                 taken: 0,
@@ -156,70 +145,17 @@ impl Lister {
     }
 }
 
-// Room for the text of one byte: each of its nibbles can bring an answer.
-pub const BYTE: usize = 2 * listing::ROW;
+// Room for the last text: the last mark's, and what stands below the list.
+pub const END: usize = 2 * listing::ROW;
 
-// The most bytes whose nibbles are fed at once.
-const PORTION: usize = 256;
-
-// How many bytes are fed at once: as many as there are, as a buffer's room has text for, and no more than a portion.
-fn portion(bytes: usize, room: usize) -> usize
-    ensures { λ r. ⌜ r ≡ portionOf bytes room ⌝ }
+// Whether a nibble is left at a place, and room for the text of a mark.
+fn goes_on(bytes: usize, at: usize, room: usize) -> bool
+    ensures { λ r. ⌜ r ≡ (ltb (at / 2) bytes && leb rowRoom room) ⌝ }
 {
-    let most = room / BYTE;
-    if bytes < most {
-        return lesser(bytes, PORTION);
+    if at / 2 < bytes {
+        return listing::ROW <= room;
     }
-    lesser(most, PORTION)
-}
-
-fn lesser(a: usize, b: usize) -> usize
-    ensures { λ r. ⌜ r ≡ min a b ⌝ }
-{
-    if a < b {
-        return a;
-    }
-    b
-}
-
-// What is left after a portion: the reader but for its body, the tally, and the place after the text.
-struct Portioned {
-    head: Head,
-    tally: Tally,
-    used: usize,
-}
-
-// Lists a portion: its nibbles are fed in runs, each up to an answer, whose text is put at the place.
-fn list_portion(
-    mode: Mode,
-    start: Head,
-    body: &mut [u8],
-    first: Tally,
-    bytes: &[u8],
-    line: &mut [u8],
-    out: &mut [u8],
-    at: usize,
-) -> Portioned
-    requires { ⌜ Ok start × (length (now body) ≡ longest) × (length (now line) ≡ longest) × (length (now bytes) ≤ 256) × (at + length (now bytes) * byteRoom ≤ length (now out)) ⌝ }
-    ensures { λ r. ⌜ Lists (lister mode start (now (body .entry)) first) (nibbles (now (bytes .entry))) (lister mode (r .head) (now (body .exit)) (r .tally)) (now (out .entry)) at (r .used) (now (out .exit)) ⌝ }
-{
-    let mut nibbles = [0u8; 2 * PORTION];
-    let n = 2 * capture_bytes::unpack(bytes, &mut nibbles);
-    let all: &[u8] = &nibbles[..n];
-    let mut head = start;
-    let mut tally = first;
-    let mut used = at;
-    let mut i: usize = 0;
-    while i < n {
-        let t = run::run_lent(head, body, &all[i..], line);
-        head = t.head;
-        let answer = t.answer;
-        i += t.taken;
-        let told = tally.take(answer);
-        tally = told.tally;
-        used = put_text(mode, told, answer, out, used);
-    }
-    Portioned { head, tally, used }
+    false
 }
 
 // Puts the text of an answer at a place, and gives the place after it.

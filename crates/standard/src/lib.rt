@@ -74,13 +74,13 @@ fn list_some(lister: Lister) -> Turn {
     list_piece(lister, &buf[..n])
 }
 
-// Lists a piece, and writes its text as often as it fills the buffer.
+// Lists a piece, nibble after nibble, and writes its text as often as it fills the buffer.
 fn list_piece(lister: Lister, piece: &[u8]) -> Turn {
     let mut out = io::large_buffer();
     let mut l = lister;
     let mut at: usize = 0;
-    while at < piece.len() {
-        let done = l.list(&piece[at..], &mut out);
+    while at < 2 * piece.len() {
+        let done = l.list(piece, at, &mut out);
         let used = done.used;
         l = done.lister;
         if write(&out[..used]) {

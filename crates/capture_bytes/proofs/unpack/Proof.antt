@@ -1,43 +1,39 @@
--- At each turn the nibbles of the bytes so far stand at the front, each below 16, and the rest is as it was; the bytes left fall.
-use mathlib.Core.Path.{_≡_, refl, ap, _∙_, subst}
-use Prim.Native.Nat.{ℕ, _-_, _*_, _≤_}
+-- At each turn the nibbles of the bytes so far stand at the front, and the rest is as it was; the bytes left fall.
+use mathlib.Core.Path.{_≡_, refl, ap, _∙_}
+use Prim.Native.Nat.{_-_, _*_, _≤_}
 use native.Mathlib.Omega.{arith}
 use native.Mathlib.Nat.{le-antisymm}
-use lib.ListN.{length, take, length-set}
+use lib.ListN.{length, length-set}
 use lib.Seq.{lt-length-set}
 use denote.Ref.{now}
 use borrow.Author.Needs.{needs}
-use Rattle.stream.specs.Written.{nibbles}
-use Rattle.reader_laws.specs.Passing.{Small, small-none}
 use Rattle.capture_bytes.specs.Unpacked.{unpacked}
-use Rattle.capture_bytes.specs.UnpackedLaws.{unpack-next, small-next}
+use Rattle.capture_bytes.specs.UnpackedLaws.{unpack-next, front-small}
 use Rattle.capture_bytes.proofs.unpack.Statement.{statement}
 use Rattle.capture_bytes.proofs.unpack.Tie as tie
 
 abbrev Inv-loop : tie.InvT-loop
-Inv-loop bytes to₀ n i₀ to i = (i ≤ n) × (n ≤ length bytes) × (2 * n ≤ length to) × (to ≡ unpacked bytes to₀ i) × (length to ≡ length to₀) × Small (nibbles (take i bytes))
+Inv-loop bytes to₀ n i₀ to i = (i ≤ n) × (n ≤ length bytes) × (2 * n ≤ length to) × (to ≡ unpacked bytes to₀ i) × (length to ≡ length to₀)
 
 abbrev μ-loop : tie.MeasureT-loop
 μ-loop bytes to₀ n i₀ to i = n - i
 
 loop-holds : tie.Need-loop-holds Inv-loop μ-loop
-loop-holds c = let e = c .fitting .ensures in (omega arith, omega (arith, e), omega (arith, e), refl, refl, small-none)
+loop-holds c = let e = c .lesser .ensures in (omega arith, omega (arith, e), omega (arith, e), refl, refl)
 
 slice-write-to-2 : tie.Need-slice-write-to-2 Inv-loop μ-loop
-slice-write-to-2 c = let l = c .before .before .before .loop in lt-length-set (l .to) (2 * l .i) _ (omega arith)
+slice-write-to-2 c = let l = c .before .before .loop in lt-length-set (l .to) (2 * l .i) _ (omega arith)
 
 loop-again : tie.Need-loop-again Inv-loop μ-loop
 loop-again c =
-    let a = c .before .before .before .before .before .before .before .args in
-    let l = c .before .before .before .loop in
-    let e = c .high .ensures in
-    let t = c .before .before .loop-test .taken in (
+    let a = c .before .before .before .before .before .before .args in
+    let l = c .before .before .loop in
+    let t = c .before .loop-test .taken in (
       omega arith,
       l .inv .1,
       simp length-set (l .inv .2),
-      simp (e .0, l .inv .3) (unpack-next (now (a .bytes)) (now (a .to)) (l .i) (omega arith) (omega (arith, l .inv .2, l .inv .4, t))),
+      simp (l .inv .3) (unpack-next (now (a .bytes)) (now (a .to)) (l .i) (omega arith) (omega (arith, l .inv .2, l .inv .4, t))),
       simp length-set (l .inv .4),
-      small-next (now (a .bytes)) (l .i) (omega arith) (omega (arith, e .0, e .1)) (l .inv .5),
     )
 
 same-length : tie.Need-same-length Inv-loop μ-loop
@@ -47,10 +43,10 @@ returns : tie.Need-returns Inv-loop μ-loop
 returns c =
     let a = c .before .before .before .before .before .args in
     let l = c .before .loop in
-    let e = le-antisymm (l .inv .0) (c .loop-test .left) in (
-      c .before .before .fitting .ensures,
-      l .inv .3 ∙ ap (unpacked (now (a .bytes)) (now (a .to))) e,
-      subst (λ (n : ℕ). Small (nibbles (take n (now (a .bytes))))) e (l .inv .5),
+    let n = c .before .before .lesser .ensures in (
+      n,
+      l .inv .3 ∙ ap (unpacked (now (a .bytes)) (now (a .to))) (le-antisymm (l .inv .0) (c .loop-test .left)),
+      front-small (now (a .bytes)) _ (l .inv .1) (λ i. c .before .before .before .before .shared-slice-known .given i .fits),
     )
 
 pub unpack-spec : {M : Type 1} → statement M
@@ -62,7 +58,6 @@ unpack-spec =
     (λ c κs. search needs)
     loop-holds
     (λ c. search needs)
-    (λ c κs. search needs)
     (λ c. search needs)
     (λ c. search needs)
     (λ c. search needs)

@@ -6,7 +6,7 @@ use lib.Seq.{length-take-le}
 use Rattle.listing.specs.Rows.{ifRoom}
 use Rattle.text.specs.PutLaws.{front-within}
 use Rattle.capture_lister.specs.declared.Listed.{Listed}
-use Rattle.capture_lister.specs.Listed.{headText, lastText, finishedOf}
+use Rattle.capture_lister.specs.Listed.{headText, finishedOf}
 use borrow.Author.Needs.{needs}
 use Rattle.standard.proofs.run.Statement.{statement}
 use Rattle.standard.proofs.run.Tie as tie
@@ -19,11 +19,10 @@ head-fits c =
     front-within d (ifRoom (length d) (headText (c .before .before .new .result .mode))) (h .ensures) (h .kept .1 .0)
 
 last-fits : (c : tie.After-finish) → c .finish .result .used ≤ length (c .finish .last .1 .0)
-unfolding finishedOf
 last-fits c =
     let d = c .before .before .before .before .before .before .before .before .head .last .1 .0 in
     let u = ap (λ (r : Listed). r .used) (c .finish .ensures .next) in
-    front-within d (lastText (c .before .before .before .before .list-all .result .lister) (length d)) (record { count = u; leaves = c .finish .ensures .leaves }) (c .finish .kept .1 .0)
+    front-within d (finishedOf (c .before .before .before .before .list-all .result .lister) (length d) .text) (record { count = u; leaves = c .finish .ensures .leaves }) (c .finish .kept .1 .0)
 
 array-share-prefix-out : tie.Need-array-share-prefix-out
 array-share-prefix-out c = head-fits (c .before)

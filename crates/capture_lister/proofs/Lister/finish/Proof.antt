@@ -3,14 +3,14 @@ use mathlib.Core.Path.{refl}
 use native.Mathlib.Omega.{arith}
 use borrow.Author.Tests.{lt-ltb, le-ltb}
 use Rattle.text.specs.PutLaws.{joined, on-front, put-length}
-use Rattle.capture_lister.specs.Listed.{lastText, finishedOf}
+use Rattle.capture_lister.specs.Listed.{finishedOf}
 use Rattle.capture_lister.specs.ListedLaws.{text-short}
 use borrow.Author.Needs.{needs}
 use Rattle.capture_lister.proofs.Lister.finish.Statement.{statement}
 use Rattle.capture_lister.proofs.Lister.finish.Tie as tie
 
 returns : tie.Need-returns
-unfolding lastText finishedOf
+unfolding finishedOf
 returns c = simp (lt-ltb _ _ (c .if1 .taken)) (record { next = refl; leaves = refl })
 
 put-report-requires : tie.Need-put-report-requires
@@ -21,7 +21,7 @@ put-report-requires c κs =
     omega (arith, test-1 .left, c .before .before .before .before .put-text .ensures .place, put-length (c .before .before .before .before .put-text .ensures), text-short (args .self .mode) (c .before .before .before .before .before .before .close .result) (finish .result .answer))
 
 returns-2 : tie.Need-returns-2
-unfolding lastText finishedOf
+unfolding finishedOf
 returns-2 c =
     let test-1 = c .before .before .before .before .before .before .before .before .before .before .before .before .before .before .before .if1 in
     let finish = c .before .before .before .before .before .before .before .before .before .before .before .before .before .finish in

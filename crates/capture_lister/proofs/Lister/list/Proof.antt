@@ -1,90 +1,98 @@
--- At each turn lister and text are those of the bytes so far; a portion takes some, until no byte is left or no room for one's text.
-use mathlib.Core.Path.{_≡_, sym, ap, _∙_}
-use mathlib.Core.List.{List}
-use Prim.Native.Nat.{ℕ, _+_, _-_, _≤_}
+-- At each turn what is left brings what the whole does; a run takes some nibbles, until none is left, or no room for a text.
+use mathlib.Core.Path.{_≡_, sym, subst, _∙_}
+use mathlib.Core.Bool.{false, _&&_}
+use Prim.Native.Nat.{ℕ, _-_, _*_, _/_, _<_, _≤_}
 use native.Mathlib.Omega.{arith}
-use lib.ListN.{length, take, drop, length-take, length-drop}
+use lib.Dec.{leb, ltb}
+use lib.ListN.{length, getD}
 use denote.Ref.{now}
 use borrow.Author.Needs.{needs}
 use Rattle.profile.specs.Profile.{longest}
 use Rattle.stream.specs.Written.{nibbles}
 use Rattle.reader_laws.specs.Passes.{passed}
-use Rattle.text.specs.PutLaws.{put-length}
-use Rattle.capture_lister.specs.Portions.{portionOf, lister}
-use Rattle.capture_lister.proofs.Runs.{lists-of}
-use Rattle.capture_lister.proofs.Upto.{Upto, start, next-portion, no-portion, nothing-listed}
+use Rattle.capture_bytes.specs.UnpackedLaws.{nibbles-length, nibbles-small}
+use Rattle.listing.specs.Rows.{rowRoom}
+use Rattle.text.specs.PutLaws.{put-length, put-within}
+use Rattle.capture_lister.proofs.Runs.{lister, Along, along-start, along-next, some-taken, taken-fits, goes-there, along-end, nothing-listed}
 use Rattle.capture_lister.proofs.Lister.list.Statement.{statement}
 use Rattle.capture_lister.proofs.Lister.list.Tie as tie
 
 abbrev Inv-loop : tie.InvT-loop
-Inv-loop input out₀ mode head₀ body₀ line₀ tally₀ used₀ i₀ n₀ out head body line tally used i n =
-    Upto (lister mode head₀ body₀ tally₀) input out₀ i (lister mode head body tally) used out
-    × (n ≡ portionOf (length input - i) (length out₀ - used)) × (length body ≡ longest) × (length line ≡ longest)
+Inv-loop input from out₀ mode head₀ body₀ line₀ tally₀ used₀ at₀ out head body line tally used at =
+    Along (lister mode head₀ body₀ tally₀) (nibbles input) out₀ from at (lister mode head body tally) used out × (length body ≡ longest) × (length line ≡ longest)
 
 abbrev μ-loop : tie.MeasureT-loop
-μ-loop input out₀ mode head₀ body₀ line₀ tally₀ used₀ i₀ n₀ out head body line tally used i n = length input - i
-
--- the bytes of a portion
-part-is : (w : List ℕ) (i n : ℕ) → take (i + n - i) (drop i w) ≡ take n (drop i w)
-part-is w i n = ap (λ (k : ℕ). take k (drop i w)) (let z : i + n - i ≡ n = omega arith in z)
-
-part-length : (w : List ℕ) (i n : ℕ) → i + n ≤ length w → length (take (i + n - i) (drop i w)) ≡ n
-part-length w i n h = ap length (part-is w i n) ∙ length-take n (drop i w) ∙ (let e = length-drop i w in omega arith)
+μ-loop input from out₀ mode head₀ body₀ line₀ tally₀ used₀ at₀ out head body line tally used at = 2 * length input - at
 
 loop-holds : tie.Need-loop-holds Inv-loop μ-loop
 loop-holds c =
-    let e = c .before .before .before .before .is-sound .ensures in
-    (start _ _ _ (record { byte = e .1; test = passed _ (sym (e .0) ∙ c .before .before .before .if1 .taken) }), omega (arith, c .portion .ensures), search needs, search needs)
+    let e = c .before .before .before .is-sound .ensures in
+    (along-start _ _ _ _ (record { byte = e .1; test = passed _ (sym (e .0) ∙ c .before .before .if1 .taken) }), search needs, search needs)
 
-add-end : tie.Need-add-end Inv-loop μ-loop
-add-end c = let l = c .before .loop in omega (arith, l .inv .1, l .inv .0 .within)
+sub-goes-on : tie.Need-sub-goes-on Inv-loop μ-loop
+sub-goes-on c = put-within (c .loop .inv .0 .text-put)
 
-part-list-portion-end : tie.Need-part-list-portion-end Inv-loop μ-loop
-part-list-portion-end c = let l = c .before .before .loop in omega (arith, l .inv .1, l .inv .0 .within)
+add-at : tie.Need-add-at Inv-loop μ-loop
+add-at c =
+    let a = c .before .before .before .before .before .before .before .before .before .before .before .before .before .before .before .before .before .before .args in
+    let l = c .before .before .before .before .before .before .before .before .before .loop in
+    let bs = now (a .input) in
+    let known : (i : ℕ) → getD bs i 0 < 256 = λ i. c .before .before .before .before .before .before .before .before .before .before .before .before .before .before .before .before .before .shared-slice-known .given i .fits in
+    let small = nibbles-small bs known in
+    let q = goes-there (length bs) (l .at) (length (l .out) - l .used) (sym (c .before .before .before .before .before .before .before .before .goes-on .ensures) ∙ c .before .before .before .before .before .before .before .if2 .taken) in
+    let there : l .at < length (nibbles bs) = omega (arith, nibbles-length bs, q .0) in
+    let room : rowRoom ≤ length (now (a .out)) - l .used = omega (arith, put-length (l .inv .0 .text-put), q .1) in
+    let e = c .before .before .before .before .run .ensures in
+    omega (arith, taken-fits (l .inv .0) small there (l .inv .1) room (l .inv .2) e, nibbles-length bs, c .before .before .before .before .before .before .before .before .before .before .before .before .before .before .before .before .before .before .good .1 .0 .1)
 
-list-portion-requires : tie.Need-list-portion-requires Inv-loop μ-loop
-list-portion-requires c κs =
-    let args = c .before .before .before .before .before .before .before .before .before .before .before .before .before .before .before .args in
-    let l = c .before .before .before .before .before .loop in
-    let p = l .inv .0 in
-    let e = part-length (now (args .input)) (l .i) (l .n) (omega (arith, l .inv .1, p .within)) in
-    (p .sound, l .inv .2, l .inv .3, omega (arith, e, l .inv .1), omega (arith, e, l .inv .1, put-length (p .text-then), p .text-then .place, p .text-then .room))
-
-sub-portion : tie.Need-sub-portion Inv-loop μ-loop
-sub-portion c = let l = c .before .before .before .before .before .before .before .before .before .before .before .before .loop in omega (arith, l .inv .1, l .inv .0 .within)
-
-sub-portion-2 : tie.Need-sub-portion-2 Inv-loop μ-loop
-sub-portion-2 c = let q = c .before .before .before .before .before .before .list-portion .ensures .text-put in omega (arith, q .place, q .room, put-length q)
+put-text-requires : tie.Need-put-text-requires Inv-loop μ-loop
+put-text-requires c κs =
+    let l = c .before .before .before .before .before .before .before .before .before .before .before .before .loop in
+    let q = goes-there (length (now (c .before .before .before .before .before .before .before .before .before .before .before .before .before .before .before .before .before .before .before .before .before .args .input))) (l .at) (length (l .out) - l .used) (sym (c .before .before .before .before .before .before .before .before .before .before .before .goes-on .ensures) ∙ c .before .before .before .before .before .before .before .before .before .before .if2 .taken) in
+    omega (arith, q .1)
 
 loop-less : tie.Need-loop-less Inv-loop μ-loop
 loop-less c =
-    let loop-test = c .before .before .before .before .before .before .before .before .before .before .before .before .loop-test in
-    let l = c .before .before .before .before .before .before .before .before .before .before .before .before .before .loop in omega (arith, l .inv .1, l .inv .0 .within, loop-test .taken)
+    let a = c .before .before .before .before .before .before .before .before .before .before .before .before .before .before .before .before .before .before .before .before .before .before .before .before .args in
+    let l = c .before .before .before .before .before .before .before .before .before .before .before .before .before .before .before .loop in
+    let bs = now (a .input) in
+    let known : (i : ℕ) → getD bs i 0 < 256 = λ i. c .before .before .before .before .before .before .before .before .before .before .before .before .before .before .before .before .before .before .before .before .before .before .before .shared-slice-known .given i .fits in
+    let small = nibbles-small bs known in
+    let q = goes-there (length bs) (l .at) (length (l .out) - l .used) (sym (c .before .before .before .before .before .before .before .before .before .before .before .before .before .before .goes-on .ensures) ∙ c .before .before .before .before .before .before .before .before .before .before .before .before .before .if2 .taken) in
+    let there : l .at < length (nibbles bs) = omega (arith, nibbles-length bs, q .0) in
+    let room : rowRoom ≤ length (now (a .out)) - l .used = omega (arith, put-length (l .inv .0 .text-put), q .1) in
+    let e = c .before .before .before .before .before .before .before .before .before .before .run .ensures in
+    omega (arith, some-taken (l .inv .0) small there (l .inv .1) room (l .inv .2) e, nibbles-length bs, there)
 
 loop-again : tie.Need-loop-again Inv-loop μ-loop
 loop-again c =
-    let args = c .before .before .before .before .before .before .before .before .before .before .before .before .before .before .before .before .before .before .before .before .before .before .before .args in
-    let list-portion = c .before .before .before .before .before .before .before .list-portion in
-    let l = c .before .before .before .before .before .before .before .before .before .before .before .before .before .loop in
-    let p = l .inv .0 in
-    let w = now (args .input) in
-    let q = c .before .before .before .before .before .before .before .list-portion .ensures in (
-      next-portion (l .n) p (omega (arith, l .inv .1, p .within)) (omega (arith, l .inv .1)) (lists-of (ap nibbles (part-is w (l .i) (l .n))) q),
-      c .portion2 .ensures ∙ ap (λ (k : ℕ). portionOf (length w - (l .i + l .n)) (k - list-portion .result .used)) (put-length (q .text-put) ∙ put-length (p .text-then)),
-      search needs,
-      search needs,
-    )
+    let a = c .before .before .before .before .before .before .before .before .before .before .before .before .before .before .before .before .before .before .before .before .before .before .before .before .args in
+    let l = c .before .before .before .before .before .before .before .before .before .before .before .before .before .before .before .loop in
+    let bs = now (a .input) in
+    let known : (i : ℕ) → getD bs i 0 < 256 = λ i. c .before .before .before .before .before .before .before .before .before .before .before .before .before .before .before .before .before .before .before .before .before .before .before .shared-slice-known .given i .fits in
+    let small = nibbles-small bs known in
+    let q = goes-there (length bs) (l .at) (length (l .out) - l .used) (sym (c .before .before .before .before .before .before .before .before .before .before .before .before .before .before .goes-on .ensures) ∙ c .before .before .before .before .before .before .before .before .before .before .before .before .before .if2 .taken) in
+    let there : l .at < length (nibbles bs) = omega (arith, nibbles-length bs, q .0) in
+    let room : rowRoom ≤ length (now (a .out)) - l .used = omega (arith, put-length (l .inv .0 .text-put), q .1) in
+    let e = c .before .before .before .before .before .before .before .before .before .before .run .ensures in
+    (along-next (l .inv .0) small there (l .inv .1) room (l .inv .2) e (c .before .before .before .before .before .take .ensures) (c .before .before .put-text .ensures), search needs, search needs)
+
+sub-t30 : tie.Need-sub-t30 Inv-loop μ-loop
+sub-t30 c = c .before .before .loop .inv .0 .forward
 
 same-length : tie.Need-same-length Inv-loop μ-loop
-same-length c = put-length (c .before .loop .inv .0 .text-then)
+same-length c = put-length (c .before .before .loop .inv .0 .text-put)
 
 returns : tie.Need-returns Inv-loop μ-loop
 returns c =
-    let l = c .before .loop in
-    no-portion (l .inv .0) (sym (c .before .before .before .before .before .before .is-sound .ensures .0) ∙ c .before .before .before .before .before .if1 .taken) (sym (l .inv .1) ∙ omega (arith, c .loop-test .left))
+    let a = c .before .before .before .before .before .before .before .before .before .before .before .args in
+    let l = c .before .before .loop in
+    let bs = now (a .input) in
+    let stop = subst (λ (n : ℕ). (ltb (l .at / 2) (length bs) && leb rowRoom (n - l .used)) ≡ false) (put-length (l .inv .0 .text-put)) (sym (c .before .goes-on .ensures) ∙ c .if2 .left) in
+    along-end (length bs) (l .inv .0) (sym (c .before .before .before .before .before .before .is-sound .ensures .0) ∙ c .before .before .before .before .before .if1 .taken) (nibbles-length bs) stop
 
 returns-2 : tie.Need-returns-2 Inv-loop μ-loop
-returns-2 c = let a = c .before .before .before .before .before .before .args in nothing-listed (a .self) (now (a .input)) (now (a .out)) (sym (c .before .is-sound .ensures .0) ∙ c .if1 .left)
+returns-2 c = nothing-listed _ _ _ (sym (c .before .is-sound .ensures .0) ∙ c .if1 .left)
 
 pub list-spec : {M : Type 1} → statement M
 list-spec =
@@ -93,20 +101,18 @@ list-spec =
     Inv-loop
     μ-loop
     (λ c κs. search needs)
-    (λ c κs. search needs)
     loop-holds
-    add-end
-    (λ c. search needs)
-    (λ c. search needs)
-    (λ c. search needs)
-    part-list-portion-end
-    (λ c. search needs)
-    list-portion-requires
-    sub-portion
-    sub-portion-2
+    sub-goes-on
     (λ c κs. search needs)
+    (λ c. search needs)
+    (λ c. search needs)
+    (λ c κs. search needs)
+    add-at
+    (λ c κs. search needs)
+    put-text-requires
     loop-less
     loop-again
+    sub-t30
     same-length
     returns
     returns-2)

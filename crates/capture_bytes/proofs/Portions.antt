@@ -1,0 +1,172 @@
+-- Bytes run over portion by portion: what is left brings what the whole does, and a portion that is answered ends it.
+use mathlib.Core.Path.{_≡_, refl, _∙_, ap, ap₂, sym, subst}
+use mathlib.Core.Bool.{Bool, true, false, cond, _&&_, not, true≢false}
+use mathlib.Core.List.{List, [], _++_, append-nil}
+use Prim.Native.Nat.{ℕ, _+_, _-_, _*_, _/_, _≤_, _<_}
+use native.Mathlib.Omega.{arith}
+use borrow.Author.Tests.{ltb-true, ltb-false}
+use lib.Dec.{ltb}
+use lib.ListN.{length, drop, getD, drop-of-length-le}
+use Rattle.profile.specs.declared.Profile.{Profile}
+use Rattle.stream.specs.Answers.{outcomeOf, bufferAfter}
+use Rattle.stream.specs.Written.{nibbles}
+use Rattle.reader.specs.declared.Head.{Head}
+use Rattle.run.specs.declared.RunStepped.{RunStepped}
+use Rattle.run.specs.Run.{Ran, ran, isAnswer, lentRunOf}
+use Rattle.run.specs.Gives.{LentRunGives}
+use Rattle.run.specs.Parts.{isTold}
+use Rattle.run.proofs.Running.{answered, nothing-kept}
+use Rattle.reader_laws.specs.Passing.{Small, Byte}
+use Rattle.reader_laws.specs.ByRuns.{small-drop, answer-of}
+use Rattle.capture_bytes.specs.Unpacked.{portion}
+use Rattle.capture_bytes.specs.UnpackedLaws.{nibbles-length, nibbles-small, small-front, portion-length, portion-first}
+use Rattle.capture_bytes.specs.EndToEnd.{later, Goes, lent-stays, lent-goes, lent-within}
+
+-- bytes are run over up to the place `at`: the reader there, that it brings from there on what the first does, and the line buffer as lent
+pub record Upto (h₀ : Head) (body₀ bytes line₀ : List ℕ) (from at : ℕ) (h : Head) (body line : List ℕ) : Type 0 where
+  pub forward : from ≤ at
+  pub same : lentRunOf h₀ body₀ (drop from (nibbles bytes)) (length line₀) ≡ later (at - from) (lentRunOf h body (drop at (nibbles bytes)) (length line))
+  pub byte : Byte (h .at)
+  pub profile : h .profile ≡ h₀ .profile
+  pub as-lent : line ≡ line₀
+
+pub start : (h : Head) (body bytes line : List ℕ) (from : ℕ) → Byte (h .at) → Upto h body bytes line from from h body line
+start h body bytes line from byte =
+    let t = lentRunOf h body (drop from (nibbles bytes)) (length line) in
+    record {
+      forward = omega arith;
+      same = ap (ran (t .reader) (t .outcome)) (let z : t .taken ≡ from - from + t .taken = omega arith in z);
+      byte = byte;
+      profile = refl;
+      as-lent = refl;
+    }
+
+-- A portion.
+
+module _ {h₀ : Head} {body₀ bytes line₀ : List ℕ} {from at : ℕ} {h : Head} {body line : List ℕ} (u : Upto h₀ body₀ bytes line₀ from at h body line)
+    (known : (i : ℕ) → getD bytes i 0 < 256) (end : ℕ) (k : end ≤ length bytes) where
+  abbrev w : List ℕ
+  w = portion bytes at end
+
+  abbrev t : Ran
+  t = lentRunOf h body w (length line)
+
+  abbrev rest : List ℕ
+  rest = drop (at + length w) (nibbles bytes)
+
+  small : Small w
+  small = small-front w rest (subst Small (portion-first bytes at end k) (small-drop (nibbles-small bytes known) at))
+
+  pub portion-within : t .taken ≤ 2 * end - at
+  portion-within = omega (arith, lent-within h body (length line) w, portion-length bytes at end k)
+
+  -- it is answered, or the last
+  pub answered-there : isAnswer (t .outcome) ≡ true → lentRunOf h₀ body₀ (drop from (nibbles bytes)) (length line₀) ≡ later (at - from) t
+  answered-there e =
+      u .same
+      ∙ ap (λ v. later (at - from) (lentRunOf h body v (length line))) (portion-first bytes at end k)
+      ∙ ap (later (at - from)) (lent-stays h body (length line) w rest e)
+
+  pub ended-there : 2 * length bytes ≤ at + t .taken → lentRunOf h₀ body₀ (drop from (nibbles bytes)) (length line₀) ≡ later (at - from) t
+  ended-there l =
+      let none : rest ≡ [] = drop-of-length-le (nibbles bytes) {i = at + length w} (omega (arith, l, lent-within h body (length line) w, nibbles-length bytes)) in
+      u .same
+      ∙ ap (λ v. later (at - from) (lentRunOf h body v (length line))) (portion-first bytes at end k ∙ ap (λ v. w ++ v) none ∙ append-nil w)
+
+  -- it is not answered: all of it is taken
+  module _ (e : isAnswer (t .outcome) ≡ false) (s : length (t .reader .body) ≡ length body) where
+    goes : Goes h body w rest (length line) t
+    goes = lent-goes h body w rest (length line) (u .byte) small e s
+
+    pub all-taken : t .taken ≡ 2 * end - at
+    all-taken = goes .count ∙ portion-length bytes at end k
+
+    next-there : Upto h₀ body₀ bytes line₀ from (at + length w) (t .reader .head) (t .reader .body) line
+    next-there =
+        let f = u .forward in
+        let x = lentRunOf (t .reader .head) (t .reader .body) rest (length line) in
+        record {
+          forward = omega arith;
+          same =
+              u .same
+              ∙ ap (λ v. later (at - from) (lentRunOf h body v (length line))) (portion-first bytes at end k)
+              ∙ ap (later (at - from)) (goes .onto)
+              ∙ ap (ran (x .reader) (x .outcome)) (let z : at - from + (length w + x .taken) ≡ at + length w - from + x .taken = omega arith in z);
+          byte = goes .sound .byte;
+          profile = goes .profile ∙ u .profile;
+          as-lent = u .as-lent;
+        }
+
+    pub next-portion : {p : Profile} {r : RunStepped} {body′ line′ : List ℕ} → LentRunGives p t r body′ line line′
+        → Upto h₀ body₀ bytes line₀ from (at + r .taken) (r .head) body′ line′
+    next-portion {r = r} {body′ = body′} {line′ = line′} d =
+        subst (λ (x : List ℕ). Upto h₀ body₀ bytes line₀ from (at + r .taken) (r .head) body′ x) (sym (d .leaves ∙ nothing-kept (t .outcome) line e))
+        (subst (λ (i : ℕ). Upto h₀ body₀ bytes line₀ from i (r .head) body′ line) (ap (λ (n : ℕ). at + n) (sym (d .count ∙ goes .count)))
+        (subst (λ (x : Head). Upto h₀ body₀ bytes line₀ from (at + length w) x body′ line) (sym (d .next))
+        (subst (λ (x : List ℕ). Upto h₀ body₀ bytes line₀ from (at + length w) (t .reader .head) x line) (sym (d .keeps)) next-there)))
+
+-- What the call gives.
+
+-- whether there is an answer
+pub told : {p : Profile} {t : Ran} {r : RunStepped} {body before after : List ℕ} {b : Bool} → LentRunGives p t r body before after → b ≡ isTold (r .answer)
+    → isAnswer (t .outcome) ≡ b
+told {p} {t} {r} {after = after} d e = sym (answered (t .outcome) e (answer-of p (r .answer) after (t .outcome) (d .says)))
+
+pub gives-as : {p : Profile} {t u : Ran} {r : RunStepped} {body before after : List ℕ} → t ≡ u → LentRunGives p t r body before after
+    → LentRunGives p u r body before after
+gives-as {p} {r = r} {body = body} {before = before} {after = after} e = subst (λ (x : Ran). LentRunGives p x r body before after) e
+
+-- a run from the place on, whose nibbles before it were taken
+pub gives-whole : {h₀ : Head} {body₀ bytes line₀ : List ℕ} {from at : ℕ} {h : Head} {body line : List ℕ} → Upto h₀ body₀ bytes line₀ from at h body line → {t : Ran}
+    → lentRunOf h₀ body₀ (drop from (nibbles bytes)) (length line₀) ≡ later (at - from) t → {r : RunStepped} {body′ line′ : List ℕ} {n : ℕ}
+    → LentRunGives (h .profile) t r body′ line line′ → n ≡ at - from + t .taken
+    → LentRunGives (h₀ .profile) (lentRunOf h₀ body₀ (drop from (nibbles bytes)) (length line₀)) (record { head = r .head; answer = r .answer; taken = n }) body′ line₀ line′
+gives-whole {line₀ = line₀} u {t} q {r} {line′ = line′} d c =
+    record {
+      next = d .next ∙ ap (λ (x : Ran). x .reader .head) (sym q);
+      keeps = d .keeps ∙ ap (λ (x : Ran). x .reader .body) (sym q);
+      count = c ∙ ap (λ (x : Ran). x .taken) (sym q);
+      says = ap (λ (x : Profile). outcomeOf x (r .answer) line′) (sym (u .profile)) ∙ d .says ∙ ap (λ (x : Ran). x .outcome) (sym q);
+      leaves = d .leaves ∙ ap₂ (λ (x : Ran) (v : List ℕ). bufferAfter (x .outcome) v) (sym q) (u .as-lent);
+    }
+
+-- A turn: whether it goes on, and what then.
+
+module _ {h₀ : Head} {body₀ bytes line₀ : List ℕ} {from at : ℕ} {h : Head} {body line : List ℕ} (u : Upto h₀ body₀ bytes line₀ from at h body line)
+    (known : (i : ℕ) → getD bytes i 0 < 256) (end : ℕ) (k : end ≤ length bytes) {r : RunStepped} {body′ line′ : List ℕ}
+    (d : LentRunGives (h .profile) (lentRunOf h body (portion bytes at end) (length line)) r body′ line line′) (s : length body′ ≡ length body)
+    {more : Bool} (g : more ≡ (not (isTold (r .answer)) && ltb ((at + r .taken) / 2) (length bytes))) where
+  on : (x y : Bool) → (not x && y) ≡ true → (x ≡ false) × (y ≡ true)
+  on true y e = absurd (true≢false (sym e))
+  on false true e = (refl, refl)
+  on false false e = absurd (true≢false (sym e))
+
+  no-answer-yet : more ≡ true → isAnswer (lentRunOf h body (portion bytes at end) (length line) .outcome) ≡ false
+  no-answer-yet e = told d refl ∙ on (isTold (r .answer)) _ (sym g ∙ e) .0
+
+  pub next-turn : more ≡ true → Upto h₀ body₀ bytes line₀ from (at + r .taken) (r .head) body′ line′
+  next-turn e = next-portion u known end k (no-answer-yet e) (sym (ap length (d .keeps)) ∙ s) d
+
+  pub last-turn : more ≡ false
+      → LentRunGives (h₀ .profile) (lentRunOf h₀ body₀ (drop from (nibbles bytes)) (length line₀)) (record { head = r .head; answer = r .answer; taken = at + r .taken - from }) body′ line₀ line′
+  last-turn e = go (isTold (r .answer)) (ltb ((at + r .taken) / 2) (length bytes)) refl refl (sym g ∙ e)
+    where
+      go : (x y : Bool) → isTold (r .answer) ≡ x → ltb ((at + r .taken) / 2) (length bytes) ≡ y → (not x && y) ≡ false
+          → LentRunGives (h₀ .profile) (lentRunOf h₀ body₀ (drop from (nibbles bytes)) (length line₀)) (record { head = r .head; answer = r .answer; taken = at + r .taken - from }) body′ line₀ line′
+      go true y p q f = gives-whole u (answered-there u known end k (told d refl ∙ p)) d (omega (arith, d .count, u .forward))
+      go false true p q f = absurd (true≢false f)
+      go false false p q f =
+          gives-whole u (ended-there u known end k (omega (arith, d .count, ltb-false ((at + r .taken) / 2) (length bytes) q))) d (omega (arith, d .count, u .forward))
+
+  -- the nibbles left, and one more where it goes on, fall
+  pub turn-less : (was : Bool) → was ≡ true → (at / 2 < length bytes → at < 2 * end)
+      → 2 * length bytes - (at + r .taken) + cond more 1 0 < 2 * length bytes - at + cond was 1 0
+  turn-less was w some = subst (λ (x : Bool). 2 * length bytes - (at + r .taken) + cond more 1 0 < 2 * length bytes - at + cond x 1 0) (sym w) (go more refl)
+    where
+      go : (x : Bool) → more ≡ x → 2 * length bytes - (at + r .taken) + cond x 1 0 < 2 * length bytes - at + 1
+      go true e =
+          let y = ltb-true ((at + r .taken) / 2) (length bytes) (on (isTold (r .answer)) _ (sym g ∙ e) .1) in
+          let all = all-taken u known end k (no-answer-yet e) (sym (ap length (d .keeps)) ∙ s) in
+          let z = some (omega arith) in
+          omega (arith, d .count, all)
+      go false e = omega arith
