@@ -22,9 +22,10 @@ use Rattle.run.specs.Run.{Ran, lentRunOf, onward}
 use Rattle.run.specs.Gives.{LentRunGives}
 use Rattle.reader_laws.specs.Passing.{Small, Ok}
 use Rattle.reader_laws.specs.ByRuns.{ByNibbles, RunOn, run-on, lent-onward, answer-of, small-drop}
-use Rattle.tally.specs.declared.Tally.{Tally}
-use Rattle.tally.specs.declared.Told.{Told}
-use Rattle.tally.specs.Tally.{takeOf}
+use Rattle.verdict.specs.declared.Findings.{Findings}
+use Rattle.verdict.specs.declared.Found.{Found}
+use Rattle.verdict.specs.Findings.{takeOf}
+use Rattle.verdict.specs.FindingsLaws.{nothing-found}
 use Rattle.listing.specs.Rows.{rowRoom, rowOf}
 use Rattle.text.specs.Put.{Put, onFront}
 use Rattle.text.specs.PutLaws.{none, joined, on-front}
@@ -37,27 +38,26 @@ use Rattle.capture_lister.specs.Listed.{textOf, answerTo, afterNibble, n
 use Rattle.capture_lister.specs.ListedLaws.{from-within}
 
 -- a lister whose parts are these
-abbrev pub lister : Mode → Head → List ℕ → Tally → Lister
-lister m h body t = record { mode = m; reader = record { head = h; body = body }; tally = t }
+abbrev pub lister : Mode → Head → List ℕ → Findings → Lister
+lister m h body t = record { mode = m; reader = record { head = h; body = body }; findings = t }
 
--- No answer: the tally stays, and there is no text.
+-- No answer: the findings stay, and there is no text.
 
-quiet-tally : (t : Tally) → takeOf t answers.Nothing .tally ≡ t
-unfolding takeOf
-quiet-tally t = refl
+quiet-findings : (t : Findings) → takeOf t answers.Nothing .findings ≡ t
+quiet-findings t = ap (λ (d : Found). d .findings) (nothing-found t)
 
-quiet-text : (m : Mode) (t : Tally) → textOf m (takeOf t answers.Nothing) answers.Nothing ≡ []
-unfolding textOf takeOf rowOf newsLine
+quiet-text : (m : Mode) (t : Findings) → textOf m (takeOf t answers.Nothing) answers.Nothing ≡ []
+unfolding textOf rowOf newsLine
 quiet-text Rows t = refl
-quiet-text Frames t = refl
+quiet-text Frames t = ap (λ (d : Found). newsLine (d .news)) (nothing-found t)
 
 -- A lister after an answer, and the answer's text.
 
 abbrev onAnswer : Lister → Reader → Answer → Lister
-onAnswer l r a = record { mode = l .mode; reader = r; tally = takeOf (l .tally) a .tally }
+onAnswer l r a = record { mode = l .mode; reader = r; findings = takeOf (l .findings) a .findings }
 
 abbrev answerText : Lister → Answer → List ℕ
-answerText l a = textOf (l .mode) (takeOf (l .tally) a) a
+answerText l a = textOf (l .mode) (takeOf (l .findings) a) a
 
 -- What nibbles bring a lister and a buffer with some room: the lister after those that are taken, their text, and how many are left.
 
@@ -77,7 +77,7 @@ tells l text room w = brings l text w (takenFrom l room w)
 
 module _ (l : Lister) (room : ℕ) (h : rowRoom ≤ room) where
   abbrev at : Reader → Lister
-  at r = record { mode = l .mode; reader = r; tally = l .tally }
+  at r = record { mode = l .mode; reader = r; findings = l .findings }
 
   first : (m : Lister) (n : ℕ) (w : List ℕ) → tells m [] room (n ∷ w) ≡ tells (afterNibble m n) (nibbleText m n) (room - length (nibbleText m n)) w
   first m n w =
@@ -94,7 +94,7 @@ module _ (l : Lister) (room : ℕ) (h : rowRoom ≤ room) where
         next = λ t w. tells (onAnswer l (t .reader) (answerFor (t .outcome))) (answerText l (answerFor (t .outcome))) (room - length (answerText l (answerFor (t .outcome)))) w;
         one = λ r n w. first (at r) n w;
         ignores = λ r w.
-            ap₂ (λ (x : Tally) (v : List ℕ). tells (record { mode = l .mode; reader = r; tally = x }) v (room - length v) w) (quiet-tally (l .tally)) (quiet-text (l .mode) (l .tally))
+            ap₂ (λ (x : Findings) (v : List ℕ). tells (record { mode = l .mode; reader = r; findings = x }) v (room - length v) w) (quiet-findings (l .findings)) (quiet-text (l .mode) (l .findings))
             ∙ ap (λ (n : ℕ). tells (at r) [] n w) (sub-zero room);
       }
 
@@ -130,12 +130,12 @@ both-texts v t m room w =
     ap (λ (x : List ℕ). record { lister-then = listAfter m (take k w); text-then = x; left = length w - k }) (sym (append-assoc v t (listText m (take k w))))
 
 -- what a run gives, and what is made of its answer
-module _ {l : Lister} {s d : List ℕ} {from at : ℕ} {mode : Mode} {h : Head} {body : List ℕ} {tally : Tally} {used : ℕ} {after : List ℕ}
-    (p : Along l s d from at (lister mode h body tally) used after) (small : Small s) (there : at < length s) (full : length body ≡ longest)
+module _ {l : Lister} {s d : List ℕ} {from at : ℕ} {mode : Mode} {h : Head} {body : List ℕ} {findings : Findings} {used : ℕ} {after : List ℕ}
+    (p : Along l s d from at (lister mode h body findings) used after) (small : Small s) (there : at < length s) (full : length body ≡ longest)
     (room : rowRoom ≤ length d - used) {n : ℕ} (n-full : n ≡ longest) {r : RunStepped} {body′ line line′ : List ℕ}
     (e : LentRunGives (h .profile) (lentRunOf h body (drop at s) n) r body′ line line′) where
   abbrev m : Lister
-  m = lister mode h body tally
+  m = lister mode h body findings
 
   abbrev t : Ran
   t = onward (m .reader) (drop at s) 0
@@ -155,17 +155,17 @@ module _ {l : Lister} {s d : List ℕ} {from at : ℕ} {mode : Mode} {h : Head} 
   pub taken-fits : at + r .taken ≤ length s
   taken-fits = let q = ran-on .within in omega (arith, taken-is, length-drop at s)
 
-  pub along-next : {o : Told} {used′ : ℕ} {after′ : List ℕ} → o ≡ takeOf tally (r .answer) → Put after used (textOf mode o (r .answer)) used′ after′
-      → Along l s d from (at + r .taken) (lister mode (r .head) body′ (o .tally)) used′ after′
+  pub along-next : {o : Found} {used′ : ℕ} {after′ : List ℕ} → o ≡ takeOf findings (r .answer) → Put after used (textOf mode o (r .answer)) used′ after′
+      → Along l s d from (at + r .taken) (lister mode (r .head) body′ (o .findings)) used′ after′
   unfolding by-nibbles
   along-next {o} {used′} {after′} told put =
       let a = answerFor (t .outcome) in
       let a-is : r .answer ≡ a = answer-of _ _ _ _ (e .says) ∙ ap (λ (x : Ran). answerFor (x .outcome)) goes in
-      let o-is : o ≡ takeOf tally a = told ∙ ap (takeOf tally) a-is in
-      let m′ = lister mode (r .head) body′ (o .tally) in
+      let o-is : o ≡ takeOf findings a = told ∙ ap (takeOf findings) a-is in
+      let m′ = lister mode (r .head) body′ (o .findings) in
       let m-is : m′ ≡ onAnswer m (t .reader) a =
-      ap₂ (λ (y : Head) (z : List ℕ). lister mode y z (o .tally)) (e .next ∙ ap (λ (x : Ran). x .reader .head) goes) (e .keeps ∙ ap (λ (x : Ran). x .reader .body) goes)
-      ∙ ap (λ (y : Told). record { mode = mode; reader = t .reader; tally = y .tally }) o-is in
+      ap₂ (λ (y : Head) (z : List ℕ). lister mode y z (o .findings)) (e .next ∙ ap (λ (x : Ran). x .reader .head) goes) (e .keeps ∙ ap (λ (x : Ran). x .reader .body) goes)
+      ∙ ap (λ (y : Found). record { mode = mode; reader = t .reader; findings = y .findings }) o-is in
       let v = textOf mode o (r .answer) in
       let v-is : v ≡ answerText m a = ap₂ (textOf mode) o-is a-is in
       let w′ = drop (ran-on .count) (drop at s) in

@@ -1,8 +1,8 @@
 -- A capture listed: the text of its marks or frames, and how far a lent buffer lasts.
 use mathlib.Core.Path.{_≡_}
-use mathlib.Core.Bool.{cond}
+use mathlib.Core.Bool.{Bool, cond}
 use mathlib.Core.List.{List, [], _∷_, _++_}
-use Prim.Native.Nat.{ℕ, suc, _-_, _*_}
+use Prim.Native.Nat.{ℕ, suc, _+_, _-_}
 use lib.Dec.{ltb}
 use lib.ListN.{length, take}
 use Rattle.profile.specs.declared.Profile.{Profile}
@@ -10,20 +10,22 @@ use Rattle.profile.specs.Profile.{longest}
 use Rattle.stream.specs.declared.Answer.{Answer}
 use Rattle.stream.specs.Answers.{answerFor}
 use Rattle.reader.specs.Reader.{passes, freshReader, feedOf, finishOf}
-use Rattle.tally.specs.declared.Tally.{Tally}
-use Rattle.tally.specs.declared.Told.{Told}
-use Rattle.tally.specs.Tally.{freshTally, takeOf, closeOf, isGood}
+use Rattle.verdict.specs.declared.Findings.{Findings}
+use Rattle.verdict.specs.declared.Found.{Found}
+use Rattle.verdict.specs.Findings.{noFindings, takeOf, closeOf}
+use Rattle.verdict.specs.Verdict.{isLost, verdictOf}
+use Rattle.report.specs.Report.{reportRoom, reportOf}
 use Rattle.text.specs.Put.{onFront}
 use Rattle.listing.specs.Rows.{headerRow, rowRoom, rowOf}
-use Rattle.listing.specs.Frames.{newsLine, summaryLines}
+use Rattle.listing.specs.Frames.{newsLine}
 use Rattle.capture_lister.specs.declared.Mode.{Mode}
 use Rattle.capture_lister.specs.declared.Mode.the-variants.{Rows, Frames}
 use Rattle.capture_lister.specs.declared.Lister.{Lister}
 use Rattle.capture_lister.specs.declared.Listed.{Listed}
 
--- a fresh reader and a fresh tally
+-- a fresh reader, and nothing found
 abbrev pub freshLister : Mode → Profile → Lister
-freshLister m p = record { mode = m; reader = freshReader p; tally = freshTally p }
+freshLister m p = record { mode = m; reader = freshReader p; findings = noFindings p }
 
 -- What is listed.
 
@@ -32,15 +34,15 @@ abbrev pub headText : Mode → List ℕ
 headText Rows = headerRow
 headText Frames = []
 
--- an answer that was told to the tally: the mark's row, or the line of a frame
-unfoldable pub textOf : Mode → Told → Answer → List ℕ
-textOf Rows d a = rowOf (d .tally .marks) a
+-- an answer, and what was found with it: the mark's row, or the line of a frame
+unfoldable pub textOf : Mode → Found → Answer → List ℕ
+textOf Rows d a = rowOf (d .findings .tally .marks) a
 textOf Frames d a = newsLine (d .news)
 
--- below the list: the counts of the frames, and whether all is good
-unfoldable pub reportOf : Mode → Tally → List ℕ
-reportOf Rows t = []
-reportOf Frames t = summaryLines (t .complete) (t .broken) (isGood t)
+-- below the list: the report of the frames and the signal, with the verdict
+unfoldable pub belowOf : Mode → Findings → Bool → List ℕ
+belowOf Rows f lost = []
+belowOf Frames f lost = reportOf f lost (verdictOf f lost)
 
 -- One nibble.
 
@@ -51,11 +53,11 @@ answerTo l n = answerFor (feedOf (l .reader) n longest .outcome)
 -- the lister afterwards
 unfoldable pub afterNibble : Lister → ℕ → Lister
 afterNibble l n =
-    record { mode = l .mode; reader = feedOf (l .reader) n longest .reader; tally = takeOf (l .tally) (answerTo l n) .tally }
+    record { mode = l .mode; reader = feedOf (l .reader) n longest .reader; findings = takeOf (l .findings) (answerTo l n) .findings }
 
 -- the text of the mark that is answered, if one is
 unfoldable pub nibbleText : Lister → ℕ → List ℕ
-nibbleText l n = textOf (l .mode) (takeOf (l .tally) (answerTo l n)) (answerTo l n)
+nibbleText l n = textOf (l .mode) (takeOf (l .findings) (answerTo l n)) (answerTo l n)
 
 -- Many nibbles.
 
@@ -95,26 +97,30 @@ listedOf l room w = listedUpTo l w (takenOf l room w)
 
 -- Finish.
 
--- the last mark's answer, if there is one, and what the tally tells then
+-- the last mark's answer, if there is one, and what is found with it
 abbrev pub lastAnswer : Lister → Answer
 lastAnswer l = answerFor (finishOf (l .reader) .outcome)
 
-abbrev pub lastTold : Lister → Told
-lastTold l = closeOf (l .tally) (lastAnswer l)
+abbrev pub lastFound : Lister → Found
+lastFound l = closeOf (l .findings) (lastAnswer l)
+
+-- the signal was lost before the end
+abbrev pub lostAt : Lister → Bool
+lostAt l = isLost (l .reader .head .profile) (l .reader .head .at) (l .reader .head .count)
 
 -- its text, and what stands below the list
 abbrev pub endText : Lister → List ℕ
-endText l = textOf (l .mode) (lastTold l) (lastAnswer l) ++ reportOf (l .mode) (lastTold l .tally)
+endText l = textOf (l .mode) (lastFound l) (lastAnswer l) ++ belowOf (l .mode) (lastFound l .findings) (lostAt l)
 
 -- room for any
 abbrev pub endRoom : ℕ
-endRoom = 2 * rowRoom
+endRoom = rowRoom + reportRoom
 
--- where the buffer has it, a lister with the reader that finish leaves, and a fresh tally; else the lister as it was, and no text
+-- where the buffer has it, a lister with the reader that finish leaves, and nothing found; else the lister as it was, and no text
 unfoldable pub finishedOf : Lister → ℕ → ListedText
 finishedOf l room =
     cond (ltb room endRoom) (record { lister = l; taken = 0; text = [] })
-    (record { lister = record { mode = l .mode; reader = finishOf (l .reader) .reader; tally = freshTally (l .tally .profile) }; taken = 0; text = endText l })
+    (record { lister = record { mode = l .mode; reader = finishOf (l .reader) .reader; findings = noFindings (l .reader .head .profile) }; taken = 0; text = endText l })
 
 -- what a call gives back, as one sentence: the lister and the count as the definition has them, and its text at the front of the buffer
 pub record ListGives (g : ListedText) (r : Listed) (before after : List ℕ) : Type 0 where

@@ -8,14 +8,14 @@ use lib.Dec.{ltb}
 use lib.ListN.{length, take, drop, take-append-drop}
 use Rattle.reader.specs.Reader.{passes}
 use Rattle.stream.specs.declared.Answer.{Answer}
-use Rattle.tally.specs.declared.Told.{Told}
+use Rattle.verdict.specs.declared.Found.{Found}
 use Rattle.listing.specs.Rows.{rowRoom}
 use Rattle.listing.specs.RowLaws.{row-short}
 use Rattle.listing.specs.FramesLaws.{news-short}
 use Rattle.capture_lister.specs.declared.Mode.{Mode}
 use Rattle.capture_lister.specs.declared.Mode.the-variants.{Rows, Frames}
 use Rattle.capture_lister.specs.declared.Lister.{Lister}
-use Rattle.capture_lister.specs.Listed.{textOf, afterNibble, nibbleText, listAfter, listText, takenFrom, takenOf, ListedText, listedOf}
+use Rattle.capture_lister.specs.Listed.{textOf, afterNibble, nibbleText, listAfter, listText, takenFrom, takenOf, listedOf}
 
 -- no more than there are
 
@@ -35,9 +35,9 @@ taken-within l room w = either (passes (l .reader .head)) (from-within l room w)
     either false h = omega arith
 
 -- no text of an answer is longer than the room that is asked for it
-pub text-short : (m : Mode) (d : Told) (a : Answer) → length (textOf m d a) ≤ rowRoom
+pub text-short : (m : Mode) (d : Found) (a : Answer) → length (textOf m d a) ≤ rowRoom
 unfolding textOf
-text-short Rows d a = row-short (d .tally .marks) a
+text-short Rows d a = row-short (d .findings .tally .marks) a
 text-short Frames d a = news-short (d .news)
 
 -- In pieces.

@@ -10,29 +10,30 @@ ghost use Prim.Native.Nat.{_+_, _/_, _≤_};
 ghost use lib.Dec.{leb, ltb};
 ghost use lib.ListN.{length, drop};
 ghost use Rattle.stream.specs.Written.{nibbles};
-ghost use Rattle.tally.specs.Tally.{isGood};
+ghost use Rattle.verdict.specs.Verdict.{verdictOf};
+ghost use Rattle.report.specs.Report.{reportRoom, reportOf};
 ghost use Rattle.listing.specs.Rows.{rowOf, rowRoom, ifRoom};
-ghost use Rattle.listing.specs.Frames.{newsLine, summaryLines};
+ghost use Rattle.listing.specs.Frames.{newsLine};
 ghost use Rattle.text.specs.Put.{Put, AtFront};
-ghost use Rattle.capture_lister.specs.Listed.{ListGives, freshLister, headText, textOf, reportOf, listedOf, finishedOf};
+ghost use Rattle.capture_lister.specs.Listed.{ListGives, freshLister, headText, textOf, belowOf, listedOf, finishedOf};
 use profile::Profile;
 use reader::Reader;
 use stream::Answer;
 use tally::News;
-use tally::Tally;
-use tally::Told;
+use verdict::Findings;
+use verdict::Found;
 
-// What is listed: the marks, a row for each; or the frames, a line for each, and at the end their counts and whether all is good.
+// What is listed: the marks, a row for each; or the frames, a line for each, and at the end the report of the whole capture.
 pub enum Mode {
     Rows,
     Frames,
 }
 
-// A reader, and the tally of its answers.
+// A reader, and what was found in its answers.
 pub struct Lister {
     pub mode: Mode,
     pub reader: Reader,
-    pub tally: Tally,
+    pub findings: Findings,
 }
 
 // A lister after a call, the nibbles it took, and the bytes of the buffer that it filled.
@@ -43,16 +44,16 @@ pub struct Listed {
 }
 
 impl Lister {
-    // A fresh reader and a fresh tally.
+    // A fresh reader, and nothing found.
     pub fn new(mode: Mode, profile: Profile) -> Lister
         ensures { λ r. ⌜ r ≡ freshLister mode profile ⌝ }
     {
         let reader = Reader::fresh(profile);
-        let tally = Tally::new(profile);
+        let findings = Findings::new(profile);
         Lister {
             mode,
             reader,
-            tally,
+            findings,
         }
     }
 
@@ -77,7 +78,7 @@ impl Lister {
         if capture_bytes::is_sound(head) {
             let mut body = reader.body;
             let mut line = [0u8; Profile::LONGEST];
-            let mut tally = self.tally;
+            let mut findings = self.findings;
             let mut used: usize = 0;
             let mut at = from;
             while goes_on(input.len(), at, out.len() - used) {
@@ -85,15 +86,15 @@ impl Lister {
                 head = t.head;
                 let answer = t.answer;
                 at += t.taken;
-                let told = tally.take(answer);
-                tally = told.tally;
-                used = put_text(mode, told, answer, out, used);
+                let found = findings.take(answer);
+                findings = found.findings;
+                used = put_text(mode, found, answer, out, used);
             }
             let reader = Reader { head, body };
             let lister = Lister {
                 mode,
                 reader,
-                tally,
+                findings,
             };
             return Listed {
                 lister,
@@ -122,20 +123,22 @@ impl Lister {
         }
         let mode = self.mode;
         let reader = self.reader;
+        let head = reader.head;
+        let lost = verdict::is_lost(head);
         let fed = reader.finish();
         let answer = fed.answer;
-        let tally = self.tally;
-        let profile = tally.profile;
-        let told = tally.close(answer);
-        let at = put_text(mode, told, answer, out, 0);
-        let tally = told.tally;
-        let used = put_report(mode, tally, out, at);
+        let findings = self.findings;
+        let found = findings.close(answer);
+        let at = put_text(mode, found, answer, out, 0);
+        let findings = found.findings;
+        let used = put_report(mode, findings, lost, out, at);
         let reader = fed.reader;
-        let tally = Tally::new(profile);
+        let profile = head.profile;
+        let findings = Findings::new(profile);
         let lister = Lister {
             mode,
             reader,
-            tally,
+            findings,
         };
         Listed {
             lister,
@@ -146,7 +149,7 @@ impl Lister {
 }
 
 // Room for the last text: the last mark's, and what stands below the list.
-pub const END: usize = 2 * listing::ROW;
+pub const END: usize = listing::ROW + report::ROOM;
 
 // Whether a nibble is left at a place, and room for the text of a mark.
 fn goes_on(bytes: usize, at: usize, room: usize) -> bool
@@ -159,30 +162,31 @@ fn goes_on(bytes: usize, at: usize, room: usize) -> bool
 }
 
 // Puts the text of an answer at a place, and gives the place after it.
-fn put_text(mode: Mode, told: Told, answer: Answer, out: &mut [u8], at: usize) -> usize
+fn put_text(mode: Mode, found: Found, answer: Answer, out: &mut [u8], at: usize) -> usize
     requires { ⌜ at + rowRoom ≤ length (now out) ⌝ }
-    ensures { λ r. ⌜ Put (now (out .entry)) at (textOf mode told answer) r (now (out .exit)) ⌝ }
+    ensures { λ r. ⌜ Put (now (out .entry)) at (textOf mode found answer) r (now (out .exit)) ⌝ }
 {
     match mode {
         Mode::Rows => {
-            let tally = told.tally;
+            let findings = found.findings;
+            let tally = findings.tally;
             put_row(tally.marks, answer, out, at)
         }
         Mode::Frames => {
-            let news = told.news;
+            let news = found.news;
             put_news(news, out, at)
         }
     }
 }
 
 // Puts what stands below the list.
-fn put_report(mode: Mode, tally: Tally, out: &mut [u8], at: usize) -> usize
-    requires { ⌜ at + rowRoom ≤ length (now out) ⌝ }
-    ensures { λ r. ⌜ Put (now (out .entry)) at (reportOf mode tally) r (now (out .exit)) ⌝ }
+fn put_report(mode: Mode, findings: Findings, lost: bool, out: &mut [u8], at: usize) -> usize
+    requires { ⌜ at + reportRoom ≤ length (now out) ⌝ }
+    ensures { λ r. ⌜ Put (now (out .entry)) at (belowOf mode findings lost) r (now (out .exit)) ⌝ }
 {
     match mode {
         Mode::Rows => at,
-        Mode::Frames => put_summary(tally, out, at),
+        Mode::Frames => put_findings(findings, lost, out, at),
     }
 }
 
@@ -200,10 +204,11 @@ fn put_news(news: News, out: &mut [u8], at: usize) -> usize
     at + listing::frames::news(news, &mut out[at..])
 }
 
-fn put_summary(tally: Tally, out: &mut [u8], at: usize) -> usize
-    requires { ⌜ at + rowRoom ≤ length (now out) ⌝ }
-    ensures { λ r. ⌜ Put (now (out .entry)) at (summaryLines (tally .complete) (tally .broken) (isGood tally)) r (now (out .exit)) ⌝ }
+// The report, with its verdict.
+fn put_findings(findings: Findings, lost: bool, out: &mut [u8], at: usize) -> usize
+    requires { ⌜ at + reportRoom ≤ length (now out) ⌝ }
+    ensures { λ r. ⌜ Put (now (out .entry)) at (reportOf findings lost (verdictOf findings lost)) r (now (out .exit)) ⌝ }
 {
-    let good = tally.is_good();
-    at + listing::frames::summary(tally.complete, tally.broken, good, &mut out[at..])
+    let verdict = findings.verdict(lost);
+    at + report::put_report(findings, lost, verdict, &mut out[at..])
 }

@@ -2,12 +2,14 @@
 use native.Mathlib.Omega.{arith}
 use borrow.Author.Needs.{needs}
 use Rattle.listing.specs.RowLaws.{row-short}
+use Rattle.listing.specs.Rows.{ifRoom, rowRoom}
 use Rattle.capture_lister.proofs.Part.{part-put}
 use Rattle.capture_lister.proofs.put_row.Statement.{statement}
 use Rattle.capture_lister.proofs.put_row.Tie as tie
 
 returns : tie.Need-returns
-returns c = let a = c .before .before .before .before .before .args in part-put _ _ _ _ _ (c .before .before .before .before .before .pre) (row-short (a .mark) (a .answer)) (c .before .before .row .ensures .count) (c .before .before .row .ensures .leaves)
+unfolding ifRoom
+returns c = let a = c .before .before .before .before .before .args in part-put rowRoom _ _ _ _ _ (c .before .before .before .before .before .pre) (row-short (a .mark) (a .answer)) (c .before .before .row .ensures .count) (c .before .before .row .ensures .leaves)
 
 add-result : tie.Need-add-result
 add-result c = let h = returns c in omega (arith, h .place, h .room)

@@ -6,7 +6,7 @@ use Rattle.capture_lister.proofs.put_text.Tie as tie
 
 returns : tie.Need-returns
 unfolding textOf
-returns c = simp (c .before .before .before .before .before .enum-told .given .1) (c .before .before .put-row .ensures)
+returns c = simp (c .before .before .before .before .before .before .enum-told .given .1) (c .before .before .put-row .ensures)
 
 returns-2 : tie.Need-returns-2
 unfolding textOf

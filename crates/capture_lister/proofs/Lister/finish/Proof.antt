@@ -15,25 +15,37 @@ returns c = simp (lt-ltb _ _ (c .if1 .taken)) (record { next = refl; leaves = re
 
 put-report-requires : tie.Need-put-report-requires
 put-report-requires c κs =
-    let args = c .before .before .before .before .before .before .before .before .before .before .before .before .args in
-    let test-1 = c .before .before .before .before .before .before .before .before .before .before .if1 in
-    let finish = c .before .before .before .before .before .before .before .before .finish in
-    omega (arith, test-1 .left, c .before .before .before .before .put-text .ensures .place, put-length (c .before .before .before .before .put-text .ensures), text-short (args .self .mode) (c .before .before .before .before .before .before .close .result) (finish .result .answer))
+    let text = c .before .before .before .before in
+    let close = text .before .before in
+    let finish = close .before .before in
+    let test = finish .before .before .before .before in
+    omega (
+      arith,
+      test .if1 .left,
+      text .put-text .ensures .place,
+      put-length (text .put-text .ensures),
+      text-short (test .before .before .args .self .mode) (close .close .result) (finish .finish .result .answer),
+    )
 
 returns-2 : tie.Need-returns-2
 unfolding finishedOf
 returns-2 c =
-    let test-1 = c .before .before .before .before .before .before .before .before .before .before .before .before .before .before .before .if1 in
-    let finish = c .before .before .before .before .before .before .before .before .before .before .before .before .before .finish in
-    let close = c .before .before .before .before .before .before .before .before .before .before .before .close in
-    let put-text = c .before .before .before .before .before .before .before .before .before .put-text in
-    let p = on-front (joined (put-text .ensures) (c .before .before .before .before .put-report .ensures)) in simp (le-ltb _ _ (test-1 .left), ← finish .ensures .next, ← finish .ensures .says, ← close .ensures, c .new .ensures) (record { next = simp (p .count); leaves = p .leaves })
+    let report = c .before .before .before .before in
+    let text = report .before .before .before .before .before in
+    let close = text .before .before in
+    let finish = close .before .before in
+    let lost = finish .before in
+    let test = lost .before .before .before in
+    let p = on-front (joined (text .put-text .ensures) (report .put-report .ensures)) in
+    simp (le-ltb _ _ (test .if1 .left), ← lost .is-lost .ensures, ← finish .finish .ensures .next, ← finish .finish .ensures .says, ← close .close .ensures, c .new .ensures)
+    (record { next = simp (p .count); leaves = p .leaves })
 
 pub finish-spec : {M : Type 1} → statement M
 finish-spec =
     tie.close
     (tie.spec
     returns
+    (λ c κs. search needs)
     (λ c κs. search needs)
     (λ c κs. search needs)
     (λ c κs. search needs)

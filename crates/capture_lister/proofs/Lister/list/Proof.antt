@@ -18,11 +18,11 @@ use Rattle.capture_lister.proofs.Lister.list.Statement.{statement}
 use Rattle.capture_lister.proofs.Lister.list.Tie as tie
 
 abbrev Inv-loop : tie.InvT-loop
-Inv-loop input from out₀ mode head₀ body₀ line₀ tally₀ used₀ at₀ out head body line tally used at =
-    Along (lister mode head₀ body₀ tally₀) (nibbles input) out₀ from at (lister mode head body tally) used out × (length body ≡ longest) × (length line ≡ longest)
+Inv-loop input from out₀ mode head₀ body₀ line₀ findings₀ used₀ at₀ out head body line findings used at =
+    Along (lister mode head₀ body₀ findings₀) (nibbles input) out₀ from at (lister mode head body findings) used out × (length body ≡ longest) × (length line ≡ longest)
 
 abbrev μ-loop : tie.MeasureT-loop
-μ-loop input from out₀ mode head₀ body₀ line₀ tally₀ used₀ at₀ out head body line tally used at = 2 * length input - at
+μ-loop input from out₀ mode head₀ body₀ line₀ findings₀ used₀ at₀ out head body line findings used at = 2 * length input - at
 
 loop-holds : tie.Need-loop-holds Inv-loop μ-loop
 loop-holds c =
