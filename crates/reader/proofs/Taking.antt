@@ -1,5 +1,5 @@
 -- A nibble with the body lent: what each test before it brings; and feeding, which asks the reader's own test first.
-use mathlib.Core.Path.{_≡_, sym, ap, ap₂, _∙_}
+use mathlib.Core.Path.{_≡_, refl, sym, ap, ap₂, subst, _∙_}
 use mathlib.Core.Bool.{true, false}
 use mathlib.Core.List.{List}
 use Prim.Native.Nat.{ℕ, _≤_, _<_}
@@ -31,16 +31,14 @@ module _ (r : Reader) (n room : ℕ) where
   unfolding takeOf
   take-goes e g h = simp (eq-eqb (length (r .body)) longest e, le-leb n 15 g, le-leb (bodyLength (r .head .profile)) room h)
 
+-- what a call gives is what it gives by any equal account
+pub gives-as : {t u : Took} {s : Stepped} {body before after : List ℕ} → t ≡ u → TakeGives t s body before after → TakeGives u s body before after
+gives-as {s = s} {body} {before} {after} q e = subst (λ (t : Took). TakeGives t s body before after) q e
+
 -- a refusal changes neither the body nor the buffer
 pub refuses : {t : Took} (r : Reader) {k : ℕ} {s : Stepped} (buffer : List ℕ) → t ≡ refusing r k → (s .head ≡ r .head) × (s .answer ≡ answerFor (refused k))
     → TakeGives t s (r .body) buffer buffer
-refuses r buffer q e =
-    record {
-      next = e .0 ∙ ap (λ (t : Took). t .reader .head) (sym q);
-      keeps = ap (λ (t : Took). t .reader .body) (sym q);
-      says = e .1 ∙ ap (λ (t : Took). answerFor (t .outcome)) (sym q);
-      leaves = ap (λ (t : Took). bufferAfter (t .outcome) buffer) (sym q);
-    }
+refuses r buffer q e = gives-as (sym q) (record { next = e .0; keeps = refl; says = e .1; leaves = refl })
 
 -- Feeding.
 

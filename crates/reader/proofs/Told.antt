@@ -32,8 +32,7 @@ use Rattle.mark_answer.specs.declared.Kept.{Kept}
 use Rattle.mark_answer.specs.Judge.{judge, judgeReading, judgeMeaning, judgeEnd, judgeGap, judgeLine}
 use Rattle.reader.specs.declared.Head.{Head}
 use Rattle.reader.specs.declared.Reader.{Reader}
-use Rattle.reader.specs.Reader.{isMark, slide, leaveKept, leaveBody, shifted, opened, passes, taking, refusing, takeHead, takeOutcome, feedOf}
-use Rattle.reader.specs.Parts.{completeOutcome}
+use Rattle.reader.specs.Reader.{isMark, slide, leaveKept, leaveBody, shifted, opened, passes, taking, refusing, completeOutcome, takeHead, takeOutcome, feedOf}
 
 -- what holds of nothing, of refusals, of gaps and of lines whose body fits holds of every answer of a mark
 module _ (P : Outcome → Type 0) (p : Profile) (body : List ℕ) (of-nothing : P nothing) (of-refused : (n : ℕ) → P (refused n))

@@ -117,15 +117,16 @@ newFor numbered.NoProfile = refusing (freshReader VV5404) badState
 abbrev pub newOf : ℕ → Took
 newOf n = newFor (profileNumbered n)
 
--- the state after a nibble that is taken, and what is answered: a mark is complete, or not. The text has count + 1 - 8 nibbles where it is
+-- what the open mark is answered when a mark with this code is complete, with the body as it then is: its text has count + 1 - 8 nibbles
+abbrev pub completeOutcome : Head → List ℕ → ℕ → Outcome
+completeOutcome h body code = judge (h .profile) (h .at) (h .count - 7) (leaveKept h) body (some code)
+
+-- the state after a nibble that is taken, and what is answered: a mark is complete, or not
 unfoldable pub takeHead : Head → Bool → ℕ → Head
 takeHead h handed n = cond (isMark (slide (h .window) n)) (opened h (slide (h .window) n % 256) handed) (shifted h n)
 
 unfoldable pub takeOutcome : Head → List ℕ → ℕ → Outcome
-takeOutcome h body n =
-    cond (isMark (slide (h .window) n))
-    (judge (h .profile) (h .at) (h .count - 7) (leaveKept h) (leaveBody h body) (some (slide (h .window) n % 256)))
-    nothing
+takeOutcome h body n = cond (isMark (slide (h .window) n)) (completeOutcome h (leaveBody h body) (slide (h .window) n % 256)) nothing
 
 abbrev pub taking : Reader → ℕ → Took
 taking r n =
@@ -134,20 +135,18 @@ taking r n =
       outcome = takeOutcome (r .head) (r .body) n;
     }
 
--- one nibble, with a buffer of so many bytes, and no look at the reader's own test: 11 where the body is not as long as the longest, 10, 12, or
--- the nibble is taken
-unfoldable pub takeOf : Reader → ℕ → ℕ → Took
-takeOf r n room =
-    cond (eqb (length (r .body)) longest)
-    (cond (leb n 15) (cond (leb (bodyLength (r .head .profile)) room) (taking r n) (refusing r noRoom)) (refusing r notANibble))
-    (refusing r badState)
+-- one input, with a buffer of so many bytes: 10, 12, or the nibble is taken
+abbrev pub offering : Reader → ℕ → ℕ → Took
+offering r n room =
+    cond (leb n 15) (cond (leb (bodyLength (r .head .profile)) room) (taking r n) (refusing r noRoom)) (refusing r notANibble)
 
--- feeding one nibble, with a buffer of so many bytes: 11, 10, 12, or the nibble is taken
+-- the same with the body lent, and no look at the reader's own test: 11 where the body is not as long as the longest, or as above
+unfoldable pub takeOf : Reader → ℕ → ℕ → Took
+takeOf r n room = cond (eqb (length (r .body)) longest) (offering r n room) (refusing r badState)
+
+-- feeding: 11, or as above
 unfoldable pub feedOf : Reader → ℕ → ℕ → Took
-feedOf r n room =
-    cond (passes (r .head))
-    (cond (leb n 15) (cond (leb (bodyLength (r .head .profile)) room) (taking r n) (refusing r noRoom)) (refusing r notANibble))
-    (refusing r badState)
+feedOf r n room = cond (passes (r .head)) (offering r n room) (refusing r badState)
 
 -- the window's nibbles leave it, the oldest first: k zeros push them out
 abbrev pub flushed : ℕ → Head → Head

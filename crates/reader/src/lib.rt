@@ -10,10 +10,10 @@ ghost use lib.ListN.{length};
 ghost use Rattle.profile.specs.Profile.{bodyLength, longest};
 ghost use Rattle.stream.specs.declared.Before.{Before};
 ghost use Rattle.stream.specs.declared.Mark.the-variants.{NoMark, Open};
-ghost use Rattle.stream.specs.Answers.{outcomeOf, answerFor, bufferAfter, refused, isLine};
-ghost use Rattle.reader.specs.Reader.{readerOf, isMark, slide, bump, leaveKept, leaveBody, shifted, opened, aged, windowFits, handedFits, passes, freshReader, newOf, takeHead, takeOutcome, takeOf, feedOf, flushed, finishOf};
+ghost use Rattle.stream.specs.Answers.{outcomeOf, answerFor, bufferAfter, refused};
+ghost use Rattle.reader.specs.Reader.{readerOf, isMark, slide, bump, leaveKept, leaveBody, shifted, opened, aged, windowFits, handedFits, passes, freshReader, newOf, taking, takeOf, feedOf, flushed, finishOf};
 ghost use Rattle.reader.specs.Gives.{CallGives, FeedGives, TakeGives};
-ghost use Rattle.reader.specs.Parts.{completeOutcome, copied};
+ghost use Rattle.reader.specs.Parts.{completing, copied};
 use mark_answer::Kept;
 use profile::Numbered;
 use profile::Profile;
@@ -206,7 +206,7 @@ fn refuse(h: Head, number: u8) -> Stepped
 // Takes a nibble: the oldest of a full window leaves it, and a mark is complete or not.
 fn taken(h: Head, body: &mut [u8], nibble: u8, buffer: &mut [u8]) -> Stepped
     requires { ⌜ (nibble < 16) × (bodyLength (h .profile) ≤ length (now buffer)) × (length (now body) ≡ longest) ⌝ }
-    ensures { λ r. ⌜ (r .head ≡ takeHead h (isLine (takeOutcome h (now (body .entry)) nibble)) nibble) × (r .answer ≡ answerFor (takeOutcome h (now (body .entry)) nibble)) × (now (body .exit) ≡ leaveBody h (now (body .entry))) × (now (buffer .exit) ≡ bufferAfter (takeOutcome h (now (body .entry)) nibble) (now (buffer .entry))) ⌝ }
+    ensures { λ r. ⌜ TakeGives (taking (readerOf h (now (body .entry))) nibble) r (now (body .exit)) (now (buffer .entry)) (now (buffer .exit)) ⌝ }
 {
     leave_body(h, body);
     let newest = slide(h.window, nibble);
@@ -221,7 +221,7 @@ fn taken(h: Head, body: &mut [u8], nibble: u8, buffer: &mut [u8]) -> Stepped
 // A mark with this code is complete: the mark before it is answered, and a line handed out.
 fn complete(h: Head, body: &[u8], code: u8, buffer: &mut [u8]) -> Stepped
     requires { ⌜ (bodyLength (h .profile) ≤ length (now buffer)) × (length (now body) ≡ longest) ⌝ }
-    ensures { λ r. ⌜ (r .head ≡ opened h code (isLine (completeOutcome h (now (body .entry)) code))) × (r .answer ≡ answerFor (completeOutcome h (now (body .entry)) code)) × (now (buffer .exit) ≡ bufferAfter (completeOutcome h (now (body .entry)) code) (now (buffer .entry))) ⌝ }
+    ensures { λ r. ⌜ TakeGives (completing (readerOf h (now (body .entry))) code) r (now (body .entry)) (now (buffer .entry)) (now (buffer .exit)) ⌝ }
 {
     let p = h.profile;
     let at = h.at;

@@ -23,30 +23,71 @@ use Rattle.mark_answer.specs.Kept.{topPlace, bodyPlace, gapStart, byteAt, stray
 use Rattle.reader.specs.declared.Head.{Head}
 use Rattle.reader.specs.declared.Reader.{Reader}
 use Rattle.reader.specs.Reader.{Took, groupNumber, isMark, slide, countStop, bump, leaveKept, leaveBody, shifted, takeHead, takeOutcome, taking, readerOf}
+use Rattle.run.specs.declared.Reached.{Reached}
 use Rattle.run.specs.Run.{isAnswer, onward}
 use Rattle.run.specs.RunLaws.{onward-on}
-use Rattle.run.specs.Parts.{isNear, isPair, bytePlace, slideByte, strayAfter, strayKept, byteKept, strayed, Leads}
+use Rattle.run.specs.Parts.{isNear, isPair, bytePlace, slideByte, strayAfter, strayKept, byteKept, strayed, Leads, Reaches}
 use Rattle.reader.proofs.Window.{gap-start-small}
 
--- What a pair is.
+abbrev pub high : List ℕ → ℕ → ℕ
+high s i = getD s i 0
 
-pub record Pair (w : ℕ) (s : List ℕ) (i end : ℕ) : Type 0 where
+abbrev pub low : List ℕ → ℕ → ℕ
+low s i = getD s (i + 1) 0
+
+-- A loop over pairs.
+
+-- where it stands: a window of eight nibbles, and a place from the first one on, up to an end within the run
+pub record Stands (s : List ℕ) (from end w i : ℕ) : Type 0 where
+  pub small : w < 4294967296
+  pub from-on : from ≤ i
+  pub up-to : i ≤ end
+  pub within : end ≤ length s
+
+-- a turn of it: two nibbles stand there, and no mark can end in them
+pub record Turn (s : List ℕ) (from end w i : ℕ) : Type 0 where
+  pub stands : Stands s from end w i
   pub fits : i + 2 ≤ end
   pub far : isNear w ≡ false
-  pub high-small : getD s i 0 < 16
-  pub low-small : getD s (i + 1) 0 < 16
+  pub high-small : high s i < 16
+  pub low-small : low s i < 16
 
 -- from what the test answers
-pub is-pair : {w : ℕ} {s : List ℕ} {i end : ℕ} {t : Bool} → i ≤ end → t ≡ isPair w s i end → t ≡ true → Pair w s i end
+pub turn : {s : List ℕ} {from end w i : ℕ} {t : Bool} → Stands s from end w i → t ≡ isPair w s i end → t ≡ true → Turn s from end w i
 unfolding isPair
-is-pair {w} {s} {i} {end} l e t =
+turn {s} {end = end} {w} {i} st e t =
     let h = sym e ∙ t in
     let f = and-right (leb 2 (end - i)) _ h in
     let g = and-right (not (isNear w)) _ f in
     let room = leb-true 2 (end - i) (and-left (leb 2 (end - i)) _ h) in
-    let high = leb-true (getD s i 0) 15 (and-left (leb (getD s i 0) 15) _ g) in
-    let low = leb-true (getD s (i + 1) 0) 15 (and-right (leb (getD s i 0) 15) _ g) in
-    record { fits = omega arith; far = not-true (isNear w) (and-left (not (isNear w)) _ f); high-small = omega arith; low-small = omega arith }
+    let first = leb-true (high s i) 15 (and-left (leb (high s i) 15) _ g) in
+    let second = leb-true (low s i) 15 (and-right (leb (high s i) 15) _ g) in
+    record {
+      stands = st;
+      fits = omega (arith, room, st .up-to);
+      far = not-true (isNear w) (and-left (not (isNear w)) _ f);
+      high-small = omega arith;
+      low-small = omega arith;
+    }
+
+module _ {s : List ℕ} {from end w i : ℕ} (t : Turn s from end w i) where
+  -- its two nibbles can be read
+  pub reads : (i + 2 ≤ length s) × (high s i < 16) × (low s i < 16)
+  reads = (omega (arith, t .fits, t .stands .within), t .high-small, t .low-small)
+
+  -- fewer places are left after it
+  pub fewer : end - (i + 2) < end - i
+  fewer = omega (arith, t .fits)
+
+  -- and the loop stands at the next
+  pub stands-next : {w′ : ℕ} → w′ ≡ slideByte w (high s i) (low s i) → Stands s from end w′ (i + 2)
+  stands-next e =
+      record {
+        small = omega (arith, e, t .high-small, t .low-small);
+        from-on = omega (arith, t .stands .from-on);
+        up-to = t .fits;
+        within = t .stands .within;
+      }
 
 -- No mark ends in it.
 
@@ -90,23 +131,17 @@ one-on r s i l h e =
     let q = quiet r (getD s i 0) e in
     onward-on r s i l h (ap (λ t. isAnswer (t .outcome)) q) ∙ ap (λ t. onward (t .reader) (drop (i + 1) s) (i + 1)) q
 
-abbrev pub high : List ℕ → ℕ → ℕ
-high s i = getD s i 0
-
-abbrev pub low : List ℕ → ℕ → ℕ
-low s i = getD s (i + 1) 0
-
-module _ (r : Reader) (s : List ℕ) (i end : ℕ) (l : end ≤ length s) (q : Pair (r .head .window) s i end) where
+module _ (r : Reader) {s : List ℕ} {from end i : ℕ} (t : Turn s from end (r .head .window) i) where
   abbrev h₁ : Head
   h₁ = shifted (r .head) (high s i)
 
   pub two-on : onward r (drop i s) i
       ≡ onward (readerOf (shifted h₁ (low s i)) (leaveBody h₁ (leaveBody (r .head) (r .body)))) (drop (i + 2) s) (i + 2)
   two-on =
-      let f = q .fits in
+      let f = reads t .0 in
       let w = r .head .window in
-      one-on r s i (omega arith) (q .high-small) (far-one w (high s i) (q .high-small) (q .far))
-      ∙ one-on (readerOf h₁ (leaveBody (r .head) (r .body))) s (i + 1) (omega arith) (q .low-small) (far-two w (high s i) (low s i) (q .high-small) (q .low-small) (q .far))
+      one-on r s i (omega arith) (t .high-small) (far-one w (high s i) (t .high-small) (t .far))
+      ∙ one-on (readerOf h₁ (leaveBody (r .head) (r .body))) s (i + 1) (omega arith) (t .low-small) (far-two w (high s i) (low s i) (t .high-small) (t .low-small) (t .far))
       ∙ ap (λ (k : ℕ). onward (readerOf (shifted h₁ (low s i)) (leaveBody h₁ (leaveBody (r .head) (r .body)))) (drop k s) k) (plus-two i)
 
 -- What leaves the window.
@@ -279,7 +314,7 @@ body-two j u v B l k =
 abbrev state : Profile → Mark → Kept → List ℕ → ℕ → ℕ → Reader
 state p m t B c w = readerOf (head p m c w t) B
 
-module _ (p : Profile) (m : Mark) (c w : ℕ) (t : Kept) (B s : List ℕ) (i end : ℕ) (small : w < 4294967296) (l : end ≤ length s) (q : Pair w s i end) where
+module _ (p : Profile) (m : Mark) (c : ℕ) {w : ℕ} (t : Kept) (B : List ℕ) {s : List ℕ} {from end i : ℕ} (q : Turn s from end w i) where
   abbrev h₀ : Head
   h₀ = head p m c w t
 
@@ -288,7 +323,7 @@ module _ (p : Profile) (m : Mark) (c w : ℕ) (t : Kept) (B s : List ℕ) (i end
       → Leads s h₀ B i (head p m c′ (slideByte w (high s i) (low s i)) t′) B′ (i + 2)
   unfolding Leads
   leads-to c′ t′ B′ e f g =
-      two-on (state p m t B c w) s i end l q
+      two-on (state p m t B c w) q
       ∙ ap₂ (λ n k. onward (readerOf (head p m n (slide (slide w (high s i)) (low s i)) k) (leaveBody (shifted h₀ (high s i)) (leaveBody h₀ B))) (drop (i + 2) s) (i + 2)) e f
       ∙ ap₂ (λ n b. onward (readerOf (head p m c′ n t′) b) (drop (i + 2) s) (i + 2)) (slide-two w (high s i) (low s i) (q .high-small) (q .low-small)) g
 
@@ -297,7 +332,7 @@ module _ (p : Profile) (m : Mark) (c w : ℕ) (t : Kept) (B s : List ℕ) (i end
       let b = bump-one c (omega arith) in
       let d = bump-one (c + 1) (omega arith) in
       leads-to (c + 2) (byteKept p c (w / bytePlace) t) B
-      (ap bump b ∙ d ∙ plus-two c) (kept-before p m w t (high s i) small (q .high-small) c a even)
+      (ap bump b ∙ d ∙ plus-two c) (kept-before p m w t (high s i) (q .stands .small) (q .high-small) c a even)
       (early-body (shifted h₀ (high s i)) (leaveBody h₀ B) (omega (arith, b)) ∙ early-body h₀ B a)
 
   stored-two : (j : ℕ) → c ≡ 14 + 2 * j → j < longest → longest ≤ length B → bump c ≡ c + 1
@@ -315,14 +350,14 @@ module _ (p : Profile) (m : Mark) (c w : ℕ) (t : Kept) (B s : List ℕ) (i end
       let b = bump-one c (omega arith) in
       let d = bump-one (c + 1) (omega arith) in
       leads-to (14 + 2 * (j + 1)) (strayed t (strayAfter (t .stray) (w / bytePlace))) (set B j (w / bytePlace))
-      (ap bump b ∙ d ∙ (let z : c + 1 + 1 ≡ 14 + 2 * (j + 1) = omega arith in z)) (kept-after p m w t (high s i) small (q .high-small) c (omega arith)) (stored-two j e a k b)
+      (ap bump b ∙ d ∙ (let z : c + 1 + 1 ≡ 14 + 2 * (j + 1) = omega arith in z)) (kept-after p m w t (high s i) (q .stands .small) (q .high-small) c (omega arith)) (stored-two j e a k b)
 
   pub leads-past : 726 ≤ c
       → Leads s h₀ B i (head p m (bump (bump c)) (slideByte w (high s i) (low s i)) (strayed t (strayAfter (t .stray) (w / bytePlace)))) B (i + 2)
   leads-past a =
       let b = bump-more c in
       leads-to (bump (bump c)) (strayed t (strayAfter (t .stray) (w / bytePlace))) B
-      refl (kept-after p m w t (high s i) small (q .high-small) c (omega arith))
+      refl (kept-after p m w t (high s i) (q .stands .small) (q .high-small) c (omega arith))
       (late-body (shifted h₀ (high s i)) (leaveBody h₀ B) (omega arith) ∙ late-body h₀ B a)
 
 -- from one place to the next, and on
@@ -334,3 +369,21 @@ pub leads-on : (s : List ℕ) (h : Head) (B : List ℕ) (i : ℕ) (h′ : Head) 
     → Leads s h B i h′ B′ i′ → Leads s h′ B′ i′ h″ B″ i″ → Leads s h B i h″ B″ i″
 unfolding Leads
 leads-on s h B i h′ B′ i′ h″ B″ i″ e f = e ∙ f
+
+-- and in all
+pub here : (s : List ℕ) (h : Head) (B : List ℕ) (i : ℕ) → i ≤ length s → Reaches s h B i (record { head = h; at = i }) B
+here s h B i l = record { leads = leads-here s h B i; same-profile = refl; from-on = omega arith; within = l }
+
+pub reaches : {s : List ℕ} {h : Head} {B : List ℕ} {from end w i : ℕ} {h′ : Head} {B′ : List ℕ} → Leads s h B from h′ B′ i → h′ .profile ≡ h .profile → Stands s from end w i
+    → Reaches s h B from (record { head = h′; at = i }) B′
+reaches e p st = record { leads = e; same-profile = p; from-on = st .from-on; within = omega (arith, st .up-to, st .within) }
+
+pub reaches-on : {s : List ℕ} {h : Head} {B : List ℕ} {from : ℕ} {r : Reached} {B′ : List ℕ} {r′ : Reached} {B″ : List ℕ} → Reaches s h B from r B′
+    → Reaches s (r .head) B′ (r .at) r′ B″ → Reaches s h B from r′ B″
+reaches-on {s} e f =
+    record {
+      leads = leads-on s _ _ _ _ _ _ _ _ _ (e .leads) (f .leads);
+      same-profile = f .same-profile ∙ e .same-profile;
+      from-on = omega (arith, e .from-on, f .from-on);
+      within = f .within;
+    }

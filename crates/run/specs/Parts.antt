@@ -2,9 +2,9 @@
 use mathlib.Core.Path.{_≡_}
 use mathlib.Core.Bool.{Bool, true, false, _&&_, not, cond}
 use mathlib.Core.List.{List}
-use Prim.Native.Nat.{ℕ, _+_, _-_, _*_, _/_, _%_}
+use Prim.Native.Nat.{ℕ, _+_, _-_, _*_, _/_, _%_, _≤_}
 use lib.Dec.{eqb, leb, ltb}
-use lib.ListN.{drop, getD}
+use lib.ListN.{length, drop, getD}
 use Rattle.profile.specs.declared.Profile.{Profile}
 use Rattle.profile.specs.declared.Profile.the-variants.{VV5404, VV5300}
 use Rattle.stream.specs.declared.Answer.{Answer}
@@ -13,6 +13,7 @@ use Rattle.stream.specs.Answers.{answerFor, bufferAfter}
 use Rattle.mark_answer.specs.declared.Kept.{Kept}
 use Rattle.reader.specs.declared.Head.{Head}
 use Rattle.reader.specs.Reader.{readerOf}
+use Rattle.run.specs.declared.Reached.{Reached}
 use Rattle.run.specs.Run.{Ran, onward}
 
 -- a run of a reader of these parts, from its first nibble on
@@ -37,6 +38,13 @@ isTold (answers.Refused n) = true
 -- a run from the place i on, and from the place i′ with what is read up to there, is the same
 unfoldable pub Leads : List ℕ → Head → List ℕ → ℕ → Head → List ℕ → ℕ → Type 0
 Leads s h body i h′ body′ i′ = onward (readerOf h body) (drop i s) i ≡ onward (readerOf h′ body′) (drop i′ s) i′
+
+-- what reading ahead from a place gives: the run from there is the same, of the same profile, and the place is no earlier one and within the run
+pub record Reaches (s : List ℕ) (h : Head) (body : List ℕ) (from : ℕ) (r : Reached) (body′ : List ℕ) : Type 0 where
+  pub leads : Leads s h body from (r .head) body′ (r .at)
+  pub same-profile : r .head .profile ≡ h .profile
+  pub from-on : from ≤ r .at
+  pub within : r .at ≤ length s
 
 -- Two nibbles at once.
 

@@ -10,13 +10,14 @@
 ghost use mathlib.Core.Path.{_≡_};
 ghost use mathlib.Core.List.{List};
 ghost use Prim.Native.Nat.{ℕ, _≤_, _<_, _+_, _/_, _%_};
-ghost use lib.ListN.{length};
+ghost use lib.ListN.{length, getD};
 ghost use Rattle.profile.specs.Profile.{bodyLength, longest};
-ghost use Rattle.stream.specs.Answers.{answerFor, bufferAfter, refused, isLine};
-ghost use Rattle.reader.specs.Reader.{leaveBody, takeHead, takeOutcome};
+ghost use Rattle.stream.specs.Answers.{answerFor, refused};
+ghost use Rattle.reader.specs.Reader.{readerOf, taking};
+ghost use Rattle.reader.specs.Gives.{TakeGives};
 ghost use Rattle.run.specs.Run.{runOf, lentRunOf};
 ghost use Rattle.run.specs.Gives.{RunGives, LentRunGives};
-ghost use Rattle.run.specs.Parts.{ranFrom, Ends, isTold, Leads, isNear, isPair, bytePlace, slideByte, strayAfter, strayKept, byteKept};
+ghost use Rattle.run.specs.Parts.{ranFrom, Ends, isTold, Reaches, isNear, isPair, bytePlace, slideByte, strayAfter, strayKept, byteKept};
 use mark_answer::Kept;
 use profile::Profile;
 use reader::Head;
@@ -131,7 +132,7 @@ fn up_to_stop(start: Head, body: &mut [u8], nibbles: &[u8], buffer: &mut [u8]) -
 // Takes one nibble, where nothing is refused.
 fn take(h: Head, body: &mut [u8], nibble: u8, buffer: &mut [u8]) -> Stepped
     requires { ⌜ (nibble < 16) × (bodyLength (h .profile) ≤ length (now buffer)) × (length (now body) ≡ longest) ⌝ }
-    ensures { λ r. ⌜ (r .head ≡ takeHead h (isLine (takeOutcome h (now (body .entry)) nibble)) nibble) × (r .answer ≡ answerFor (takeOutcome h (now (body .entry)) nibble)) × (now (body .exit) ≡ leaveBody h (now (body .entry))) × (now (buffer .exit) ≡ bufferAfter (takeOutcome h (now (body .entry)) nibble) (now (buffer .entry))) ⌝ }
+    ensures { λ r. ⌜ TakeGives (taking (readerOf h (now (body .entry))) nibble) r (now (body .exit)) (now (buffer .entry)) (now (buffer .exit)) ⌝ }
 {
     h.take(body, nibble, buffer)
 }
@@ -150,7 +151,7 @@ fn is_answer(answer: Answer) -> bool
 // Takes nibbles two a turn, as far as no mark can end in them.
 fn ahead(h: Head, body: &mut [u8], s: &[u8], from: usize) -> Reached
     requires { ⌜ (from ≤ length (now s)) × (length (now body) ≡ longest) ⌝ }
-    ensures { λ r. ⌜ (Leads (now (s .entry)) h (now (body .entry)) from (r .head) (now (body .exit)) (r .at)) × (r .head .profile ≡ h .profile) × (from ≤ r .at) × (r .at ≤ length (now (s .entry))) ⌝ }
+    ensures { λ r. ⌜ Reaches (now (s .entry)) h (now (body .entry)) from r (now (body .exit)) ⌝ }
 {
     if h.count % 2 == 1 {
         return Reached { head: h, at: from };
@@ -170,7 +171,7 @@ const PAST: u32 = BODY + 2 * 356;
 // The code of a text, and the two bytes after it.
 fn before_body(h: Head, s: &[u8], from: usize) -> Reached
     requires { ⌜ (from ≤ length (now s)) × (h .count % 2 ≡ 0) ⌝ }
-    ensures { λ r. ⌜ ((body : List ℕ) → Leads (now (s .entry)) h body from (r .head) body (r .at)) × (r .head .profile ≡ h .profile) × (r .head .count % 2 ≡ 0) × (from ≤ r .at) × (r .at ≤ length (now (s .entry))) ⌝ }
+    ensures { λ r. ⌜ ((body : List ℕ) → Reaches (now (s .entry)) h body from r body) × (r .head .count % 2 ≡ 0) ⌝ }
 {
     if BODY <= h.count {
         return Reached { head: h, at: from };
@@ -184,7 +185,7 @@ fn before_body(h: Head, s: &[u8], from: usize) -> Reached
     let mut i = from;
     while is_pair(window, s, i, end) {
         kept = keep_byte(profile, count, top_byte(window), kept);
-        window = slide_byte(window, s[i], s[i + 1]);
+        window = slide_byte(window, s, i);
         count += 2;
         i += 2;
     }
@@ -201,7 +202,7 @@ fn before_body(h: Head, s: &[u8], from: usize) -> Reached
 // The bytes of a text's body.
 fn in_body(h: Head, body: &mut [u8], s: &[u8], from: usize) -> Reached
     requires { ⌜ (from ≤ length (now s)) × (h .count % 2 ≡ 0) × (length (now body) ≡ longest) ⌝ }
-    ensures { λ r. ⌜ (Leads (now (s .entry)) h (now (body .entry)) from (r .head) (now (body .exit)) (r .at)) × (r .head .profile ≡ h .profile) × (from ≤ r .at) × (r .at ≤ length (now (s .entry))) ⌝ }
+    ensures { λ r. ⌜ Reaches (now (s .entry)) h (now (body .entry)) from r (now (body .exit)) ⌝ }
 {
     if h.count < BODY {
         return Reached { head: h, at: from };
@@ -222,7 +223,7 @@ fn in_body(h: Head, body: &mut [u8], s: &[u8], from: usize) -> Reached
         let b = top_byte(window);
         body[j] = b;
         stray = stray_after(stray, b);
-        window = slide_byte(window, s[i], s[i + 1]);
+        window = slide_byte(window, s, i);
         j += 1;
         i += 2;
     }
@@ -231,10 +232,11 @@ fn in_body(h: Head, body: &mut [u8], s: &[u8], from: usize) -> Reached
         second: kept.second,
         stray,
     };
+    let count = BODY + 2 * j as u32;
     let head = Head {
         profile,
         at,
-        count: BODY + 2 * j as u32,
+        count,
         window,
         kept,
     };
@@ -244,7 +246,7 @@ fn in_body(h: Head, body: &mut [u8], s: &[u8], from: usize) -> Reached
 // What stands past a text's body.
 fn past_body(h: Head, s: &[u8], from: usize) -> Reached
     requires { ⌜ from ≤ length (now s) ⌝ }
-    ensures { λ r. ⌜ ((body : List ℕ) → Leads (now (s .entry)) h body from (r .head) body (r .at)) × (r .head .profile ≡ h .profile) × (from ≤ r .at) × (r .at ≤ length (now (s .entry))) ⌝ }
+    ensures { λ r. ⌜ ((body : List ℕ) → Reaches (now (s .entry)) h body from r body) ⌝ }
 {
     if h.count < PAST {
         return Reached { head: h, at: from };
@@ -259,7 +261,7 @@ fn past_body(h: Head, s: &[u8], from: usize) -> Reached
     let mut i = from;
     while is_pair(window, s, i, end) {
         stray = stray_after(stray, top_byte(window));
-        window = slide_byte(window, s[i], s[i + 1]);
+        window = slide_byte(window, s, i);
         count = reader::next_count(reader::next_count(count));
         i += 2;
     }
@@ -319,12 +321,12 @@ fn sooner(end: usize, from: usize, most: usize) -> usize
     from + most
 }
 
-// A window with two nibbles more, and its oldest two gone.
-fn slide_byte(window: u32, high: u8, low: u8) -> u32
-    requires { ⌜ (high < 16) × (low < 16) ⌝ }
-    ensures { λ r. ⌜ r ≡ slideByte window high low ⌝ }
+// A window with the two nibbles at a place, and its oldest two gone.
+fn slide_byte(window: u32, s: &[u8], i: usize) -> u32
+    requires { ⌜ (i + 2 ≤ length (now s)) × (getD (now s) i 0 < 16) × (getD (now s) (i + 1) 0 < 16) ⌝ }
+    ensures { λ r. ⌜ r ≡ slideByte window (getD (now (s .entry)) i 0) (getD (now (s .entry)) (i + 1) 0) ⌝ }
 {
-    window % 0x100_0000 * 256 + 16 * high as u32 + low as u32
+    window % 0x100_0000 * 256 + 16 * s[i] as u32 + s[i + 1] as u32
 }
 
 // The oldest two nibbles of a window.

@@ -1,4 +1,5 @@
 -- The mark's answer is judged with what has left the window; the buffer follows that answer, and so does what the next mark keeps of it.
+use mathlib.Core.Path.{refl}
 use Rattle.reader.proofs.Told.{line-said, told-by-body}
 use borrow.Author.Needs.{needs}
 use Rattle.reader.proofs.complete.Statement.{statement}
@@ -9,7 +10,12 @@ returns c =
     let a = c .before .before .before .before .before .before .at-mark .ensures in
     let l = c .before .before .before .before .before .before .before .text-length .ensures in
     let k = c .before .before .before .before .before .before .before .before .leave-kept .ensures in
-    (simp (c .open-at .ensures, c .before .is-line .ensures, a, l, k, line-said), simp (a, l, k), simp (c .before .before .before .before .hand-out .ensures, a, l, k, told-by-body))
+    record {
+      next = simp (c .open-at .ensures, c .before .is-line .ensures, a, l, k, line-said);
+      keeps = refl;
+      says = simp (a, l, k);
+      leaves = simp (c .before .before .before .before .hand-out .ensures, a, l, k, told-by-body);
+    }
 
 pub complete-spec : {M : Type 1} → statement M
 complete-spec =

@@ -12,7 +12,12 @@ returns c =
     let t = c .before .before .before .before .before .if1 .taken in
     let e = c .before .before .complete .ensures in
     let b = c .before .before .before .before .before .before .before .before .before .before .leave-body .ensures in
-    (simp (← s, ← m, t, e .0, b), simp (← s, ← m, t, e .1, b), b, simp (← s, ← m, t, e .2, b))
+    record {
+      next = simp (← s, ← m, t, e .next, b);
+      keeps = b;
+      says = simp (← s, ← m, t, e .says, b);
+      leaves = simp (← s, ← m, t, e .leaves, b);
+    }
 
 returns-2 : tie.Need-returns-2
 unfolding takeHead takeOutcome
@@ -20,7 +25,12 @@ returns-2 c =
     let s = c .before .before .before .slide .ensures in
     let m = c .before .before .is-mark .ensures in
     let t = c .before .if1 .left in
-    (simp (← s, ← m, t, c .shift .ensures), simp (← s, ← m, t), c .before .before .before .before .before .before .leave-body .ensures, simp (← s, ← m, t))
+    record {
+      next = simp (← s, ← m, t, c .shift .ensures);
+      keeps = c .before .before .before .before .before .before .leave-body .ensures;
+      says = simp (← s, ← m, t);
+      leaves = simp (← s, ← m, t);
+    }
 
 pub taken-spec : {M : Type 1} → statement M
 taken-spec =

@@ -1,87 +1,64 @@
 -- At each turn the run from here on is the run from the start; a pair is two nibbles taken one by one (Pairs.antt), and the places left fall.
 use mathlib.Core.Path.{_≡_, refl}
 use mathlib.Core.List.{List}
-use Prim.Native.Nat.{ℕ, _+_, _-_, _%_, _≤_, _<_}
+use Prim.Native.Nat.{ℕ, _+_, _-_, _%_, _≤_}
 use native.Mathlib.Omega.{arith}
-use lib.ListN.{length}
 use denote.Ref.{now}
 use borrow.Author.Needs.{needs}
 use Rattle.run.specs.Parts.{Leads}
-use Rattle.run.proofs.Pairs.{head, is-pair, leads-before, leads-here, leads-on}
+use Rattle.run.proofs.Pairs.{head, Stands, Turn, turn, reads, fewer, stands-next, leads-before, leads-here, leads-on, here, reaches}
 use Rattle.run.proofs.before_body.Statement.{statement}
 use Rattle.run.proofs.before_body.Tie as tie
 
 abbrev Inv-loop : tie.InvT-loop
 Inv-loop s from profile at end count₀ window₀ kept₀ i₀ count window kept i =
     ((B : List ℕ) → Leads s (head profile at count₀ window₀ kept₀) B from (head profile at count window kept) B i)
-    × (window < 4294967296) × (count % 2 ≡ 0) × (count + (end - i) ≤ 14) × (from ≤ i) × (i ≤ end) × (end ≤ length s)
+    × (Stands s from end window i) × (count % 2 ≡ 0) × (count + (end - i) ≤ 14)
 
 abbrev μ-loop : tie.MeasureT-loop
 μ-loop s from profile at end count₀ window₀ kept₀ i₀ count window kept i = end - i
 
 returns : tie.Need-returns Inv-loop μ-loop
-returns c = let a = c .before .before .before .args in (λ B. leads-here (now (a .s)) (a .h) B (a .from), refl, search needs, search needs, search needs)
+returns c = let a = c .before .before .before .args in (λ B. here (now (a .s)) (a .h) B (a .from) (search needs), search needs)
 
 loop-holds : tie.Need-loop-holds Inv-loop μ-loop
 loop-holds c =
-    let a = c .before .before .before .before .before .before .args in
-    (λ B. leads-here (now (a .s)) (a .h) B (a .from), search needs, search needs, omega arith, search needs, search needs, search needs)
+    let a = c .before .before .before .before .before .before .args in (
+      λ B. leads-here (now (a .s)) (a .h) B (a .from),
+      record { small = search needs; from-on = search needs; up-to = search needs; within = search needs },
+      search needs,
+      omega arith,
+    )
 
-shared-slice-read-slide-byte : tie.Need-shared-slice-read-slide-byte Inv-loop μ-loop
-shared-slice-read-slide-byte c =
-    let l = c .before .before .before .before .before .loop in
-    let q = is-pair (l .inv .5) (c .before .before .before .before .is-pair .ensures) (c .before .before .before .if2 .taken) in
-    omega (arith, q .fits, l .inv .6)
-
-add-slide-byte : tie.Need-add-slide-byte Inv-loop μ-loop
-add-slide-byte c =
-    let l = c .before .before .before .before .before .loop in
-    let q = is-pair (l .inv .5) (c .before .before .before .before .is-pair .ensures) (c .before .before .before .if2 .taken) in
-    omega (arith, q .fits, l .inv .6)
-
-shared-slice-read-slide-byte-2 : tie.Need-shared-slice-read-slide-byte-2 Inv-loop μ-loop
-shared-slice-read-slide-byte-2 c =
-    let l = c .before .before .before .before .before .before .loop in
-    let q = is-pair (l .inv .5) (c .before .before .before .before .before .is-pair .ensures) (c .before .before .before .before .if2 .taken) in
-    omega (arith, q .fits, l .inv .6)
+there : (c : tie.Then2 Inv-loop μ-loop)
+    → let a = c .before .before .before .before .before .before .before .before .before .args in
+    let l = c .before .before .loop in
+    Turn (now (a .s)) (a .from) (c .before .before .before .before .sooner .result) (l .window) (l .i)
+there c = turn (c .before .before .loop .inv .1) (c .before .is-pair .ensures) (c .if2 .taken)
 
 slide-byte-requires : tie.Need-slide-byte-requires Inv-loop μ-loop
-slide-byte-requires c κs =
-    let l = c .before .before .before .before .before .before .loop in
-    let q = is-pair (l .inv .5) (c .before .before .before .before .before .is-pair .ensures) (c .before .before .before .before .if2 .taken) in
-    (q .high-small, q .low-small)
+slide-byte-requires c κs = reads (there (c .before .before))
 
 add-i : tie.Need-add-i Inv-loop μ-loop
-add-i c =
-    let l = c .before .before .before .before .before .before .before .loop in
-    let q = is-pair (l .inv .5) (c .before .before .before .before .before .before .is-pair .ensures) (c .before .before .before .before .before .if2 .taken) in
-    omega (arith, q .fits, l .inv .6)
+add-i c = omega (arith, reads (there (c .before .before .before)) .0)
 
 loop-less : tie.Need-loop-less Inv-loop μ-loop
-loop-less c =
-    let l = c .before .before .before .before .before .before .before .loop in
-    let q = is-pair (l .inv .5) (c .before .before .before .before .before .before .is-pair .ensures) (c .before .before .before .before .before .if2 .taken) in
-    omega (arith, q .fits)
+loop-less c = fewer (there (c .before .before .before))
 
 loop-again : tie.Need-loop-again Inv-loop μ-loop
 loop-again c =
-    let a = c .before .before .before .before .before .before .before .before .before .before .before .before .before .before .args in
-    let l = c .before .before .before .before .before .before .before .loop in
-    let q = is-pair (l .inv .5) (c .before .before .before .before .before .before .is-pair .ensures) (c .before .before .before .before .before .if2 .taken) in
-    let f = q .fits in (
-      λ B. simp (c .slide-byte .ensures, c .before .before .before .keep-byte .ensures, c .before .before .before .before .top-byte .ensures)
-          (leads-on (now (a .s)) _ B _ _ B _ _ B _ (l .inv .0 B)
-          (leads-before (a .h .profile) (a .h .at) (l .count) (l .window) (l .kept) B (now (a .s)) (l .i) _ (l .inv .1) (l .inv .6) q (omega arith) (l .inv .2))),
-      omega (arith, c .slide-byte .ensures, q .high-small, q .low-small),
-      omega arith,
-      omega arith,
-      omega arith,
+    let l = c .before .before .before .before .before .loop in
+    let t = there (c .before .before .before) in
+    let f = t .fits in (
+      λ B. simp (c .slide-byte .ensures, c .before .keep-byte .ensures, c .before .before .top-byte .ensures)
+          (leads-on _ _ B _ _ B _ _ B _ (l .inv .0 B) (leads-before _ _ (l .count) (l .kept) B t (omega arith) (l .inv .2))),
+      stands-next t (c .slide-byte .ensures),
       omega arith,
       omega arith,
     )
 
 returns-2 : tie.Need-returns-2 Inv-loop μ-loop
-returns-2 c = let l = c .before .before .loop in (l .inv .0, refl, l .inv .2, l .inv .4, omega arith)
+returns-2 c = let l = c .before .before .loop in (λ B. reaches (l .inv .0 B) refl (l .inv .1), l .inv .2)
 
 pub before-body-spec : {M : Type 1} → statement M
 before-body-spec =
@@ -97,9 +74,6 @@ before-body-spec =
     (λ c κs. search needs)
     (λ c κs. search needs)
     (λ c κs. search needs)
-    shared-slice-read-slide-byte
-    add-slide-byte
-    shared-slice-read-slide-byte-2
     slide-byte-requires
     (λ c. search needs)
     add-i

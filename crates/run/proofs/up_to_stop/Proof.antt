@@ -36,14 +36,14 @@ returns c =
     let l = c .before .before .before .before .loop in
     let e = c .refuse .ensures in
     let s = now (a .nibbles) in
-    let led = leads-on s _ _ _ _ _ _ _ _ _ (ahead .ensures .0) (l .inv .0) in
+    let led = leads-on s _ _ _ _ _ _ _ _ _ (ahead .ensures .leads) (l .inv .0) in
     ends-as (ends (now (a .buffer)) (stops-above s _ _ _ _ _ led (c .before .before .before .loop-test .taken) (c .before .if1 .taken)) (e .1) (l .inv .2)) (e .0) refl (e .2)
 
 take-requires : tie.Need-take-requires Inv-loop μ-loop
 take-requires c κs =
     let ahead = c .before .before .before .before .before .before .before .before .before .ahead in
     let l = c .before .before .before .before .before .loop in
-    let p = ap bodyLength (l .inv .4 ∙ ahead .ensures .1) in
+    let p = ap bodyLength (l .inv .4 ∙ ahead .ensures .same-profile) in
     (omega arith, omega (arith, p, ap length (l .inv .2)), l .inv .3)
 
 add-i : tie.Need-add-i Inv-loop μ-loop
@@ -66,14 +66,14 @@ returns-2 c =
     let l = c .before .before .before .before .before .before .before .before .before .before .before .before .before .loop in
     let e = c .before .before .before .before .before .before .before .take .ensures in
     let s = now (a .nibbles) in
-    let led = leads-on s _ _ _ _ _ _ _ _ _ (ahead .ensures .0) (l .inv .0) in
-    let told = sym (answered (takeOutcome (l .h) (l .body) (getD s (l .i) 0)) (c .before .is-answer .ensures) (e .1)) ∙ c .if2 .taken in
-    ends-as (ends (now (a .buffer)) (stops-answered s _ _ _ _ _ led (loop-test .taken) (omega arith) told) (e .1) (e .3 ∙ ap (bufferAfter (takeOutcome (l .h) (l .body) (getD s (l .i) 0))) (l .inv .2))) (e .0) (e .2) refl
+    let led = leads-on s _ _ _ _ _ _ _ _ _ (ahead .ensures .leads) (l .inv .0) in
+    let told = sym (answered (takeOutcome (l .h) (l .body) (getD s (l .i) 0)) (c .before .is-answer .ensures) (e .says)) ∙ c .if2 .taken in
+    ends-as (ends (now (a .buffer)) (stops-answered s _ _ _ _ _ led (loop-test .taken) (omega arith) told) (e .says) (e .leaves ∙ ap (bufferAfter (takeOutcome (l .h) (l .body) (getD s (l .i) 0))) (l .inv .2))) (e .next) (e .keeps) refl
 
 loop-less : tie.Need-loop-less Inv-loop μ-loop
 loop-less c =
     let loop-test = c .before .before .before .before .before .before .before .before .before .before .before .before .before .before .before .before .before .loop-test in
-    omega (arith, loop-test .taken, c .before .before .before .ahead2 .ensures .2, c .before .before .before .ahead2 .ensures .3)
+    omega (arith, loop-test .taken, c .before .before .before .ahead2 .ensures .from-on, c .before .before .before .ahead2 .ensures .within)
 
 loop-again : tie.Need-loop-again Inv-loop μ-loop
 loop-again c =
@@ -83,13 +83,13 @@ loop-again c =
     let e = c .before .before .before .before .before .before .before .before .before .before .before .before .take .ensures in
     let f = c .before .before .before .ahead2 .ensures in
     let s = now (a .nibbles) in
-    let quiet = sym (answered (takeOutcome (l .h) (l .body) (getD s (l .i) 0)) (c .before .before .before .before .before .before .is-answer .ensures) (e .1)) ∙ c .before .before .before .before .before .if2 .left in (
+    let quiet = sym (answered (takeOutcome (l .h) (l .body) (getD s (l .i) 0)) (c .before .before .before .before .before .before .is-answer .ensures) (e .says)) ∙ c .before .before .before .before .before .if2 .left in (
       leads-on s _ _ _ _ _ _ _ _ _ (l .inv .0)
-          (leads-on s _ _ _ _ _ _ _ _ _ (leads-one s (l .h) (l .body) (l .i) (loop-test .taken) (omega arith) (e .0) (e .2) quiet) (f .0)),
-      f .3,
-      e .3 ∙ nothing-kept (takeOutcome (l .h) (l .body) (getD s (l .i) 0)) (l .buffer) quiet ∙ l .inv .2,
+          (leads-on s _ _ _ _ _ _ _ _ _ (leads-one s (l .h) (l .body) (l .i) (loop-test .taken) (omega arith) (e .next) (e .keeps) quiet) (f .leads)),
+      f .within,
+      e .leaves ∙ nothing-kept (takeOutcome (l .h) (l .body) (getD s (l .i) 0)) (l .buffer) quiet ∙ l .inv .2,
       search needs,
-      f .1 ∙ ap (λ (h : Head). h .profile) (e .0) ∙ take-profile (l .h) _ _ ∙ l .inv .4,
+      f .same-profile ∙ ap (λ (h : Head). h .profile) (e .next) ∙ take-profile (l .h) _ _ ∙ l .inv .4,
     )
 
 same-length-6 : tie.Need-same-length-6 Inv-loop μ-loop
@@ -100,7 +100,7 @@ returns-3 c =
     let a = c .before .before .before .before .before .before .before .before .before .before .args in
     let l = c .before .loop in
     let s = now (a .nibbles) in
-    let led = leads-on s _ _ _ _ _ _ _ _ _ (c .before .before .before .before .before .ahead .ensures .0) (l .inv .0) in
+    let led = leads-on s _ _ _ _ _ _ _ _ _ (c .before .before .before .before .before .ahead .ensures .leads) (l .inv .0) in
     ends (now (a .buffer)) (stops-end s _ _ _ _ _ led (c .loop-test .left)) refl (l .inv .2)
 
 pub up-to-stop-spec : {M : Type 1} → statement M

@@ -1,14 +1,13 @@
 -- Three tests, in the order of the definition; past them the nibble is taken.
-use mathlib.Core.Path.{sym, ap, _∙_}
+use mathlib.Core.Path.{sym}
 use Prim.Native.Nat.{_≤_, _<_}
 use native.Mathlib.Omega.{arith}
 use lib.ListN.{length}
 use denote.Ref.{now}
 use borrow.Author.Needs.{needs}
 use Rattle.profile.specs.Profile.{bodyLength}
-use Rattle.stream.specs.Answers.{answerFor, bufferAfter}
-use Rattle.reader.specs.Reader.{Took, readerOf}
-use Rattle.reader.proofs.Taking.{take-wrong, take-above, take-short, take-goes, refuses}
+use Rattle.reader.specs.Reader.{readerOf}
+use Rattle.reader.proofs.Taking.{take-wrong, take-above, take-short, take-goes, gives-as, refuses}
 use Rattle.reader.proofs.Head.take.Statement.{statement}
 use Rattle.reader.proofs.Head.take.Tie as tie
 
@@ -40,13 +39,7 @@ returns-4 c =
     let r = readerOf (a .self) (now (a .body)) in
     let room : bodyLength (a .self .profile) ≤ length (now (a .buffer)) = omega (arith, p .if3 .left, p .before .body-length .ensures) in
     let q = take-goes r (a .nibble) (length (now (a .buffer))) (p .before .before .before .if1 .left) (p .before .before .if2 .left) room in
-    let e = t .taken .ensures in
-    record {
-      next = e .0 ∙ ap (λ (t : Took). t .reader .head) (sym q);
-      keeps = e .2 ∙ ap (λ (t : Took). t .reader .body) (sym q);
-      says = e .1 ∙ ap (λ (t : Took). answerFor (t .outcome)) (sym q);
-      leaves = e .3 ∙ ap (λ (t : Took). bufferAfter (t .outcome) (now (a .buffer))) (sym q);
-    }
+    gives-as (sym q) (t .taken .ensures)
 
 pub take-spec : {M : Type 1} → statement M
 take-spec =
