@@ -10,16 +10,9 @@ use borrow.Author.Tests.{leb-true, leb-false}
 use lib.ListN.{length, take, drop, getD, set, length-append, length-take, length-drop, take-append-drop, drop-of-length-le}
 use lib.Seq.{drop-nil, drop-cons, take-suc, take-at, set-at, length-take-le, take-add, drop-append-le, drop-append-add}
 use Rattle.stream.specs.Written.{nibbles}
+use Rattle.stream.specs.NibblesLaws.{nibbles-length, nibbles-append}
 use Rattle.reader_laws.specs.Passing.{Small, small-none, small-more}
 use Rattle.capture_bytes.specs.Unpacked.{unpacked, portion}
-
-pub nibbles-append : (v w : List ℕ) → nibbles (v ++ w) ≡ nibbles v ++ nibbles w
-nibbles-append [] w = refl
-nibbles-append (b ∷ v) w = ap (λ x. b / 16 ∷ (b % 16 ∷ x)) (nibbles-append v w)
-
-pub nibbles-length : (v : List ℕ) → length (nibbles v) ≡ 2 * length v
-nibbles-length [] = refl
-nibbles-length (b ∷ v) = let e = nibbles-length v in omega arith
 
 -- a byte's nibbles are nibbles
 pub nibbles-small : (bs : List ℕ) → ((i : ℕ) → getD bs i 0 < 256) → Small (nibbles bs)

@@ -14,6 +14,7 @@ use Rattle.profile.specs.Profile.{longest}
 use Rattle.stream.specs.declared.Answer.{Answer}
 use Rattle.stream.specs.declared.Answer.the-variants as answers
 use Rattle.stream.specs.Answers.{answerFor}
+use Rattle.stream.specs.AnswersLaws.{answer-of}
 use Rattle.reader.specs.declared.Head.{Head}
 use Rattle.reader.specs.declared.Reader.{Reader}
 use Rattle.reader.specs.Reader.{passes}
@@ -21,7 +22,8 @@ use Rattle.run.specs.declared.RunStepped.{RunStepped}
 use Rattle.run.specs.Run.{Ran, lentRunOf, onward}
 use Rattle.run.specs.Gives.{LentRunGives}
 use Rattle.reader_laws.specs.Passing.{Small, Ok}
-use Rattle.reader_laws.specs.ByRuns.{ByNibbles, RunOn, run-on, lent-onward, answer-of, small-drop}
+use Rattle.reader_laws.specs.SmallLaws.{small-drop}
+use Rattle.reader_laws.specs.ByRuns.{ByNibbles, RunOn, run-on, lent-onward}
 use Rattle.verdict.specs.declared.Findings.{Findings}
 use Rattle.verdict.specs.declared.Found.{Found}
 use Rattle.verdict.specs.Findings.{takeOf}

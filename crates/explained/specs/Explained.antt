@@ -4,7 +4,7 @@
 use mathlib.Core.Path.{_≡_, refl, _∙_, ap, ap₂, sym}
 use mathlib.Core.Bool.{Bool, true, false, _||_, _&&_, not, true≢false}
 use mathlib.Core.List.{List, [], _∷_, _++_}
-use Prim.Native.Nat.{ℕ, _+_, _≤_, _<_, _^_}
+use Prim.Native.Nat.{ℕ, _≤_, _<_, _^_}
 use native.Mathlib.Omega.{arith}
 use lib.Dec.{eqb, leb}
 use lib.ListN.{length, drop, length-drop}
@@ -22,13 +22,14 @@ use Rattle.reader.specs.Reader.{isMark, passes, freshReader}
 use Rattle.recovery.specs.Calls.{Call, feed, done, CallResult, meaningCall}
 use Rattle.recovery.specs.Resync.{stateWith}
 use Rattle.reader_laws.specs.Passing.{Small, Byte, Passed, Ok}
+use Rattle.reader_laws.specs.SmallLaws.{small-append}
 use Rattle.refinement.specs.Window.{no-mark-yet}
 use Rattle.refinement.specs.Stored.{storedKept}
 use Rattle.reader_laws.specs.Passes.{passed}
 use Rattle.refinement.specs.Refine.{Follows, fresh-follows, fedReader, fed-follows}
 use Rattle.refinement.specs.ReaderCalls.{readerCall, alike}
 use Rattle.explained.specs.Equivalent.{baseOf, base-small, Equivalent, same-call}
-use Rattle.explained.specs.Reachable.{Reachable, reachable, small-append}
+use Rattle.explained.specs.Reachable.{Reachable, reachable}
 use Rattle.explained.specs.Used.{Store}
 use Rattle.explained.specs.Interchangeable.{readerWith, differ-unused, BothPass, same-feed, same-finish}
 use Rattle.explained.specs.StandsFor.{Typed, storedText, StandsFor, stands-for}

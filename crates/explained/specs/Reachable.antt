@@ -35,6 +35,7 @@ use Rattle.recovery.specs.ReadBack.{run-append, line-opens}
 use Rattle.recovery.specs.WrittenLaws.{AllNibbles, no-nibble as none-left, and-nibble, all-content}
 use Rattle.recovery.specs.Examples.{sample, sample-writable}
 use Rattle.reader_laws.specs.Passing.{Small, small-none, small-more, Byte}
+use Rattle.reader_laws.specs.SmallLaws.{small-append}
 use Rattle.explained.specs.Agree.{AgreeOnto, at-base, onto-other, onto-F, onto-free}
 use Rattle.explained.specs.Equivalent.{trailingF, baseOf, trailingFAt, below, above, Rests, one-rest, two-rests, rests-if, rests-F, Equivalent, the-same, texts-agree}
 
@@ -261,10 +262,6 @@ to-mark p (Open (RefusedLine BK) c) h = opened-at (RefusedLine BK) c (c % 16 ∷
 to-mark p (Open (RefusedLine VL) c) h = opened-at (RefusedLine VL) c (c % 16 ∷ c / 16 ∷ [])
 to-mark p (Open (RefusedLine SOF) c) h = opened-at (RefusedLine SOF) c (c % 16 ∷ c / 16 ∷ [])
 to-mark p (Open (RefusedLine EOF) c) h = opened-at (RefusedLine EOF) c (c % 16 ∷ c / 16 ∷ [])
-
-pub small-append : {u w : List ℕ} → Small u → Small w → Small (u ++ w)
-small-append small-none t = t
-small-append (small-more h s) t = small-more h (small-append s t)
 
 mark-small : (c : ℕ) → c < 256 → Small (markOf c)
 mark-small c h =

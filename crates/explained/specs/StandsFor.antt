@@ -19,9 +19,9 @@ use Rattle.mark_answer.specs.Kept.{gapStart, strayAt, keptAt}
 use Rattle.reader.specs.Reader.{aged}
 use Rattle.refinement.specs.Window.{num}
 use Rattle.reader_laws.specs.Passing.{Small, small-none, small-more, Byte, Fits}
+use Rattle.reader_laws.specs.SmallLaws.{small-append}
 use Rattle.refinement.specs.Stored.{storedKept, storedBody, stored-length}
 use Rattle.explained.specs.Equivalent.{baseOf}
-use Rattle.explained.specs.Reachable.{small-append}
 use Rattle.explained.specs.Used.{Store, commit, byteNumbered, nibbleOf, commit-new, commit-old, endsLine, SameNibbles, SameUsed, no-nibbles}
 
 -- The nibbles kept.

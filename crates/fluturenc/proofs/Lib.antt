@@ -1,3 +1,2 @@
 pub mod Pasting
-pub mod Telling
 pub mod Feeding

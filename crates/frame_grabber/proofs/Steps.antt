@@ -18,7 +18,7 @@ use Rattle.reader.specs.Reader.{passes}
 use Rattle.run.specs.Run.{Ran, onward}
 use Rattle.reader_laws.specs.Passing.{Small, Ok}
 use Rattle.reader_laws.specs.ByRuns.{ByNibbles, RunOn, run-on}
-use Rattle.capture_bytes.specs.UnpackedLaws.{nibbles-append, nibbles-length}
+use Rattle.stream.specs.NibblesLaws.{nibbles-length, nibbles-append}
 use Rattle.frame_rows.specs.declared.Gatherer.{Gatherer}
 use Rattle.frame_rows.specs.declared.Gathered.{Gathered}
 use Rattle.frame_rows.specs.declared.Progress.{Progress}

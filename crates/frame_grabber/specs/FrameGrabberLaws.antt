@@ -17,8 +17,8 @@ use Rattle.stream.specs.Answers.{Outcome, answerFor, bufferAfter}
 use Rattle.stream.specs.Written.{nibbles}
 use Rattle.reader.specs.declared.Reader.{Reader}
 use Rattle.reader.specs.Reader.{Took, freshReader, taking, feedOf}
-use Rattle.reader.proofs.Told.{take-profile}
-use Rattle.reader_laws.specs.Sound.{Sound, sound-nothing, sound-line, sound-gap, sound-refused, take-sound}
+use Rattle.mark_answer.specs.Sound.{Sound, sound-nothing, sound-line, sound-gap, sound-refused}
+use Rattle.reader.specs.ReaderLaws.{take-profile, take-sound}
 use Rattle.reader_laws.specs.Passes.{passes-test, fresh-ok, Feeding, feed-state, feed-nibble, feed-room, feed-taken, feeding}
 use Rattle.frame.specs.declared.Handed.the-variants as hand
 use Rattle.frame.specs.Frame.{brokenKind}

@@ -15,7 +15,8 @@ use Rattle.reader.specs.declared.Reader.{Reader}
 use Rattle.reader.specs.Reader.{passes, feedOf}
 use Rattle.reader_laws.specs.Passes.{passes-test, feed-ok}
 use Rattle.reader_laws.specs.Passing.{Ok}
-use Rattle.capture_bytes.specs.UnpackedLaws.{nibbles-append, nibbles-length, taken-length}
+use Rattle.stream.specs.NibblesLaws.{nibbles-length, nibbles-append}
+use Rattle.capture_bytes.specs.UnpackedLaws.{taken-length}
 use Rattle.frame_rows.specs.declared.Progress.{Progress}
 use Rattle.frame_rows.specs.declared.Progress.the-variants as progress
 use Rattle.frame_rows.specs.FrameRows.{outputOf, quiet}

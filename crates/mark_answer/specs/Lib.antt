@@ -1,2 +1,5 @@
 pub mod Kept
+pub mod KeptLaws
 pub mod Judge
+pub mod JudgeLaws
+pub mod Sound

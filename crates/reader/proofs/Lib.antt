@@ -1,4 +1,3 @@
 pub mod Window
 pub mod Copy
-pub mod Told
 pub mod Taking

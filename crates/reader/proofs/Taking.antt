@@ -9,6 +9,7 @@ use Rattle.refusal.specs.Refusal.{notANibble, badState, noRoom}
 use Rattle.profile.specs.declared.Profile.{Profile}
 use Rattle.profile.specs.Profile.{bodyLength, longest}
 use Rattle.stream.specs.Answers.{outcomeOf, answerFor, bufferAfter, refused}
+use Rattle.mark_answer.specs.Sound.{Legible}
 use Rattle.reader.specs.declared.Reader.{Reader}
 use Rattle.reader.specs.declared.Stepped.{Stepped}
 use Rattle.reader.specs.Reader.{Took, passes, refusing, taking, takeOf, feedOf, readerOf}
@@ -51,14 +52,14 @@ module _ (r : Reader) (n room : ℕ) where
   unfolding feedOf
   feed-fails e = simp e
 
--- a reader that passes is fed as a nibble is taken with its body lent; its outcome is told by the answer and the buffer
+-- a reader that passes is fed as a nibble is taken with its body lent; its outcome is read off the answer and the buffer
 pub feeds : {p : Profile} {t u : Took} {s : Stepped} {body before after : List ℕ} → t ≡ u → TakeGives u s body before after
-    → outcomeOf p (answerFor (t .outcome)) (bufferAfter (t .outcome) before) ≡ t .outcome
+    → Legible p before (t .outcome)
     → FeedGives p t (record { reader = readerOf (s .head) body; answer = s .answer }) before after
-feeds {p} {before = before} q e told =
+feeds {p} {before = before} q e read =
     let says = e .says ∙ ap (λ (t : Took). answerFor (t .outcome)) (sym q) in
     let leaves = e .leaves ∙ ap (λ (t : Took). bufferAfter (t .outcome) before) (sym q) in
-    record { next = ap₂ readerOf (e .next) (e .keeps) ∙ ap (λ (t : Took). t .reader) (sym q); says = ap₂ (outcomeOf p) says leaves ∙ told; leaves = leaves }
+    record { next = ap₂ readerOf (e .next) (e .keeps) ∙ ap (λ (t : Took). t .reader) (sym q); says = ap₂ (outcomeOf p) says leaves ∙ read; leaves = leaves }
 
 pub feed-refused : {p : Profile} {t : Took} (r : Reader) {k : ℕ} (buffer : List ℕ) → t ≡ refusing r k
     → FeedGives p t (record { reader = r; answer = answerFor (refused k) }) buffer buffer

@@ -2,11 +2,7 @@
 use mathlib.Core.Path.{_≡_, ap, sym, _∙_}
 use Prim.Native.Nat.{ℕ, zero, suc, _+_, _-_, _*_, _/_, _^_, _≤_, _<_}
 use native.Mathlib.Omega.{arith}
-use lib.Dec.{lit≤}
 use lib.Pow.{shr-shr}
-use Rattle.profile.specs.declared.Profile.{Profile}
-use Rattle.profile.specs.declared.Profile.the-variants.{VV5404, VV5300}
-use Rattle.mark_answer.specs.Kept.{gapStart}
 use Rattle.reader.specs.declared.Head.{Head}
 use Rattle.reader.specs.Reader.{aged, shifted, flushed}
 
@@ -29,7 +25,3 @@ pub flushed-all : (i : ℕ) (h : Head) → 8 ≤ i → flushed (8 - i) h ≡ h
 flushed-all i h l =
     let e : 8 - i ≡ 0 = omega arith in
     ap (λ (n : ℕ). flushed n h) e
-
-pub gap-start-small : (p : Profile) → gapStart p ≤ 6
-gap-start-small VV5404 = lit≤ tt
-gap-start-small VV5300 = lit≤ tt

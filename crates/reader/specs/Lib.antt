@@ -1,3 +1,4 @@
 pub mod Reader
+pub mod ReaderLaws
 pub mod Gives
 pub mod Parts

@@ -3,18 +3,15 @@
 use mathlib.Core.Path.{_≡_, refl, _∙_, ap, sym, subst}
 use mathlib.Core.Bool.{Bool, true, false, cond, true≢false}
 use mathlib.Core.List.{List, [], _∷_}
-use Prim.Native.Nat.{ℕ, zero, suc, _+_, _≤_, _<_}
+use Prim.Native.Nat.{ℕ, suc, _+_, _≤_, _<_}
 use native.Mathlib.Nat.{add-zero}
 use native.Mathlib.Omega.{arith}
-use lib.ListN.{length, take, drop}
+use lib.ListN.{length, drop}
 use borrow.Author.Tests.{le-leb}
 use Rattle.refusal.specs.Refusal.{notANibble}
-use Rattle.profile.specs.declared.Profile.{Profile}
 use Rattle.profile.specs.Profile.{bodyLength, longest}
 use Rattle.profile.specs.LayoutLaws.{body-small}
-use Rattle.stream.specs.declared.Answer.{Answer}
-use Rattle.stream.specs.declared.Answer.the-variants as answers
-use Rattle.stream.specs.Answers.{Outcome, nothing, line, gap, refused, outcomeOf, answerFor}
+use Rattle.stream.specs.Answers.{Outcome, nothing, line, gap, refused}
 use Rattle.reader.specs.declared.Head.{Head}
 use Rattle.reader.specs.declared.Reader.{Reader}
 use Rattle.reader.specs.Reader.{Took, taking, feedOf}
@@ -100,21 +97,3 @@ pub lent-onward : (h : Head) (body w : List ℕ) (room : ℕ) → Ok h → lengt
 lent-onward h body w room ok full e =
     lent-right h body w room full
     ∙ run-goes h body w room (passes-test h (ok .test)) (omega (arith, body-small (h .profile)))
-
--- an answer is told by what it says
-pub answer-of : (p : Profile) (a : Answer) (buffer : List ℕ) (o : Outcome) → outcomeOf p a buffer ≡ o → a ≡ answerFor o
-answer-of p answers.Nothing buffer o e = ap answerFor e
-answer-of p (answers.Line f) buffer o e = ap answerFor e
-answer-of p (answers.Gap g) buffer o e = ap answerFor e
-answer-of p (answers.Refused n) buffer o e = ap answerFor e
-
--- some of the nibbles
-pub small-take : {w : List ℕ} → Small w → (i : ℕ) → Small (take i w)
-small-take q zero = small-none
-small-take small-none (suc i) = small-none
-small-take (small-more h q) (suc i) = small-more h (small-take q i)
-
-pub small-drop : {w : List ℕ} → Small w → (i : ℕ) → Small (drop i w)
-small-drop q zero = q
-small-drop small-none (suc i) = small-none
-small-drop (small-more h q) (suc i) = small-drop q i

@@ -1,5 +1,5 @@
 pub mod Passing
+pub mod SmallLaws
 pub mod Bodies
-pub mod Sound
 pub mod Passes
 pub mod ByRuns

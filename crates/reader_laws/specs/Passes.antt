@@ -13,7 +13,6 @@ use Rattle.line_code.specs.declared.LineKind.{LineKind}
 use Rattle.line_code.specs.declared.LineKind.the-variants.{NotLine, LineOf}
 use Rattle.line_code.specs.LineCode.{readingOf, isEnd}
 use Rattle.profile.specs.declared.Profile.{Profile}
-use Rattle.profile.specs.declared.Profile.the-variants.{VV5404, VV5300}
 use Rattle.profile.specs.Profile.{bodyLength}
 use Rattle.stream.specs.declared.Mark.{Mark}
 use Rattle.stream.specs.declared.Mark.the-variants.{NoMark, Open}
@@ -25,7 +24,9 @@ use Rattle.reader.specs.declared.Head.{Head}
 use Rattle.reader.specs.declared.Reader.{Reader}
 use Rattle.reader.specs.Reader.{Took, groupNumber, isMark, slide, countStop, bump, leaveKept, leaveBody, shifted, opened, aged, windowFits, handedFits, passes, freshReader, refusing, takeHead, takeOutcome, taking, feedOf, flushed, finishOf}
 use Rattle.reader_laws.specs.Passing.{Fits, Passed, Byte, Ok}
-use Rattle.reader_laws.specs.Sound.{Sound, line-ends, judge-sound, take-sound, refusalOf, at-most-nine}
+use Rattle.mark_answer.specs.KeptLaws.{gap-start-small}
+use Rattle.mark_answer.specs.Sound.{Sound, line-ends, judge-sound, refusalOf, at-most-nine}
+use Rattle.reader.specs.ReaderLaws.{bump-more, take-sound}
 
 -- The test and its facts.
 
@@ -173,14 +174,6 @@ fits-slide (Open before code) (suc (suc j)) w n b h f =
 
 -- The count.
 
-bump-more : (c : ℕ) → c ≤ bump c
-unfolding bump
-bump-more c = go (ltb c countStop)
-  where
-    go : (b : Bool) → c ≤ cond b (c + 1) c
-    go true = omega arith
-    go false = omega arith
-
 bump-small : (c : ℕ) → c ≤ countStop → bump c ≤ countStop
 unfolding bump
 bump-small c h = go (ltb c countStop) refl
@@ -212,10 +205,6 @@ fits-bump m c w n b h l f = go (ltb c countStop) refl
         let q : countStop ≡ c = omega arith in
         subst (λ (x : ℕ). Fits m x (slide w n)) q (full m)
 
-pub gap-start : (p : Profile) → gapStart p ≤ 6
-gap-start VV5404 = omega arith
-gap-start VV5300 = omega arith
-
 leave-stray : (h : Head) → Passed h → leaveKept h .stray ≡ true → gapStart (h .profile) + 8 < bump (h .count)
 unfolding leaveKept keptAt strayAt
 leave-stray h f = go (leb 8 c) refl
@@ -239,7 +228,7 @@ leave-stray h f = go (leb 8 c) refl
         or-cases (h .kept .stray) _ q before λ z.
         let l = leb-true g (c - 8) (and-left (leb g (c - 8)) _ z) in
         let k = leb-true 8 c e in
-        bump-last c g (gap-start (h .profile)) (omega arith)
+        bump-last c g (gap-start-small (h .profile)) (omega arith)
 
 -- What a call does, by its own tests.
 

@@ -25,13 +25,8 @@ use Rattle.stream.specs.declared.LineFacts.{LineFacts}
 use Rattle.stream.specs.declared.GapFacts.{GapFacts}
 use Rattle.stream.specs.declared.Mark.{Mark}
 use Rattle.stream.specs.declared.Mark.the-variants.{NoMark, Open}
-use Rattle.stream.specs.Answers.{Outcome, nothing, line, gap, refused, require, bytesOnto, lineFrom, lineAnswer, turned, afterCode, goodGap, twoBytesThenF, gapFrom, gapAnswer, byMeaning, byReading, answerOf}
+use Rattle.stream.specs.Answers.{Outcome, nothing, line, gap, refused, require, bytesOnto, lineFrom, lineAnswer, turned, afterCode, goodGap, twoBytesThenF, gapFrom, gapAnswer, endsAt, byMeaning, byReading, answerOf}
 use Rattle.stream.specs.Stream.{State, Completed, not-yet, mark, detect, answerAt, advance, step}
-
--- the next mark's code is end of line; false at finish
-abbrev pub endsAt : Option ℕ → Bool
-endsAt none = false
-endsAt (some c) = isEnd (readingOf c)
 
 -- P holds of a line, whose body is as long as the profile says, and whose next code is end of line
 abbrev pub IfLine : (Outcome → Type 0) → Profile → Option ℕ → Type 0

@@ -34,7 +34,8 @@ use Rattle.stream.specs.Stream.{State, fresh, group, Completed, not-yet, mark, 
 use Rattle.stream.specs.Written.{Sent, Writable, content, endMark, tail, written}
 use Rattle.recovery.specs.Calls.{gapAsSent, markNibbles}
 use Rattle.recovery.specs.MarkPlaces.{Noted, noted, notedFrom, marksOf, periodBy}
-use Rattle.recovery.specs.ReadBack.{length-nibbles, body-long}
+use Rattle.stream.specs.NibblesLaws.{nibbles-length}
+use Rattle.recovery.specs.ReadBack.{body-long}
 use Rattle.recovery.specs.Marks.{onto, isMark, Since, all-taken, since-group, kept-completes, kept-step, detected}
 
 -- A line that is handed out has a text of fixed length.
@@ -308,8 +309,8 @@ written-nibbles p s g =
     omega (
       arith,
       length-append (content s) (endMark ++ tail s),
-      length-nibbles (numberByte (s .number / 64) ∷ numberByte (s .number % 64) ∷ s .body),
-      length-nibbles (s .gap-one ∷ s .gap-two ∷ replicate (s .nulls) nullByte),
+      nibbles-length (numberByte (s .number / 64) ∷ numberByte (s .number % 64) ∷ s .body),
+      nibbles-length (s .gap-one ∷ s .gap-two ∷ replicate (s .nulls) nullByte),
       length-replicate {A = ℕ} (s .nulls) nullByte,
       eqb-true (length (s .body)) (bodyLength p) (body-long p s g),
     )

@@ -4,7 +4,7 @@ use mathlib.Core.Path.{_≡_, refl, _∙_, ap, ap₂, sym}
 use mathlib.Core.Bool.{Bool, true, false, _&&_, true≢false}
 use mathlib.Core.List.{List, [], _∷_, _++_, append-nil}
 use mathlib.Core.Option.{Option, none, some}
-use Prim.Native.Nat.{ℕ, zero, suc, _+_, _*_, _/_, _%_, _≤_, _<_}
+use Prim.Native.Nat.{ℕ, zero, suc, _+_, _/_, _%_, _≤_, _<_}
 use native.Mathlib.Omega.{arith}
 use lib.Dec.{eqb, leb}
 use lib.ListN.{length, replicate, length-append, length-replicate}
@@ -33,6 +33,7 @@ use Rattle.stream.specs.declared.Mark.the-variants.{Open}
 use Rattle.stream.specs.Answers.{facts, Outcome, nothing, line, isLine, require, bytesOnto, lineFrom, turned, allF, afterCode, goodGap, periodOf, gapFrom, byReading, answerOf}
 use Rattle.stream.specs.Stream.{State, fresh, beforeBy, answerAt, step, finish, run, outcomes}
 use Rattle.stream.specs.Written.{Sent, Writable, nibbles, markOf, startMark, content, tail, written}
+use Rattle.stream.specs.NibblesLaws.{nibbles-length}
 use Rattle.line_number.specs.LineNumberLaws.{byte-good, byte-value}
 use Rattle.profile.specs.LayoutLaws.{rules-length, fits-length, body-small}
 use Rattle.recovery.specs.Marks.{onto}
@@ -213,10 +214,6 @@ gap-answer p s g end q he next =
 
 -- the period of a line as written is its length (A7)
 
-pub length-nibbles : (bs : List ℕ) → length (nibbles bs) ≡ 2 * length bs
-length-nibbles [] = refl
-length-nibbles (b ∷ bs) = omega (arith, length-nibbles bs)
-
 length-onto : (t w : List ℕ) → length (onto t w) ≡ length t + length w
 length-onto t [] = omega arith
 length-onto t (n ∷ w) = length-onto (n ∷ t) w ∙ (let e : suc (length t) + length w ≡ length t + suc (length w) = omega arith in e)
@@ -229,8 +226,8 @@ written-length p s g start end code =
       arith,
       length-onto (end % 16 ∷ end / 16 ∷ []) (tail s),
       length-append (content s) (markOf end ++ tail s),
-      length-nibbles (numberByte (s .number / 64) ∷ numberByte (s .number % 64) ∷ s .body),
-      length-nibbles (s .gap-one ∷ s .gap-two ∷ replicate (s .nulls) nullByte),
+      nibbles-length (numberByte (s .number / 64) ∷ numberByte (s .number % 64) ∷ s .body),
+      nibbles-length (s .gap-one ∷ s .gap-two ∷ replicate (s .nulls) nullByte),
       length-replicate {A = ℕ} (s .nulls) nullByte,
       g .nulls-few,
       eqb-true (length (s .body)) (bodyLength p) (body-long p s g),

@@ -1,7 +1,7 @@
 -- From any state, a line's start mark leads to that mark open with its code as its text, and no line comes out meanwhile: a mark that
 -- is completed on the way has a code that ends in F, which is no end of line.
 use mathlib.Core.Path.{_≡_, refl, _∙_, ap, sym}
-use mathlib.Core.Bool.{true, false, true≢false}
+use mathlib.Core.Bool.{false, true≢false}
 use mathlib.Core.List.{List, [], _∷_, _++_}
 use mathlib.Core.Option.{Option, none, some}
 use Prim.Native.Nat.{ℕ, _+_, _*_, _/_, _%_}
@@ -12,12 +12,12 @@ use Rattle.profile.specs.declared.Profile.{Profile}
 use Rattle.stream.specs.declared.Before.{Before}
 use Rattle.stream.specs.declared.Mark.{Mark}
 use Rattle.stream.specs.declared.Mark.the-variants.{Open}
-use Rattle.stream.specs.Answers.{Outcome, isLine}
+use Rattle.stream.specs.Answers.{Outcome, isLine, endsAt}
 use Rattle.stream.specs.Stream.{State, group, strip, markIf, kindAt, beforeBy, answerAt, advance, step, run, outcomes}
 use Rattle.stream.specs.Written.{markOf}
 use Rattle.recovery.specs.Calls.{LineOut, lineIn}
 use Rattle.recovery.specs.Collected.{collected}
-use Rattle.recovery.specs.AnswerLaws.{endsAt, answer-cases}
+use Rattle.recovery.specs.AnswerLaws.{answer-cases}
 
 -- the lines that nibbles bring out
 abbrev pub lines : Profile → State → List ℕ → List LineOut

@@ -18,8 +18,8 @@ use Rattle.reader.specs.declared.Reader.{Reader}
 use Rattle.reader.specs.Reader.{Took, passes, freshReader, refusing, newOf, taking, feedOf, finishOf}
 use Rattle.recovery.specs.Calls.{Call, feed, done, CallResult, onRun, MeetsDemandThree, turnedAway, fed, meaningCall}
 use Rattle.recovery.specs.DemandThree.{carried}
-use Rattle.reader_laws.specs.Sound.{take-sound, told}
-use Rattle.reader_laws.specs.Passes.{passes-test, Feeding, feed-state, feed-nibble, feed-room, feed-taken, feeding, fresh-ok, feed-ok, finish-ok, feed-refused, finish-refused, feed-eleven, finish-eleven}
+use Rattle.reader.specs.ReaderLaws.{legible-feed}
+use Rattle.reader_laws.specs.Passes.{passes-test, fresh-ok, feed-ok, finish-ok, feed-refused, finish-refused, feed-eleven, finish-eleven}
 use Rattle.reader_laws.specs.Passing.{Ok}
 use Rattle.refinement.specs.Refine.{Follows, fresh-follows, feed-tests, taking-steps, finish-steps}
 
@@ -82,13 +82,7 @@ refused-call r done k l e =
 
 pub feed-told : (r : Reader) (n : ℕ) (buffer : List ℕ)
     → outcomeOf (r .head .profile) (readerCall r (feed n buffer) .answer) (readerCall r (feed n buffer) .buffer) ≡ feedOf r n (length buffer) .outcome
-feed-told r n buffer = go (feeding r n (length buffer))
-  where
-    go : {t : Took} → Feeding r n (length buffer) t → outcomeOf (r .head .profile) (gives t buffer .answer) (gives t buffer .buffer) ≡ t .outcome
-    go (feed-state e) = refl
-    go (feed-nibble e) = refl
-    go (feed-room e) = refl
-    go (feed-taken e) = told (take-sound (r .head) (r .body) n) buffer
+feed-told r n buffer = legible-feed r n (length buffer) buffer
 
 -- The calls answer as the meaning's.
 

@@ -36,9 +36,10 @@ use Rattle.reader.specs.declared.Reader.{Reader}
 use Rattle.reader.specs.Reader.{Took, isMark, slide, countStop, bump, leaveKept, leaveBody, shifted, opened, freshReader, refusing, takeHead, takeOutcome, taking, feedOf, flushed, finishOf}
 use Rattle.profile.specs.LayoutLaws.{body-small}
 use Rattle.refinement.specs.Window.{num, oldest, slide-num, no-mark-yet, Complete, complete}
+use Rattle.mark_answer.specs.KeptLaws.{gap-start-small}
 use Rattle.reader_laws.specs.Passing.{Small, small-none, small-more, Ok}
 use Rattle.refinement.specs.Stored.{storedKept, storedBody, byte-keep, body-out, stored-length, wrong-length, judged}
-use Rattle.reader_laws.specs.Passes.{gap-start, finished, fresh-ok, take-ok, passes-test}
+use Rattle.reader_laws.specs.Passes.{finished, fresh-ok, take-ok, passes-test}
 
 -- The count's stop: numbers that are equal, or both past every body and every period that is told.
 
@@ -60,7 +61,7 @@ stray-about : (p : Profile) (v : ℕ) (b : Bool) {x y : ℕ} → About x y → s
 unfolding strayAt
 stray-about p v b (equal e) = ap (λ (n : ℕ). strayAt p n v b) e
 stray-about p v b {x} {y} (past g h) =
-    let l = gap-start p in
+    let l = gap-start-small p in
     ap (λ a. b || (a && not (eqb v 15))) (le-leb (gapStart p) x (omega arith) ∙ sym (le-leb (gapStart p) y (omega arith)))
 
 byte-about : (from v n : ℕ) → from ≤ 4 → {x y : ℕ} → About x y → byteAt from x v n ≡ byteAt from y v n

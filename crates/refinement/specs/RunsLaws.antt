@@ -12,16 +12,15 @@ use borrow.Author.Tests.{leb-true, ne-eqb}
 use Rattle.refusal.specs.Refusal.{notANibble, noRoom}
 use Rattle.profile.specs.declared.Profile.{Profile}
 use Rattle.profile.specs.Profile.{bodyLength}
-use Rattle.stream.specs.declared.Answer.the-variants as answers
 use Rattle.stream.specs.Answers.{Outcome, nothing, line, gap, refused, outcomeOf, answerFor, bufferAfter}
 use Rattle.reader.specs.declared.Reader.{Reader}
 use Rattle.reader.specs.Reader.{Took, freshReader, refusing, taking, feedOf}
 use Rattle.run.specs.Run.{Ran, ran, isAnswer, stops, stopPlace, runOf, onward}
-use Rattle.reader.proofs.Told.{take-profile}
+use Rattle.mark_answer.specs.Sound.{refusalOf, at-most-nine}
+use Rattle.reader.specs.ReaderLaws.{take-profile, take-sound}
 use Rattle.recovery.specs.Calls.{Call, feed, FinishLast, takes, Collector, lineCollector, gapCollector, onRun, onTaken, onCollected}
 use Rattle.recovery.specs.Calls as calls
 use Rattle.recovery.specs.DemandThree.{taking-by, taking-append, taken-append, run-append, collected-both}
-use Rattle.reader_laws.specs.Sound.{take-sound, refusalOf, at-most-nine}
 use Rattle.reader_laws.specs.Passes.{passes-test, fresh-ok, take-ok}
 use Rattle.reader_laws.specs.Passing.{Ok}
 use Rattle.refinement.specs.Refine.{fedOutcomes}

@@ -1,3 +1,3 @@
-pub mod Told
+pub mod LegibleRuns
 pub mod Pairs
 pub mod Running

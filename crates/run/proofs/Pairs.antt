@@ -9,7 +9,7 @@ use native.Mathlib.Nat.{lt-of-not-le}
 use native.Mathlib.Decide.{decLe}
 use native.Mathlib.Omega.{arith}
 use borrow.Author.Tests.{lt-ltb, le-ltb, le-leb, lt-leb, leb-true, eq-eqb, ne-eqb, not-true}
-use lib.Dec.{eqb, leb, ltb}
+use lib.Dec.{eqb, leb}
 use lib.ListN.{length, getD, set, drop}
 use lib.Seq.{set-set, getD-set-same}
 use Rattle.bits.specs.Every.{and-left, and-right}
@@ -20,14 +20,15 @@ use Rattle.stream.specs.declared.Mark.{Mark}
 use Rattle.stream.specs.Answers.{nothing}
 use Rattle.mark_answer.specs.declared.Kept.{Kept}
 use Rattle.mark_answer.specs.Kept.{topPlace, bodyPlace, gapStart, byteAt, strayAt, keptAt, bodyAt}
+use Rattle.mark_answer.specs.KeptLaws.{gap-start-small}
 use Rattle.reader.specs.declared.Head.{Head}
 use Rattle.reader.specs.declared.Reader.{Reader}
 use Rattle.reader.specs.Reader.{Took, groupNumber, isMark, slide, countStop, bump, leaveKept, leaveBody, shifted, takeHead, takeOutcome, taking, readerOf}
+use Rattle.reader.specs.ReaderLaws.{bump-more}
 use Rattle.run.specs.declared.Reached.{Reached}
 use Rattle.run.specs.Run.{isAnswer, onward}
 use Rattle.run.specs.RunLaws.{onward-on}
 use Rattle.run.specs.Parts.{isNear, isPair, bytePlace, slideByte, strayAfter, strayKept, byteKept, strayed, Leads, Reaches}
-use Rattle.reader.proofs.Window.{gap-start-small}
 
 abbrev pub high : List ℕ → ℕ → ℕ
 high s i = getD s i 0
@@ -184,14 +185,6 @@ stray-two w s l =
 bump-one : (c : ℕ) → c < countStop → bump c ≡ c + 1
 unfolding bump
 bump-one c l = simp (lt-ltb c countStop l)
-
-pub bump-more : (c : ℕ) → c ≤ bump c
-unfolding bump
-bump-more c = go (ltb c countStop)
-  where
-    go : (b : Bool) → c ≤ cond b (c + 1) c
-    go true = omega arith
-    go false = omega arith
 
 -- what is kept
 

@@ -10,6 +10,7 @@ use Rattle.profile.specs.declared.Profile.{Profile}
 use Rattle.profile.specs.Profile.{bodyLength, longest}
 use Rattle.stream.specs.declared.Answer.{Answer}
 use Rattle.stream.specs.Answers.{Outcome, nothing, line, gap, refused, outcomeOf, answerFor, bufferAfter, isLine}
+use Rattle.mark_answer.specs.Sound.{Legible}
 use Rattle.reader.specs.declared.Head.{Head}
 use Rattle.reader.specs.Reader.{passes, leaveBody, takeHead, takeOutcome, readerOf}
 use Rattle.run.specs.Run.{Ran, ran, isAnswer, runOf, lentRunOf, onward}
@@ -97,21 +98,21 @@ module _ (h : Head) (B s : List ℕ) (room : ℕ) where
   unfolding runOf
   run-goes e l = simp (e, le-leb (bodyLength (h .profile)) room l)
 
--- what a call gives that answers so: its outcome is told by its answer and the buffer
-pub tells : {p : Profile} {t u : Ran} {r : RunStepped} {B before after : List ℕ} → t ≡ u → Ends u (r .head) B (r .taken) (r .answer) before after
-    → outcomeOf p (answerFor (u .outcome)) (bufferAfter (u .outcome) before) ≡ u .outcome → LentRunGives p t r B before after
-tells {p} {before = before} q e told =
+-- what a call gives that answers so: its outcome is read off its answer and the buffer
+pub gives-lent : {p : Profile} {t u : Ran} {r : RunStepped} {B before after : List ℕ} → t ≡ u → Ends u (r .head) B (r .taken) (r .answer) before after
+    → Legible p before (u .outcome) → LentRunGives p t r B before after
+gives-lent {p} {before = before} q e read =
     record {
       next = e .next ∙ ap (λ (x : Ran). x .reader .head) (sym q);
       keeps = e .keeps ∙ ap (λ (x : Ran). x .reader .body) (sym q);
       count = e .count ∙ ap (λ (x : Ran). x .taken) (sym q);
-      says = ap₂ (outcomeOf p) (e .says) (e .leaves) ∙ told ∙ ap (λ (x : Ran). x .outcome) (sym q);
+      says = ap₂ (outcomeOf p) (e .says) (e .leaves) ∙ read ∙ ap (λ (x : Ran). x .outcome) (sym q);
       leaves = e .leaves ∙ ap (λ (x : Ran). bufferAfter (x .outcome) before) (sym q);
     }
 
 pub refuses : {p : Profile} {t : Ran} {h : Head} {B : List ℕ} {k : ℕ} {r : RunStepped} (buffer : List ℕ) → t ≡ ran (readerOf h B) (refused k) 0
     → (r .head ≡ h) × (r .answer ≡ answerFor (refused k)) × (r .taken ≡ 0) → LentRunGives p t r B buffer buffer
-refuses {h = h} {B = B} {k = k} buffer q e = tells q (ends-as (ends {h = h} {B = B} buffer refl (e .1) refl) (e .0) refl (e .2)) refl
+refuses {h = h} {B = B} {k = k} buffer q e = gives-lent q (ends-as (ends {h = h} {B = B} buffer refl (e .1) refl) (e .0) refl (e .2)) refl
 
 -- the same of a reader by value
 pub by-value : {p : Profile} {t u : Ran} {r : RunStepped} {B before after : List ℕ} → t ≡ u → LentRunGives p t r B before after

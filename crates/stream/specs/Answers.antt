@@ -168,6 +168,11 @@ gapAnswer p (HandedOut k) n t = gapFrom p k n (afterCode (turned t []))
 
 -- Any mark.
 
+-- the next mark's code is end of line; false at finish
+abbrev pub endsAt : Option ℕ → Bool
+endsAt none = false
+endsAt (some c) = isEnd (readingOf c)
+
 abbrev pub byMeaning : Profile → Before → Meaning → Repair → List ℕ → Option ℕ → Outcome
 byMeaning p before EndOfLine r t next = gapAnswer p before (periodOf p before (length t) next) t
 byMeaning p before (Line k) r t next = lineAnswer p k r t next

@@ -1,4 +1,6 @@
 pub mod Answers
+pub mod AnswersLaws
 pub mod Stream
 pub mod Written
+pub mod NibblesLaws
 pub mod Starred

@@ -17,7 +17,7 @@ use Rattle.line_number.specs.LineNumber.{greatest, numberByte, encodeOf}
 use Rattle.profile.specs.Profile.{nullByte}
 use Rattle.stream.specs.Written as stream
 use Rattle.stream.specs.Written.{Sent, written, startMark}
-use Rattle.writer.specs.WriterLaws.{nibbles-append, nibbles-length}
+use Rattle.stream.specs.NibblesLaws.{nibbles-length, nibbles-append}
 use Rattle.writer.specs.Parts.{Put, markBytes, lineBytes}
 use Rattle.writer.proofs.Putting.{put-front}
 

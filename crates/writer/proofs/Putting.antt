@@ -8,7 +8,7 @@ use lib.ListN.{length, getD, take, drop, replicate, length-append, replicate-app
 use lib.Seq.{sets, take-suc, take-all}
 use Rattle.lent_buffer.specs.StoringLaws.{sets-append, sets-front}
 use Rattle.stream.specs.Written.{nibbles}
-use Rattle.writer.specs.WriterLaws.{nibbles-length, nibbles-append}
+use Rattle.stream.specs.NibblesLaws.{nibbles-length, nibbles-append}
 use Rattle.writer.specs.Parts.{Put}
 
 pub put-none : (b : List ℕ) (at : ℕ) → Put [] b at at b

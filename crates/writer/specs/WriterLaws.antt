@@ -1,9 +1,9 @@
 -- Laws of the writer: how long a line is as written, and exactly when each answer comes.
-use mathlib.Core.Path.{_≡_, refl, sym, ap, subst, _∙_}
+use mathlib.Core.Path.{_≡_, refl, sym, subst, _∙_}
 use mathlib.Core.Bool.{Bool, true, false}
-use mathlib.Core.List.{List, [], _∷_, _++_}
+use mathlib.Core.List.{List, [], _++_}
 use mathlib.Core.Logic.{_↔_}
-use Prim.Native.Nat.{ℕ, _+_, _*_, _/_, _%_, _≤_, _<_}
+use Prim.Native.Nat.{ℕ, _≤_, _<_}
 use native.Mathlib.Omega.{arith}
 use borrow.Author.Tests.{leb-true, leb-false, eqb-true, eqb-false, le-leb, lt-leb, eq-eqb, ne-eqb}
 use lib.ListN.{length, replicate, length-append, length-replicate}
@@ -23,25 +23,17 @@ use Rattle.profile.specs.declared.Numbered.the-variants as numbered
 use Rattle.profile.specs.Profile.{profileNumber, profileNumbered, bodyLength, nullByte}
 use Rattle.profile.specs.Layout.{rules, fits}
 use Rattle.profile.specs.LayoutLaws.{rules-length, fits-length}
-use Rattle.stream.specs.Written as stream
-use Rattle.stream.specs.Written.{Sent, Writable, mostNulls, endMark, tail, written}
+use Rattle.stream.specs.Written.{Sent, Writable, mostNulls, nibbles, endMark, tail, written}
+use Rattle.stream.specs.NibblesLaws.{nibbles-length}
 use Rattle.writer.specs.Writer.{roomFor, bytesFit, writeLine, sent, writeKind, writeProfile, writeOf}
 
 -- Lengths.
-
-pub nibbles-length : (bs : List ℕ) → length (stream.nibbles bs) ≡ 2 * length bs
-nibbles-length [] = refl
-nibbles-length (b ∷ bs) = omega (arith, nibbles-length bs)
-
-pub nibbles-append : (bs cs : List ℕ) → stream.nibbles (bs ++ cs) ≡ stream.nibbles bs ++ stream.nibbles cs
-nibbles-append [] cs = refl
-nibbles-append (b ∷ bs) cs = ap (λ (w : List ℕ). b / 16 ∷ b % 16 ∷ w) (nibbles-append bs cs)
 
 -- a line as written is as long as the room that it needs
 pub written-length : (p : Profile) (s : Sent) → length (s .body) ≡ bodyLength p → length (written s) ≡ roomFor p (s .nulls)
 written-length p s h =
     omega
-    (arith, nibbles-length (s .body), length-append (stream.nibbles (s .body)) (endMark ++ tail s), nibbles-length (replicate (s .nulls) nullByte), length-replicate (s .nulls) nullByte)
+    (arith, nibbles-length (s .body), length-append (nibbles (s .body)) (endMark ++ tail s), nibbles-length (replicate (s .nulls) nullByte), length-replicate (s .nulls) nullByte)
 
 pub writable-length : (p : Profile) (s : Sent) → Writable p s → length (s .body) ≡ bodyLength p
 writable-length p s w = fits-length (rules p (s .kind)) (s .body) (w .body-fits) ∙ rules-length p (s .kind)

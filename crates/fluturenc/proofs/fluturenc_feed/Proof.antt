@@ -6,8 +6,8 @@ use native.Mathlib.Omega.{arith}
 use borrow.Author.Tests.{lt-leb, le-leb}
 use lib.ListN.{length}
 use denote.Ref.{now}
+use Rattle.stream.specs.AnswersLaws.{answer-of}
 use Rattle.fluturenc.specs.Calls.{feedCall}
-use Rattle.fluturenc.proofs.Telling.{told-answer}
 use Rattle.fluturenc.proofs.Feeding.{lentRun, back-front, feed-lent, left-same, left-stored}
 use borrow.Author.Needs.{needs}
 use Rattle.fluturenc.proofs.fluturenc_feed.Statement.{statement}
@@ -43,7 +43,7 @@ returns-2 c =
     let room = test .before .before .before .before .if1 .left in
     let read = run .before .before .before .head-in .ensures in
     let e = feed-lent s room w line h read (sym (test .is-tagged .ensures) ∙ run .before .before .before .before .before .if2 .taken) in
-    let told = told-answer (h .profile) (r .result .answer) (r .last .1 .1 .1 .0) (lentRun h s w line .outcome) (r .ensures .says) in
+    let told = answer-of (h .profile) (r .result .answer) (r .last .1 .1 .1 .0) (lentRun h s w line .outcome) (r .ensures .says) in
     let left = ⊎-elim (λ b. b .5 ∙ b .2 .ensures ∙ left-stored s room w line h read (r .result .taken) (r .last .1 .0) (r .ensures .count) (r .ensures .keeps) (omega (arith, b .0 .taken)) (r .result .head) (r .ensures .next)) (λ b. b .1 ∙ left-same s room w line h read (r .result .taken) (r .last .1 .0) (r .ensures .count) (r .ensures .keeps) (omega (arith, b .0 .left))) (c .before .if3 .came) in
     record {
       says = simp (e, c .answer-number .ensures, told);

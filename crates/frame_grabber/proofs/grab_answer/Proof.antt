@@ -2,7 +2,8 @@
 use Rattle.frame_grabber.specs.FrameGrabber.{blank}
 use mathlib.Core.Path.{refl}
 use denote.Ref.{now}
-use Rattle.reader_laws.specs.ByRuns.{lent-onward, answer-of}
+use Rattle.stream.specs.AnswersLaws.{answer-of}
+use Rattle.reader_laws.specs.ByRuns.{lent-onward}
 use Rattle.frame_grabber.proofs.Steps.{answered}
 use borrow.Author.Needs.{needs}
 use Rattle.frame_grabber.proofs.grab_answer.Statement.{statement}

@@ -8,7 +8,7 @@ use denote.Ref.{now}
 use borrow.Author.Needs.{needs}
 use Rattle.profile.specs.Profile.{longest}
 use Rattle.reader_laws.specs.Passing.{Small}
-use Rattle.reader_laws.specs.ByRuns.{small-drop, small-take}
+use Rattle.reader_laws.specs.SmallLaws.{small-take, small-drop}
 use Rattle.capture_bytes.specs.UnpackedLaws.{front-nibbles, taken-length}
 use Rattle.frame_grabber.specs.Parts.{reader}
 use Rattle.frame_grabber.proofs.Steps.{Along, all-left, along-start, along-next, along-stop, along-end, turn-within}

@@ -1,6 +1,7 @@
 -- The mark's answer is judged with what has left the window; the buffer follows that answer, and so does what the next mark keeps of it.
 use mathlib.Core.Path.{refl}
-use Rattle.reader.proofs.Told.{line-said, told-by-body}
+use Rattle.stream.specs.AnswersLaws.{line-said}
+use Rattle.mark_answer.specs.Sound.{legible-body}
 use borrow.Author.Needs.{needs}
 use Rattle.reader.proofs.complete.Statement.{statement}
 use Rattle.reader.proofs.complete.Tie as tie
@@ -14,7 +15,7 @@ returns c =
       next = simp (c .open-at .ensures, c .before .is-line .ensures, a, l, k, line-said);
       keeps = refl;
       says = simp (a, l, k);
-      leaves = simp (c .before .before .before .before .hand-out .ensures, a, l, k, told-by-body);
+      leaves = simp (c .before .before .before .before .hand-out .ensures, a, l, k, legible-body);
     }
 
 pub complete-spec : {M : Type 1} → statement M

@@ -6,8 +6,9 @@ use native.Mathlib.Omega.{arith}
 use lib.ListN.{length}
 use denote.Ref.{now}
 use borrow.Author.Needs.{needs}
+use Rattle.reader.specs.ReaderLaws.{bump-more}
 use Rattle.run.specs.Parts.{Leads, strayed}
-use Rattle.run.proofs.Pairs.{head, Stands, Turn, turn, reads, fewer, stands-next, bump-more, leads-past, leads-here, leads-on, here, reaches}
+use Rattle.run.proofs.Pairs.{head, Stands, Turn, turn, reads, fewer, stands-next, leads-past, leads-here, leads-on, here, reaches}
 use Rattle.run.proofs.past_body.Statement.{statement}
 use Rattle.run.proofs.past_body.Tie as tie
 

@@ -5,8 +5,8 @@ use lib.ListN.{length}
 use denote.Ref.{now}
 use borrow.Author.Needs.{needs}
 use Rattle.reader.specs.Reader.{readerOf}
-use Rattle.run.proofs.Told.{told-run}
-use Rattle.run.proofs.Running.{lent-wrong, lent-right, run-fails, run-short, run-goes, tells, refuses}
+use Rattle.run.proofs.LegibleRuns.{legible-run}
+use Rattle.run.proofs.Running.{lent-wrong, lent-right, run-fails, run-short, run-goes, gives-lent, refuses}
 use Rattle.run.proofs.run_lent.Statement.{statement}
 use Rattle.run.proofs.run_lent.Tie as tie
 
@@ -42,7 +42,7 @@ returns-3 c =
     let q = lent-right (a .h) B s (length b) (test-1 .left)
     ∙ run-goes (a .h) B s (length b) (sym (passes .ensures) ∙ test-2 .taken) (omega (arith, test-3 .left, body-length .ensures)) in
     let e = c .before .before .before .before .up-to-stop .ensures in
-    tells q e (told-run (readerOf (a .h) B) s b)
+    gives-lent q e (legible-run (readerOf (a .h) B) s b)
 
 returns-4 : tie.Need-returns-4
 returns-4 c =

@@ -10,7 +10,7 @@ use Rattle.stream.specs.Answers.{bufferAfter}
 use Rattle.reader.specs.declared.Head.{Head}
 use Rattle.reader.specs.Reader.{takeOutcome}
 use Rattle.run.specs.Parts.{Leads}
-use Rattle.reader.proofs.Told.{take-profile}
+use Rattle.reader.specs.ReaderLaws.{take-profile}
 use Rattle.run.proofs.Pairs.{leads-here, leads-on}
 use Rattle.run.proofs.Running.{answered, nothing-kept, leads-one, stops-end, stops-above, stops-answered, ends, ends-as}
 use Rattle.run.proofs.up_to_stop.Statement.{statement}

@@ -3,7 +3,7 @@ use mathlib.Core.Path.{sym, _∙_}
 use lib.ListN.{length}
 use denote.Ref.{now}
 use borrow.Author.Needs.{needs}
-use Rattle.reader.proofs.Told.{told}
+use Rattle.reader.specs.ReaderLaws.{legible-feed}
 use Rattle.reader.proofs.Taking.{feed-goes, feed-fails, feeds, feed-refused}
 use Rattle.reader.proofs.Reader.feed.Statement.{statement}
 use Rattle.reader.proofs.Reader.feed.Tie as tie
@@ -15,7 +15,7 @@ returns c =
     let a = p .before .before .before .before .args in
     let b = now (a .buffer) in
     let q = feed-goes (a .self) (a .nibble) (length b) (sym (p .before .passes .ensures) ∙ p .if1 .taken) (search needs) in
-    feeds q (t .take .ensures) (told (a .self) (a .nibble) (length b) b)
+    feeds q (t .take .ensures) (legible-feed (a .self) (a .nibble) (length b) b)
 
 returns-2 : tie.Need-returns-2
 returns-2 c =
