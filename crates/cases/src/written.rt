@@ -10,6 +10,7 @@ use crate::text::say_number;
 use crate::text::short;
 use crate::text::word;
 use lent_buffer::Filled;
+use profile::Profile;
 
 // Writes a line, whose body is the front of a text, into a buffer of a size, and tells what came of it. The numbers: profile, kind, number,
 // two gap bytes, nulls, size.
@@ -25,7 +26,7 @@ pub fn write(text: &[u8], length: usize, n: Numbers) {
 pub fn read_back(text: &[u8], length: usize, n: Numbers) {
     if length <= text.len() {
         let mut room = [UNTOUCHED; 1300];
-        let mut line = [UNTOUCHED; 356];
+        let mut line = [UNTOUCHED; Profile::LONGEST];
         put_line(&text[0..length], n, &mut room);
         Bus::new(byte(n.n0)).written(&room, &mut line).finish();
         say_differing(&text[0..length], &line);

@@ -19,11 +19,11 @@ use Rattle.profile.specs.Profile.{profileNumber, profileNumbered, bodyLength, l
 use Rattle.stream.specs.declared.GapFacts.{GapFacts}
 use Rattle.stream.specs.declared.LineFacts.{LineFacts}
 use Rattle.stream.specs.declared.Answer.the-variants as answers
-use Rattle.stream.specs.Answers.{eitherRepaired, refused, answerFor}
+use Rattle.stream.specs.Answers.{eitherRepaired, refused, answerFor, isAnswer}
 use Rattle.mark_answer.specs.Kept.{topPlace, bodyAt}
 use Rattle.reader.specs.declared.Reader.{Reader}
 use Rattle.reader.specs.Reader.{Took, passes, freshReader, taking, finishOf, leaveBody}
-use Rattle.run.specs.Run.{Ran, ran, isAnswer, runOf, onward}
+use Rattle.run.specs.Run.{Ran, ran, runOf, onward}
 use Rattle.run.specs.RunLaws.{none-taken}
 use Rattle.reader_laws.specs.Passes.{passes-test, Finishing, finish-state, finish-taken, finishing, fresh-ok, take-ok, finish-ok}
 use Rattle.reader_laws.specs.Passing.{Ok}
@@ -61,7 +61,7 @@ take-whole r n l h = record { ok = take-ok r n l (h .ok); full = leave-full r �
 
 onward-whole : (w : List ℕ) (r : Reader) (i : ℕ) → Whole r → Whole (onward r w i .reader)
 onward-whole [] r i h = h
-onward-whole (n ∷ w) r i h = go (leb n 15) (isAnswer (taking r n .outcome)) refl (onward-whole w (taking r n .reader) (i + 1))
+onward-whole (n ∷ w) r i h = go (leb n 15) (isAnswer (answerFor (taking r n .outcome))) refl (onward-whole w (taking r n .reader) (i + 1))
   where
     go : (a b : Bool) → leb n 15 ≡ a → (Whole (taking r n .reader) → Whole (onward (taking r n .reader) w (i + 1) .reader))
         → Whole

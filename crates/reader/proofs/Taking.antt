@@ -61,9 +61,9 @@ feeds {p} {before = before} q e read =
     let leaves = e .leaves ∙ ap (λ (t : Took). bufferAfter (t .outcome) before) (sym q) in
     record { next = ap₂ readerOf (e .next) (e .keeps) ∙ ap (λ (t : Took). t .reader) (sym q); says = ap₂ (outcomeOf p) says leaves ∙ read; leaves = leaves }
 
-pub feed-refused : {p : Profile} {t : Took} (r : Reader) {k : ℕ} (buffer : List ℕ) → t ≡ refusing r k
+pub feed-refuses : {p : Profile} {t : Took} (r : Reader) {k : ℕ} (buffer : List ℕ) → t ≡ refusing r k
     → FeedGives p t (record { reader = r; answer = answerFor (refused k) }) buffer buffer
-feed-refused r buffer q =
+feed-refuses r buffer q =
     record {
       next = ap (λ (t : Took). t .reader) (sym q);
       says = ap (λ (t : Took). t .outcome) (sym q);

@@ -15,6 +15,7 @@ ghost use Rattle.reader.specs.Reader.{readerOf, isMark, slide, bump, lea
 ghost use Rattle.reader.specs.Gives.{CallGives, FeedGives, TakeGives};
 ghost use Rattle.reader.specs.Parts.{completing, copied};
 use mark_answer::Kept;
+use period::Nibbles;
 use profile::Numbered;
 use profile::Profile;
 use stream::Answer;
@@ -188,7 +189,7 @@ impl Head {
 }
 
 // Where the count of a text's nibbles stops: the next mark's eight nibbles above Nibbles::MOST.
-const COUNT_STOP: u32 = 65543;
+const COUNT_STOP: u32 = Nibbles::MOST as u32 + WINDOW;
 
 // The nibbles of a full window: a mark's F F F F 0 0 and its code.
 const WINDOW: u32 = 8;

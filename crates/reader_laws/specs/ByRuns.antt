@@ -1,7 +1,7 @@
 -- Runs in place of single feeds: what is worked out from nibbles fed one by one, and takes no notice of one that brings nothing, comes out the
 -- same run by run. The line buffer has the longest body's length, which is room for a line of either profile.
 use mathlib.Core.Path.{_≡_, refl, _∙_, ap, sym, subst}
-use mathlib.Core.Bool.{Bool, true, false, cond, true≢false}
+use mathlib.Core.Bool.{Bool, true, false, cond}
 use mathlib.Core.List.{List, [], _∷_}
 use Prim.Native.Nat.{ℕ, suc, _+_, _≤_, _<_}
 use native.Mathlib.Nat.{add-zero}
@@ -11,20 +11,15 @@ use borrow.Author.Tests.{le-leb}
 use Rattle.refusal.specs.Refusal.{notANibble}
 use Rattle.profile.specs.Profile.{bodyLength, longest}
 use Rattle.profile.specs.LayoutLaws.{body-small}
-use Rattle.stream.specs.Answers.{Outcome, nothing, line, gap, refused}
+use Rattle.stream.specs.AnswersLaws.{no-answer}
+use Rattle.stream.specs.Answers.{Outcome, nothing, refused, answerFor, isAnswer}
 use Rattle.reader.specs.declared.Head.{Head}
 use Rattle.reader.specs.declared.Reader.{Reader}
 use Rattle.reader.specs.Reader.{Took, taking, feedOf}
-use Rattle.run.specs.Run.{Ran, ran, isAnswer, lentRunOf, onward}
+use Rattle.run.specs.Run.{Ran, ran, lentRunOf, onward}
 use Rattle.run.proofs.Running.{lent-right, run-goes}
 use Rattle.reader_laws.specs.Passing.{Small, small-none, small-more, Ok}
 use Rattle.reader_laws.specs.Passes.{passes-test, take-ok}
-
-pub no-answer : (o : Outcome) → isAnswer o ≡ false → o ≡ nothing
-no-answer nothing e = refl
-no-answer (line f body) e = absurd (true≢false e)
-no-answer (gap g) e = absurd (true≢false e)
-no-answer (refused n) e = absurd (true≢false e)
 
 -- a reader after a call, and what the call answered
 abbrev pub took : Reader → Outcome → Took
@@ -55,7 +50,7 @@ fed-taken r n ok l =
 pub run-on : {R : Type 0} (f : ByNibbles R) {w : List ℕ} → Small w → (r : Reader) (i : ℕ) → Ok (r .head) → RunOn f r w i (onward r w i)
 run-on f small-none r i ok =
     record { count = 0; counted = sym (add-zero i); some = λ h. h; within = omega arith; sound = ok; same = sym (f .ignores r []) }
-run-on f (small-more {n} {t = w} h q) r i ok = go (isAnswer (t .outcome)) refl (run-on f q (t .reader) (i + 1) ok-next)
+run-on f (small-more {n} {t = w} h q) r i ok = go (isAnswer (answerFor (t .outcome))) refl (run-on f q (t .reader) (i + 1) ok-next)
   where
     t : Took
     t = taking r n
@@ -69,7 +64,7 @@ run-on f (small-more {n} {t = w} h q) r i ok = go (isAnswer (t .outcome)) refl (
     whole : (b : Bool) → Ran
     whole b = cond b (ran (t .reader) (t .outcome) (i + 1)) (onward (t .reader) w (i + 1))
 
-    by : (b : Bool) → isAnswer (t .outcome) ≡ b → RunOn f (t .reader) w (i + 1) (onward (t .reader) w (i + 1)) → RunOn f r (n ∷ w) i (whole b)
+    by : (b : Bool) → isAnswer (answerFor (t .outcome)) ≡ b → RunOn f (t .reader) w (i + 1) (onward (t .reader) w (i + 1)) → RunOn f r (n ∷ w) i (whole b)
     by true e k =
         record { count = 1; counted = refl; some = λ _. omega arith; within = omega arith; sound = ok-next; same = first }
     by false e k =
@@ -84,10 +79,10 @@ run-on f (small-more {n} {t = w} h q) r i ok = go (isAnswer (t .outcome)) refl (
           same = first ∙ ap (λ (o : Outcome). f .next (took (t .reader) o) w) (no-answer (t .outcome) e) ∙ f .ignores (t .reader) w ∙ k .same;
         }
 
-    go : (b : Bool) → isAnswer (t .outcome) ≡ b → RunOn f (t .reader) w (i + 1) (onward (t .reader) w (i + 1)) → RunOn f r (n ∷ w) i (onward r (n ∷ w) i)
+    go : (b : Bool) → isAnswer (answerFor (t .outcome)) ≡ b → RunOn f (t .reader) w (i + 1) (onward (t .reader) w (i + 1)) → RunOn f r (n ∷ w) i (onward r (n ∷ w) i)
     go b e k =
         subst (λ (x : Ran). RunOn f r (n ∷ w) i x)
-        (ap whole (sym e) ∙ ap (λ (c : Bool). cond c (whole (isAnswer (t .outcome))) (ran r (refused notANibble) i)) (sym (le-leb n 15 (omega arith)))) (by b e k)
+        (ap whole (sym e) ∙ ap (λ (c : Bool). cond c (whole (isAnswer (answerFor (t .outcome)))) (ran r (refused notANibble) i)) (sym (le-leb n 15 (omega arith)))) (by b e k)
 
 -- The run that a call makes.
 

@@ -12,10 +12,11 @@ use borrow.Author.Tests.{leb-true, ne-eqb}
 use Rattle.refusal.specs.Refusal.{notANibble, noRoom}
 use Rattle.profile.specs.declared.Profile.{Profile}
 use Rattle.profile.specs.Profile.{bodyLength}
-use Rattle.stream.specs.Answers.{Outcome, nothing, line, gap, refused, outcomeOf, answerFor, bufferAfter}
+use Rattle.stream.specs.Answers.{Outcome, nothing, line, gap, refused, outcomeOf, answerFor, bufferAfter, isAnswer}
 use Rattle.reader.specs.declared.Reader.{Reader}
 use Rattle.reader.specs.Reader.{Took, freshReader, refusing, taking, feedOf}
-use Rattle.run.specs.Run.{Ran, ran, isAnswer, stops, stopPlace, runOf, onward}
+use Rattle.run.specs.Run.{Ran, ran, stops, stopPlace, runOf, onward}
+use Rattle.stream.specs.AnswersLaws.{no-answer}
 use Rattle.mark_answer.specs.Sound.{refusalOf, at-most-nine}
 use Rattle.reader.specs.ReaderLaws.{take-profile, take-sound}
 use Rattle.recovery.specs.Calls.{Call, feed, FinishLast, takes, Collector, lineCollector, gapCollector, onRun, onTaken, onCollected}
@@ -25,7 +26,6 @@ use Rattle.reader_laws.specs.Passes.{passes-test, fresh-ok, take-ok}
 use Rattle.reader_laws.specs.Passing.{Ok}
 use Rattle.refinement.specs.Refine.{fedOutcomes}
 use Rattle.refinement.specs.ReaderCalls.{readerCall, calls-ok, reader-demand-three}
-use Rattle.reader_laws.specs.ByRuns.{no-answer}
 use Rattle.refinement.specs.Runs.{RunCall, run, one, runResult, runTakes, onRuns, runsTaken, runCollects, runsCollected, answerCollector, feeds, starts, oneByOne, allOneByOne, FinishLastRun, no-call, done-last, feed-first, run-first, SameAsFeeds, RunsMeetDemandThree}
 
 -- One nibble of a run, as a feeding call.
@@ -78,7 +78,7 @@ module _ {A : Type 0} (k : Collector A) (of-nothing : k .fed nothing ≡ []) (p 
   unfolding stops
   counts [] r i ok room = record { same-reader = refl; same-collected = sym of-nothing; count = 0; counted = sym (add-zero i); same-taken = refl }
   counts (n ∷ w) r i ok room =
-      go (leb n 15) (isAnswer (t .outcome)) refl refl λ e.
+      go (leb n 15) (isAnswer (answerFor (t .outcome))) refl refl λ e.
       let l = leb-true n 15 e in
       counts w (t .reader) (i + 1) (take-ok r n (omega arith) ok)
       (ap (λ (q : Profile). leb (bodyLength q) (length buffer)) (take-profile (r .head) _ n) ∙ room)
@@ -95,7 +95,7 @@ module _ {A : Type 0} (k : Collector A) (of-nothing : k .fed nothing ≡ []) (p 
       taken : (later : List ℕ) → takes (answerFor (t .outcome)) n later ≡ n ∷ later
       taken later = takes-it (t .outcome) (at-most-nine (take-sound (r .head) (r .body) n)) n later
 
-      go : (a b : Bool) → leb n 15 ≡ a → isAnswer (t .outcome) ≡ b
+      go : (a b : Bool) → leb n 15 ≡ a → isAnswer (answerFor (t .outcome)) ≡ b
           → (leb n 15 ≡ true → Counts k p (t .reader) w buffer (i + 1) rest (onward (t .reader) w (i + 1)))
           → Counts k p r (n ∷ w) buffer i (feeds buffer (n ∷ cond (not a || b) [] (upTo (t .reader) w)))
           (cond a (cond b (ran (t .reader) (t .outcome) (i + 1)) (onward (t .reader) w (i + 1))) (ran r (refused notANibble) i))
@@ -141,7 +141,7 @@ quietly : (w : List ℕ) (r : Reader) (room : ℕ) → Ok (r .head) → leb (bod
 unfolding stops
 quietly [] r room ok enough = refl
 quietly (n ∷ w) r room ok enough =
-    go (leb n 15) (isAnswer (taking r n .outcome)) refl refl λ e.
+    go (leb n 15) (isAnswer (answerFor (taking r n .outcome))) refl refl λ e.
     let l = leb-true n 15 e in
     quietly w (taking r n .reader) room (take-ok r n (omega arith) ok)
     (ap (λ (q : Profile). leb (bodyLength q) room) (take-profile (r .head) _ n) ∙ enough)
@@ -155,7 +155,7 @@ quietly (n ∷ w) r room ok enough =
     fed : leb n 15 ≡ true → feedOf r n room ≡ t
     fed e = fed-taken r n room ok enough e
 
-    go : (a b : Bool) → leb n 15 ≡ a → isAnswer (t .outcome) ≡ b
+    go : (a b : Bool) → leb n 15 ≡ a → isAnswer (answerFor (t .outcome)) ≡ b
         → (leb n 15 ≡ true → fedOutcomes (λ k. room) (t .reader) (take p w) ≡ replicate p nothing)
         → fedOutcomes (λ k. room) r (take (cond (not a || b) 0 (suc p)) (n ∷ w)) ≡ replicate (cond (not a || b) 0 (suc p)) nothing
     go false b e f h = refl

@@ -5,17 +5,17 @@ use mathlib.Core.List.{List, [], _∷_}
 use Prim.Native.Nat.{ℕ, _+_}
 use lib.Dec.{leb}
 use Rattle.refusal.specs.Refusal.{notANibble}
-use Rattle.stream.specs.Answers.{refused}
+use Rattle.stream.specs.Answers.{refused, answerFor, isAnswer}
 use Rattle.mark_answer.specs.Sound.{Legible, legible}
 use Rattle.reader.specs.declared.Reader.{Reader}
 use Rattle.reader.specs.Reader.{Took, taking}
 use Rattle.reader.specs.ReaderLaws.{take-profile, take-sound}
-use Rattle.run.specs.Run.{ran, isAnswer, onward}
+use Rattle.run.specs.Run.{ran, onward}
 
 legible-onward : (w : List ℕ) (r : Reader) (i : ℕ) (buffer : List ℕ) → Legible (r .head .profile) buffer (onward r w i .outcome)
 legible-onward [] r i buffer = refl
 legible-onward (n ∷ w) r i buffer =
-    go (leb n 15) (isAnswer (t .outcome))
+    go (leb n 15) (isAnswer (answerFor (t .outcome)))
     (subst (λ p. Legible p buffer (onward (t .reader) w (i + 1) .outcome)) (take-profile (r .head) _ n) (legible-onward w (t .reader) (i + 1) buffer))
   where
     t : Took

@@ -17,7 +17,7 @@ use Rattle.profile.specs.declared.Profile.{Profile}
 use Rattle.profile.specs.declared.Profile.the-variants.{VV5404, VV5300}
 use Rattle.profile.specs.Profile.{longest}
 use Rattle.stream.specs.declared.Mark.{Mark}
-use Rattle.stream.specs.Answers.{nothing}
+use Rattle.stream.specs.Answers.{nothing, answerFor, isAnswer}
 use Rattle.mark_answer.specs.declared.Kept.{Kept}
 use Rattle.mark_answer.specs.Kept.{topPlace, bodyPlace, gapStart, byteAt, strayAt, keptAt, bodyAt}
 use Rattle.mark_answer.specs.KeptLaws.{gap-start-small}
@@ -26,7 +26,7 @@ use Rattle.reader.specs.declared.Reader.{Reader}
 use Rattle.reader.specs.Reader.{Took, groupNumber, isMark, slide, countStop, bump, leaveKept, leaveBody, shifted, takeHead, takeOutcome, taking, readerOf}
 use Rattle.reader.specs.ReaderLaws.{bump-more}
 use Rattle.run.specs.declared.Reached.{Reached}
-use Rattle.run.specs.Run.{isAnswer, onward}
+use Rattle.run.specs.Run.{onward}
 use Rattle.run.specs.RunLaws.{onward-on}
 use Rattle.run.specs.Parts.{isNear, isPair, bytePlace, slideByte, strayAfter, strayKept, byteKept, strayed, Leads, Reaches}
 
@@ -130,7 +130,7 @@ one-on : (r : Reader) (s : List ℕ) (i : ℕ) → i < length s → getD s i 0 <
     → onward r (drop i s) i ≡ onward (quietly r (getD s i 0) .reader) (drop (i + 1) s) (i + 1)
 one-on r s i l h e =
     let q = quiet r (getD s i 0) e in
-    onward-on r s i l h (ap (λ t. isAnswer (t .outcome)) q) ∙ ap (λ t. onward (t .reader) (drop (i + 1) s) (i + 1)) q
+    onward-on r s i l h (ap (λ t. isAnswer (answerFor (t .outcome))) q) ∙ ap (λ t. onward (t .reader) (drop (i + 1) s) (i + 1)) q
 
 module _ (r : Reader) {s : List ℕ} {from end i : ℕ} (t : Turn s from end (r .head .window) i) where
   abbrev h₁ : Head

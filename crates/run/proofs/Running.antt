@@ -1,6 +1,6 @@
 -- A run nibble by nibble, as the loop takes it: what a turn brings, and what the run answers where it stops.
 use mathlib.Core.Path.{_≡_, refl, sym, ap, ap₂, _∙_}
-use mathlib.Core.Bool.{Bool, true, false}
+use mathlib.Core.Bool.{true, false}
 use mathlib.Core.List.{List}
 use Prim.Native.Nat.{ℕ, _+_, _≤_, _<_}
 use lib.ListN.{length, getD, drop}
@@ -9,36 +9,19 @@ use Rattle.refusal.specs.Refusal.{notANibble, badState, noRoom}
 use Rattle.profile.specs.declared.Profile.{Profile}
 use Rattle.profile.specs.Profile.{bodyLength, longest}
 use Rattle.stream.specs.declared.Answer.{Answer}
-use Rattle.stream.specs.Answers.{Outcome, nothing, line, gap, refused, outcomeOf, answerFor, bufferAfter, isLine}
+use Rattle.stream.specs.Answers.{Outcome, nothing, refused, outcomeOf, answerFor, bufferAfter, isLine, isAnswer}
 use Rattle.mark_answer.specs.Sound.{Legible}
 use Rattle.reader.specs.declared.Head.{Head}
 use Rattle.reader.specs.Reader.{passes, leaveBody, takeHead, takeOutcome, readerOf}
-use Rattle.run.specs.Run.{Ran, ran, isAnswer, runOf, lentRunOf, onward}
+use Rattle.run.specs.Run.{Ran, ran, runOf, lentRunOf, onward}
 use Rattle.run.specs.RunLaws.{onward-end, onward-above, onward-answered, onward-on}
 use Rattle.run.specs.declared.RunStepped.{RunStepped}
 use Rattle.run.specs.Gives.{RunGives, LentRunGives}
-use Rattle.run.specs.Parts.{ranFrom, Ends, isTold, Leads}
-
--- an outcome that is no answer
-
-told-outcome : (o : Outcome) → isTold (answerFor o) ≡ isAnswer o
-told-outcome nothing = refl
-told-outcome (line f body) = refl
-told-outcome (gap g) = refl
-told-outcome (refused n) = refl
-
-pub answered : {t : Bool} {a : Answer} (o : Outcome) → t ≡ isTold a → a ≡ answerFor o → t ≡ isAnswer o
-answered o e f = e ∙ ap isTold f ∙ told-outcome o
-
-pub nothing-kept : (o : Outcome) (buffer : List ℕ) → isAnswer o ≡ false → bufferAfter o buffer ≡ buffer
-nothing-kept nothing buffer e = refl
-nothing-kept (line f body) buffer e = cc
-nothing-kept (gap g) buffer e = refl
-nothing-kept (refused n) buffer e = refl
+use Rattle.run.specs.Parts.{ranFrom, Ends, Leads}
 
 -- a turn that brings no answer
 pub leads-one : (s : List ℕ) (h : Head) (B : List ℕ) (i : ℕ) {h′ : Head} {B′ : List ℕ} → i < length s → getD s i 0 < 16 → h′ ≡ takeHead h (isLine (takeOutcome h B (getD s i 0))) (getD s i 0)
-    → B′ ≡ leaveBody h B → isAnswer (takeOutcome h B (getD s i 0)) ≡ false → Leads s h B i h′ B′ (i + 1)
+    → B′ ≡ leaveBody h B → isAnswer (answerFor (takeOutcome h B (getD s i 0))) ≡ false → Leads s h B i h′ B′ (i + 1)
 unfolding Leads
 leads-one s h B i l g e f q =
     onward-on (readerOf h B) s i l g q ∙ ap₂ (λ a b. onward (readerOf a b) (drop (i + 1) s) (i + 1)) (sym e) (sym f)
@@ -53,7 +36,7 @@ module _ (s : List ℕ) (start : Head) (B₀ : List ℕ) (h : Head) (B : List �
   unfolding Leads
   stops-above l g = e ∙ onward-above (readerOf h B) s i l g
 
-  pub stops-answered : i < length s → getD s i 0 < 16 → isAnswer (takeOutcome h B (getD s i 0)) ≡ true
+  pub stops-answered : i < length s → getD s i 0 < 16 → isAnswer (answerFor (takeOutcome h B (getD s i 0))) ≡ true
       → ranFrom start B₀ s ≡ ran (readerOf (takeHead h (isLine (takeOutcome h B (getD s i 0))) (getD s i 0)) (leaveBody h B)) (takeOutcome h B (getD s i 0)) (i + 1)
   unfolding Leads
   stops-answered l g f = e ∙ onward-answered (readerOf h B) s i l g f

@@ -1,6 +1,6 @@
 -- What the contracts of the run's private functions cite besides.
 use mathlib.Core.Path.{_≡_}
-use mathlib.Core.Bool.{Bool, true, false, _&&_, not, cond}
+use mathlib.Core.Bool.{Bool, true, _&&_, not, cond}
 use mathlib.Core.List.{List}
 use Prim.Native.Nat.{ℕ, _+_, _-_, _*_, _/_, _%_, _≤_}
 use lib.Dec.{eqb, leb, ltb}
@@ -8,7 +8,6 @@ use lib.ListN.{length, drop, getD}
 use Rattle.profile.specs.declared.Profile.{Profile}
 use Rattle.profile.specs.declared.Profile.the-variants.{VV5404, VV5300}
 use Rattle.stream.specs.declared.Answer.{Answer}
-use Rattle.stream.specs.declared.Answer.the-variants as answers
 use Rattle.stream.specs.Answers.{answerFor, bufferAfter}
 use Rattle.mark_answer.specs.declared.Kept.{Kept}
 use Rattle.reader.specs.declared.Head.{Head}
@@ -27,13 +26,6 @@ pub record Ends (t : Ran) (h : Head) (body : List ℕ) (taken : ℕ) (a : Answer
   pub count : taken ≡ t .taken
   pub says : a ≡ answerFor (t .outcome)
   pub leaves : after ≡ bufferAfter (t .outcome) before
-
--- whether the program's answer is one
-abbrev pub isTold : Answer → Bool
-isTold answers.Nothing = false
-isTold (answers.Line f) = true
-isTold (answers.Gap g) = true
-isTold (answers.Refused n) = true
 
 -- a run from the place i on, and from the place i′ with what is read up to there, is the same
 unfoldable pub Leads : List ℕ → Head → List ℕ → ℕ → Head → List ℕ → ℕ → Type 0

@@ -1,12 +1,12 @@
 -- A run of nibbles in one call (02, A5): it goes on until the first answer, an input above 15, or the run's end.
-use mathlib.Core.Bool.{Bool, true, false, _||_, not, cond}
+use mathlib.Core.Bool.{Bool, _||_, not, cond}
 use mathlib.Core.List.{List, [], _∷_}
 use Prim.Native.Nat.{ℕ, suc, _+_}
 use lib.Dec.{eqb, leb}
 use lib.ListN.{length}
 use Rattle.refusal.specs.Refusal.{notANibble, badState, noRoom}
 use Rattle.profile.specs.Profile.{bodyLength, longest}
-use Rattle.stream.specs.Answers.{Outcome, nothing, line, gap, refused}
+use Rattle.stream.specs.Answers.{Outcome, nothing, refused, answerFor, isAnswer}
 use Rattle.reader.specs.declared.Head.{Head}
 use Rattle.reader.specs.declared.Reader.{Reader}
 use Rattle.reader.specs.Reader.{passes, taking}
@@ -20,20 +20,13 @@ pub record Ran : Type 0 where
 abbrev pub ran : Reader → Outcome → ℕ → Ran
 ran r o i = record { reader = r; outcome = o; taken = i }
 
--- whether an outcome is an answer
-abbrev pub isAnswer : Outcome → Bool
-isAnswer nothing = false
-isAnswer (line f body) = true
-isAnswer (gap g) = true
-isAnswer (refused n) = true
-
 -- a run of which i nibbles are taken, from there on: an input above 15 stops it just before that place with 10; a nibble is taken, and stops
 -- it where it brings an answer
 abbrev pub onward : Reader → List ℕ → ℕ → Ran
 onward r [] i = ran r nothing i
 onward r (n ∷ w) i =
     cond (leb n 15)
-    (cond (isAnswer (taking r n .outcome))
+    (cond (isAnswer (answerFor (taking r n .outcome)))
     (ran (taking r n .reader) (taking r n .outcome) (i + 1))
     (onward (taking r n .reader) w (i + 1)))
     (ran r (refused notANibble) i)
@@ -55,7 +48,7 @@ lentRunOf h body w room =
 
 -- at an input that is above 15, or that brings an answer when it is taken
 unfoldable pub stops : Reader → ℕ → Bool
-stops r n = not (leb n 15) || isAnswer (taking r n .outcome)
+stops r n = not (leb n 15) || isAnswer (answerFor (taking r n .outcome))
 
 -- the place of the first input at which a run stops, from 0; the run's length where there is none
 abbrev pub stopPlace : Reader → List ℕ → ℕ

@@ -12,10 +12,10 @@ use lib.ListN.{length, take, drop, getD, drop-of-length-le}
 use lib.Seq.{drop-cons}
 use Rattle.refusal.specs.Refusal.{notANibble, badState, noRoom}
 use Rattle.profile.specs.Profile.{bodyLength}
-use Rattle.stream.specs.Answers.{nothing, refused}
+use Rattle.stream.specs.Answers.{nothing, refused, answerFor, isAnswer}
 use Rattle.reader.specs.declared.Reader.{Reader}
 use Rattle.reader.specs.Reader.{Took, passes, taking}
-use Rattle.run.specs.Run.{Ran, ran, isAnswer, onward, stops, stopPlace, runOf}
+use Rattle.run.specs.Run.{Ran, ran, onward, stops, stopPlace, runOf}
 
 -- By the place of its stop.
 
@@ -34,7 +34,7 @@ onward-stops : (w : List ℕ) (r : Reader) (i : ℕ)
     → onward r w i ≡ stopping (takingAll r (take (stopPlace r w) w)) (drop (stopPlace r w) w) (i + stopPlace r w)
 unfolding stops
 onward-stops [] r i = ap (ran r nothing) (sym (add-zero i))
-onward-stops (n ∷ w) r i = go (leb n 15) (isAnswer (taking r n .outcome)) refl refl (onward-stops w (taking r n .reader) (i + 1))
+onward-stops (n ∷ w) r i = go (leb n 15) (isAnswer (answerFor (taking r n .outcome))) refl refl (onward-stops w (taking r n .reader) (i + 1))
   where
     t : Took
     t = taking r n
@@ -42,7 +42,7 @@ onward-stops (n ∷ w) r i = go (leb n 15) (isAnswer (taking r n .outcome)) refl
     p : ℕ
     p = stopPlace (t .reader) w
 
-    go : (a b : Bool) → leb n 15 ≡ a → isAnswer (t .outcome) ≡ b
+    go : (a b : Bool) → leb n 15 ≡ a → isAnswer (answerFor (t .outcome)) ≡ b
         → onward (t .reader) w (i + 1) ≡ stopping (takingAll (t .reader) (take p w)) (drop p w) (i + 1 + p)
         → onward r (n ∷ w) i
         ≡ stopping (takingAll r (take (stopPlace r (n ∷ w)) (n ∷ w))) (drop (stopPlace r (n ∷ w)) (n ∷ w)) (i + stopPlace r (n ∷ w))
@@ -70,11 +70,11 @@ module _ (r : Reader) (s : List ℕ) (i : ℕ) where
   pub onward-above : i < length s → 15 < getD s i 0 → onward r (drop i s) i ≡ ran r (refused notANibble) i
   onward-above h g = there h ∙ simp (lt-leb _ _ g)
 
-  pub onward-answered : i < length s → getD s i 0 < 16 → isAnswer (taking r (getD s i 0) .outcome) ≡ true
+  pub onward-answered : i < length s → getD s i 0 < 16 → isAnswer (answerFor (taking r (getD s i 0) .outcome)) ≡ true
       → onward r (drop i s) i ≡ ran (taking r (getD s i 0) .reader) (taking r (getD s i 0) .outcome) (i + 1)
   onward-answered h g f = there h ∙ simp (le-leb (getD s i 0) 15 (omega arith), f)
 
-  pub onward-on : i < length s → getD s i 0 < 16 → isAnswer (taking r (getD s i 0) .outcome) ≡ false
+  pub onward-on : i < length s → getD s i 0 < 16 → isAnswer (answerFor (taking r (getD s i 0) .outcome)) ≡ false
       → onward r (drop i s) i ≡ onward (taking r (getD s i 0) .reader) (drop (i + 1) s) (i + 1)
   onward-on h g f = there h ∙ simp (le-leb (getD s i 0) 15 (omega arith), f)
 

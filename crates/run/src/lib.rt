@@ -17,7 +17,7 @@ ghost use Rattle.reader.specs.Reader.{readerOf, taking};
 ghost use Rattle.reader.specs.Gives.{TakeGives};
 ghost use Rattle.run.specs.Run.{runOf, lentRunOf};
 ghost use Rattle.run.specs.Gives.{RunGives, LentRunGives};
-ghost use Rattle.run.specs.Parts.{ranFrom, Ends, isTold, Reaches, isNear, isPair, bytePlace, slideByte, strayAfter, strayKept, byteKept};
+ghost use Rattle.run.specs.Parts.{ranFrom, Ends, Reaches, isNear, isPair, bytePlace, slideByte, strayAfter, strayKept, byteKept};
 use mark_answer::Kept;
 use profile::Profile;
 use reader::Head;
@@ -110,7 +110,7 @@ fn up_to_stop(start: Head, body: &mut [u8], nibbles: &[u8], buffer: &mut [u8]) -
         let answer = t.answer;
         let after = t.head;
         i += 1;
-        if is_answer(answer) {
+        if answer.is_answer() {
             return RunStepped {
                 head: after,
                 answer,
@@ -137,17 +137,6 @@ fn take(h: Head, body: &mut [u8], nibble: u8, buffer: &mut [u8]) -> Stepped
     h.take(body, nibble, buffer)
 }
 
-fn is_answer(answer: Answer) -> bool
-    ensures { λ r. ⌜ r ≡ isTold answer ⌝ }
-{
-    match answer {
-        Answer::Nothing => false,
-        Answer::Line(_) => true,
-        Answer::Gap(_) => true,
-        Answer::Refused(_) => true,
-    }
-}
-
 // Takes nibbles two a turn, as far as no mark can end in them.
 fn ahead(h: Head, body: &mut [u8], s: &[u8], from: usize) -> Reached
     requires { ⌜ (from ≤ length (now s)) × (length (now body) ≡ longest) ⌝ }
@@ -166,7 +155,7 @@ fn ahead(h: Head, body: &mut [u8], s: &[u8], from: usize) -> Reached
 // The count of a text's nibbles from which its body's bytes leave the window, and from which none is left to come.
 const BODY: u32 = 14;
 
-const PAST: u32 = BODY + 2 * 356;
+const PAST: u32 = BODY + 2 * Profile::LONGEST as u32;
 
 // The code of a text, and the two bytes after it.
 fn before_body(h: Head, s: &[u8], from: usize) -> Reached

@@ -32,7 +32,7 @@ fn write_line(number: u16) {
 }
 
 // The nibbles of the line.
-fn put_nibbles(kind: u8, number: u16, body: &[u8; 356], nibbles: &mut [u8]) -> Filled {
+fn put_nibbles(kind: u8, number: u16, body: &[u8; Profile::LONGEST], nibbles: &mut [u8]) -> Filled {
     let all: &[u8] = body;
     writer::write(
         0,
@@ -72,7 +72,7 @@ fn kind_of(number: u16) -> u8 {
 }
 
 // A body: register contents in SOF, dark pixels in BK, a picture of bars in VL, the filler elsewhere.
-fn fill(kind: u8, number: u16, body: &mut [u8; 356]) {
+fn fill(kind: u8, number: u16, body: &mut [u8; Profile::LONGEST]) {
     let mut i: usize = 0;
     while i < Profile::LONGEST {
         body[i] = byte_at(kind, number, i);

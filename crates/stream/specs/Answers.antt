@@ -77,6 +77,13 @@ isLineAnswer (answer.Line f) = true
 isLineAnswer (answer.Gap g) = false
 isLineAnswer (answer.Refused n) = false
 
+-- whether the program answers at all: not where no mark's answer is due yet
+abbrev pub isAnswer : Answer → Bool
+isAnswer answer.Nothing = false
+isAnswer (answer.Line f) = true
+isAnswer (answer.Gap g) = true
+isAnswer (answer.Refused n) = true
+
 -- a refusal where the test fails
 unfoldable pub require : Bool → ℕ → Outcome → Outcome
 require true n o = o

@@ -1,7 +1,7 @@
 // The meaning of a stream (paper 01, 'Marks and line codes' and 'One answer for each mark'): the types that reader and callers share.
 // The meaning itself is in specs/: Answers.antt, what a mark is answered; Stream.antt, where marks are and what each nibble brings.
 ghost use mathlib.Core.Path.{_≡_};
-ghost use Rattle.stream.specs.Answers.{eitherRepaired, isLineAnswer};
+ghost use Rattle.stream.specs.Answers.{eitherRepaired, isLineAnswer, isAnswer};
 ghost use Rattle.stream.specs.Stream.{kindAt, beforeBy};
 use line_code::Kind;
 use line_code::LineKind;
@@ -61,6 +61,18 @@ impl LineFacts {
 }
 
 impl Answer {
+    // Whether it is one: not where none is due yet.
+    pub fn is_answer(self) -> bool
+        ensures { λ r. ⌜ r ≡ isAnswer self ⌝ }
+    {
+        match self {
+            Answer::Nothing => false,
+            Answer::Line(_) => true,
+            Answer::Gap(_) => true,
+            Answer::Refused(_) => true,
+        }
+    }
+
     // Whether a line is handed out.
     pub fn is_line(self) -> bool
         ensures { λ r. ⌜ r ≡ isLineAnswer self ⌝ }

@@ -6,13 +6,14 @@ use lib.ListN.{length, getD}
 use denote.Ref.{now}
 use borrow.Author.Needs.{needs}
 use Rattle.profile.specs.Profile.{longest, bodyLength}
-use Rattle.stream.specs.Answers.{bufferAfter}
+use Rattle.stream.specs.Answers.{Outcome, bufferAfter, isAnswer}
+use Rattle.stream.specs.AnswersLaws.{no-answer}
 use Rattle.reader.specs.declared.Head.{Head}
 use Rattle.reader.specs.Reader.{takeOutcome}
 use Rattle.run.specs.Parts.{Leads}
 use Rattle.reader.specs.ReaderLaws.{take-profile}
 use Rattle.run.proofs.Pairs.{leads-here, leads-on}
-use Rattle.run.proofs.Running.{answered, nothing-kept, leads-one, stops-end, stops-above, stops-answered, ends, ends-as}
+use Rattle.run.proofs.Running.{leads-one, stops-end, stops-above, stops-answered, ends, ends-as}
 use Rattle.run.proofs.up_to_stop.Statement.{statement}
 use Rattle.run.proofs.up_to_stop.Tie as tie
 
@@ -67,8 +68,8 @@ returns-2 c =
     let e = c .before .before .before .before .before .before .before .take .ensures in
     let s = now (a .nibbles) in
     let led = leads-on s _ _ _ _ _ _ _ _ _ (ahead .ensures .leads) (l .inv .0) in
-    let told = sym (answered (takeOutcome (l .h) (l .body) (getD s (l .i) 0)) (c .before .is-answer .ensures) (e .says)) ∙ c .if2 .taken in
-    ends-as (ends (now (a .buffer)) (stops-answered s _ _ _ _ _ led (loop-test .taken) (omega arith) told) (e .says) (e .leaves ∙ ap (bufferAfter (takeOutcome (l .h) (l .body) (getD s (l .i) 0))) (l .inv .2))) (e .next) (e .keeps) refl
+    let some = sym (c .before .is-answer .ensures ∙ ap isAnswer (e .says)) ∙ c .if2 .taken in
+    ends-as (ends (now (a .buffer)) (stops-answered s _ _ _ _ _ led (loop-test .taken) (omega arith) some) (e .says) (e .leaves ∙ ap (bufferAfter (takeOutcome (l .h) (l .body) (getD s (l .i) 0))) (l .inv .2))) (e .next) (e .keeps) refl
 
 loop-less : tie.Need-loop-less Inv-loop μ-loop
 loop-less c =
@@ -83,11 +84,11 @@ loop-again c =
     let e = c .before .before .before .before .before .before .before .before .before .before .before .before .take .ensures in
     let f = c .before .before .before .ahead2 .ensures in
     let s = now (a .nibbles) in
-    let quiet = sym (answered (takeOutcome (l .h) (l .body) (getD s (l .i) 0)) (c .before .before .before .before .before .before .is-answer .ensures) (e .says)) ∙ c .before .before .before .before .before .if2 .left in (
+    let quiet = sym (c .before .before .before .before .before .before .is-answer .ensures ∙ ap isAnswer (e .says)) ∙ c .before .before .before .before .before .if2 .left in (
       leads-on s _ _ _ _ _ _ _ _ _ (l .inv .0)
           (leads-on s _ _ _ _ _ _ _ _ _ (leads-one s (l .h) (l .body) (l .i) (loop-test .taken) (omega arith) (e .next) (e .keeps) quiet) (f .leads)),
       f .within,
-      e .leaves ∙ nothing-kept (takeOutcome (l .h) (l .body) (getD s (l .i) 0)) (l .buffer) quiet ∙ l .inv .2,
+      e .leaves ∙ ap (λ (o : Outcome). bufferAfter o (l .buffer)) (no-answer (takeOutcome (l .h) (l .body) (getD s (l .i) 0)) quiet) ∙ l .inv .2,
       search needs,
       f .same-profile ∙ ap (λ (h : Head). h .profile) (e .next) ∙ take-profile (l .h) _ _ ∙ l .inv .4,
     )

@@ -4,7 +4,7 @@ use lib.ListN.{length}
 use denote.Ref.{now}
 use borrow.Author.Needs.{needs}
 use Rattle.reader.specs.ReaderLaws.{legible-feed}
-use Rattle.reader.proofs.Taking.{feed-goes, feed-fails, feeds, feed-refused}
+use Rattle.reader.proofs.Taking.{feed-goes, feed-fails, feeds, feed-refuses}
 use Rattle.reader.proofs.Reader.feed.Statement.{statement}
 use Rattle.reader.proofs.Reader.feed.Tie as tie
 
@@ -20,7 +20,7 @@ returns c =
 returns-2 : tie.Need-returns-2
 returns-2 c =
     let a = c .before .before .before .before .args in
-    feed-refused (a .self) (now (a .buffer)) (feed-fails (a .self) (a .nibble) (length (now (a .buffer))) (sym (c .before .passes .ensures) ∙ c .if1 .left))
+    feed-refuses (a .self) (now (a .buffer)) (feed-fails (a .self) (a .nibble) (length (now (a .buffer))) (sym (c .before .passes .ensures) ∙ c .if1 .left))
 
 pub feed-spec : {M : Type 1} → statement M
 feed-spec =
