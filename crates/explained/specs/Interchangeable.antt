@@ -17,11 +17,11 @@ use Rattle.stream.specs.declared.Mark.the-variants.{NoMark, Open}
 use Rattle.stream.specs.Answers.{Outcome, nothing, isLine}
 use Rattle.stream.specs.Stream.{kindAt, beforeBy}
 use Rattle.mark_answer.specs.declared.Kept.{Kept}
-use Rattle.mark_answer.specs.Kept.{topPlace, nothingKept, keptAt, bodyAt}
+use Rattle.mark_answer.specs.Kept.{nothingKept, keptAt, bodyAt}
 use Rattle.mark_answer.specs.Judge.{judge}
 use Rattle.reader.specs.declared.Head.{Head}
 use Rattle.reader.specs.declared.Reader.{Reader}
-use Rattle.reader.specs.Reader.{Took, isMark, slide, bump, countStop, leaveKept, leaveBody, opened, shifted, flushed, takeHead, takeOutcome, taking, freshReader, refusing, passes, feedOf, finishOf}
+use Rattle.reader.specs.Reader.{Took, topPlace, isMark, slide, bump, countStop, leaveKept, leaveBody, opened, shifted, flushed, takeHead, takeOutcome, taking, freshReader, refusing, passes, feedOf, finishOf}
 use Rattle.reader_laws.specs.Passes.{finished, fresh-ok, feed-ok, passes-test}
 use Rattle.reader_laws.specs.Passing.{Ok}
 use Rattle.refinement.specs.Refine.{no-body, finish-passed}

@@ -20,9 +20,9 @@ use Rattle.stream.specs.declared.GapFacts.{GapFacts}
 use Rattle.stream.specs.declared.LineFacts.{LineFacts}
 use Rattle.stream.specs.declared.Answer.the-variants as answers
 use Rattle.stream.specs.Answers.{eitherRepaired, refused, answerFor, isAnswer}
-use Rattle.mark_answer.specs.Kept.{topPlace, bodyAt}
+use Rattle.mark_answer.specs.Kept.{bodyAt}
 use Rattle.reader.specs.declared.Reader.{Reader}
-use Rattle.reader.specs.Reader.{Took, passes, freshReader, taking, finishOf, leaveBody}
+use Rattle.reader.specs.Reader.{Took, topPlace, passes, freshReader, taking, finishOf, leaveBody}
 use Rattle.run.specs.Run.{Ran, ran, runOf, onward}
 use Rattle.run.specs.RunLaws.{none-taken}
 use Rattle.reader_laws.specs.Passes.{passes-test, Finishing, finish-state, finish-taken, finishing, fresh-ok, take-ok, finish-ok}

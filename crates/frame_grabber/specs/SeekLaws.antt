@@ -15,10 +15,9 @@ use Rattle.profile.specs.Profile.{longest}
 use Rattle.stream.specs.Answers.{Outcome}
 use Rattle.stream.specs.Answers as answers
 use Rattle.reader.specs.declared.Reader.{Reader}
-use Rattle.mark_answer.specs.Kept.{topPlace}
 use Rattle.mark_answer.specs.Judge.{judge}
 use Rattle.reader.specs.declared.Head.{Head}
-use Rattle.reader.specs.Reader.{Took, groupNumber, isMark, slide, leaveKept, leaveBody, shifted, opened, takeHead, takeOutcome, taking, feedOf}
+use Rattle.reader.specs.Reader.{Took, topPlace, groupNumber, isMark, slide, leaveKept, leaveBody, shifted, opened, takeHead, takeOutcome, taking, feedOf}
 use Rattle.reader_laws.specs.ByRuns.{took}
 use Rattle.reader_laws.specs.Passes.{Feeding, feed-state, feed-nibble, feed-room, feed-taken, feeding}
 use Rattle.frame.specs.declared.Judge.{Judge}

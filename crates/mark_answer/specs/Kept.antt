@@ -9,10 +9,6 @@ use Rattle.profile.specs.declared.Profile.the-variants.{VV5404, VV5300}
 use Rattle.profile.specs.Profile.{longest}
 use Rattle.mark_answer.specs.declared.Kept.{Kept}
 
--- the weight of the oldest nibble in a window of eight: 16 ^ 7
-abbrev pub topPlace : ℕ
-topPlace = 268435456
-
 -- the place of a line's first body nibble: code and number stand before it
 abbrev pub bodyPlace : ℕ
 bodyPlace = 6

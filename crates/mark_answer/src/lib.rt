@@ -5,12 +5,12 @@
 ghost use mathlib.Core.Path.{_≡_};
 ghost use mathlib.Core.List.{[]};
 ghost use mathlib.Core.Option.{none, some};
-ghost use Prim.Native.Nat.{ℕ, _+_, _*_, _/_, _<_, min};
+ghost use Prim.Native.Nat.{ℕ, _+_, _*_, _/_, _%_, _<_, min};
 ghost use Rattle.line_code.specs.LineCode.{readingOf};
 ghost use Rattle.line_code.specs.declared.Repair.{Repair};
 ghost use Rattle.period.specs.Period.{mostNibbles};
 ghost use Rattle.stream.specs.Answers.{answerFor, groupNibbles, lineNibbles, periodOf};
-ghost use Rattle.mark_answer.specs.Kept.{nothingKept, topPlace, byteAt, gapStart, strayAt, keptAt, bodyAt};
+ghost use Rattle.mark_answer.specs.Kept.{nothingKept, byteAt, gapStart, strayAt, keptAt, bodyAt};
 ghost use Rattle.mark_answer.specs.Judge.{judgeBody, judgeLine, judgeGap, judgeEnd, judgeMeaning, judge};
 use line_code::Kind;
 use line_code::Meaning;
@@ -24,9 +24,6 @@ use stream::Before;
 use stream::GapFacts;
 use stream::LineFacts;
 use stream::Mark;
-
-// The weight of the oldest nibble in a window of eight.
-pub const TOP_PLACE: u32 = 0x1000_0000;
 
 // What is kept of a text besides the body: the two bytes after the code (a line's number, or a gap's bytes), and whether a nibble where
 // a gap has nothing but F was another.
@@ -48,11 +45,11 @@ impl Kept {
         }
     }
 
-    // With the oldest nibble of a window, which is the text's nibble at the place.
-    pub fn commit(self, profile: Profile, place: u32, window: u32) -> Kept
-        ensures { λ r. ⌜ r ≡ keptAt profile place (window / topPlace) self ⌝ }
+    // With the text's nibble at the place: of a byte above 15 the low four bits.
+    pub fn commit(self, profile: Profile, place: u32, nibble: u8) -> Kept
+        ensures { λ r. ⌜ r ≡ keptAt profile place (nibble % 16) self ⌝ }
     {
-        let nibble = top(window);
+        let nibble = low_four(nibble);
         let first = byte_at(2, place, nibble, self.first);
         let second = byte_at(4, place, nibble, self.second);
         let stray = stray_at(profile, place, nibble, self.stray);
@@ -74,10 +71,9 @@ pub fn gap_start(profile: Profile) -> u32
     }
 }
 
-// Puts the oldest nibble of a window, which is the text's nibble at the place, into the body, if it belongs there and the body reaches so
-// far.
-pub fn store(body: &mut [u8], place: u32, window: u32)
-    ensures { λ _. ⌜ now (body .exit) ≡ bodyAt place (window / topPlace) (now (body .entry)) ⌝ }
+// Puts the text's nibble at the place, of a byte above 15 the low four bits, into the body, if it belongs there and the body reaches so far.
+pub fn store(body: &mut [u8], place: u32, nibble: u8)
+    ensures { λ _. ⌜ now (body .exit) ≡ bodyAt place (nibble % 16) (now (body .entry)) ⌝ }
 {
     if place < BODY_PLACE {
         return;
@@ -89,7 +85,7 @@ pub fn store(body: &mut [u8], place: u32, window: u32)
     if body.len() <= i {
         return;
     }
-    let nibble = top(window);
+    let nibble = low_four(nibble);
     if place % 2 == 0 {
         body[i] = 16 * nibble;
     } else {
@@ -148,11 +144,11 @@ pub fn at_finish(profile: Profile, mark: Mark, length: u32, kept: Kept) -> Answe
 // The place in a text of a line's first body nibble, and of a profile 1 gap's first F.
 const BODY_PLACE: u32 = 6;
 
-// The oldest nibble of a window of eight.
-fn top(window: u32) -> u8
-    ensures { λ r. ⌜ (r ≡ window / topPlace) × (r < 16) ⌝ }
+// The low four bits of a byte: a nibble is itself.
+fn low_four(byte: u8) -> u8
+    ensures { λ r. ⌜ (r ≡ byte % 16) × (r < 16) ⌝ }
 {
-    (window / TOP_PLACE) as u8
+    byte % 16
 }
 
 // A byte with another low nibble.

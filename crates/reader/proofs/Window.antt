@@ -1,8 +1,12 @@
 -- The window as the code computes it: nibbles shifted out, and flushed.
 use mathlib.Core.Path.{_≡_, ap, sym, _∙_}
-use Prim.Native.Nat.{ℕ, zero, suc, _+_, _-_, _*_, _/_, _^_, _≤_, _<_}
+use mathlib.Core.List.{List}
+use Prim.Native.Nat.{ℕ, zero, suc, _+_, _-_, _*_, _/_, _%_, _^_, _≤_, _<_}
 use native.Mathlib.Omega.{arith}
 use lib.Pow.{shr-shr}
+use Rattle.profile.specs.declared.Profile.{Profile}
+use Rattle.mark_answer.specs.declared.Kept.{Kept}
+use Rattle.mark_answer.specs.Kept.{keptAt, bodyAt}
 use Rattle.reader.specs.declared.Head.{Head}
 use Rattle.reader.specs.Reader.{aged, shifted, flushed}
 
@@ -25,3 +29,13 @@ pub flushed-all : (i : ℕ) (h : Head) → 8 ≤ i → flushed (8 - i) h ≡ h
 flushed-all i h l =
     let e : 8 - i ≡ 0 = omega arith in
     ap (λ (n : ℕ). flushed n h) e
+
+-- a nibble is its own low four bits
+low-four : {v w : ℕ} → (v ≡ w) × (v < 16) → v % 16 ≡ w
+low-four e = omega (arith, e .0, e .1)
+
+pub kept-nibble : (p : Profile) (k : ℕ) (t : Kept) {v w : ℕ} {r : Kept} → r ≡ keptAt p k (v % 16) t → (v ≡ w) × (v < 16) → r ≡ keptAt p k w t
+kept-nibble p k t e f = e ∙ ap (λ (n : ℕ). keptAt p k n t) (low-four f)
+
+pub body-nibble : (k : ℕ) (b : List ℕ) {v w : ℕ} {r : List ℕ} → r ≡ bodyAt k (v % 16) b → (v ≡ w) × (v < 16) → r ≡ bodyAt k w b
+body-nibble k b e f = e ∙ ap (λ (n : ℕ). bodyAt k n b) (low-four f)

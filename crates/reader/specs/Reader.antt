@@ -19,7 +19,7 @@ use Rattle.stream.specs.declared.Mark.the-variants.{NoMark, Open}
 use Rattle.stream.specs.Answers.{Outcome, nothing, refused, isLine}
 use Rattle.stream.specs.Stream.{kindAt, beforeBy}
 use Rattle.mark_answer.specs.declared.Kept.{Kept}
-use Rattle.mark_answer.specs.Kept.{topPlace, gapStart, nothingKept, keptAt, bodyAt}
+use Rattle.mark_answer.specs.Kept.{gapStart, nothingKept, keptAt, bodyAt}
 use Rattle.mark_answer.specs.Judge.{judge}
 use Rattle.reader.specs.declared.Head.{Head}
 use Rattle.reader.specs.declared.Reader.{Reader}
@@ -34,6 +34,10 @@ abbrev pub readerOf : Head → List ℕ → Reader
 readerOf h body = record { head = h; body = body }
 
 -- The window.
+
+-- the weight of the oldest nibble in a window of eight: 16 ^ 7
+abbrev pub topPlace : ℕ
+topPlace = 268435456
 
 -- F F F F 0 0 as a number, newest nibble lowest
 abbrev pub groupNumber : ℕ

@@ -5,13 +5,13 @@
 // Refused, with reader and buffer as before: 11 a state that fails the reader's own test, 10 an input above 15, 12 a buffer shorter than
 // the body. Cost: constant for a nibble; a body is scanned and copied only where a line is answered.
 ghost use mathlib.Core.Path.{_≡_};
-ghost use Prim.Native.Nat.{_≤_, _<_, _-_};
+ghost use Prim.Native.Nat.{_≤_, _<_, _-_, _/_};
 ghost use lib.ListN.{length};
 ghost use Rattle.profile.specs.Profile.{bodyLength, longest};
 ghost use Rattle.stream.specs.declared.Before.{Before};
 ghost use Rattle.stream.specs.declared.Mark.the-variants.{NoMark, Open};
 ghost use Rattle.stream.specs.Answers.{outcomeOf, answerFor, bufferAfter, refused};
-ghost use Rattle.reader.specs.Reader.{readerOf, isMark, slide, bump, leaveKept, leaveBody, shifted, opened, aged, windowFits, handedFits, passes, freshReader, newOf, taking, takeOf, feedOf, flushed, finishOf};
+ghost use Rattle.reader.specs.Reader.{readerOf, topPlace, isMark, slide, bump, leaveKept, leaveBody, shifted, opened, aged, windowFits, handedFits, passes, freshReader, newOf, taking, takeOf, feedOf, flushed, finishOf};
 ghost use Rattle.reader.specs.Gives.{CallGives, FeedGives, TakeGives};
 ghost use Rattle.reader.specs.Parts.{completing, copied};
 use mark_answer::Kept;
@@ -194,6 +194,9 @@ const COUNT_STOP: u32 = Nibbles::MOST as u32 + WINDOW;
 // The nibbles of a full window: a mark's F F F F 0 0 and its code.
 const WINDOW: u32 = 8;
 
+// The weight of the oldest nibble in a full window.
+const TOP_PLACE: u32 = 0x1000_0000;
+
 // F F F F 0 0 as a number, newest nibble lowest.
 const GROUP: u32 = 0xFFFF00;
 
@@ -283,10 +286,17 @@ fn slide(window: u32, nibble: u8) -> u32
     requires { ⌜ nibble < 16 ⌝ }
     ensures { λ r. ⌜ r ≡ slide window nibble ⌝ }
 {
-    window % mark_answer::TOP_PLACE * 16 + nibble as u32
+    window % TOP_PLACE * 16 + nibble as u32
 }
 
-// A full window's oldest nibble leaves it.
+// A full window's oldest nibble.
+fn top(window: u32) -> u8
+    ensures { λ r. ⌜ (r ≡ window / topPlace) × (r < 16) ⌝ }
+{
+    (window / TOP_PLACE) as u8
+}
+
+// It leaves the window.
 fn leave_kept(h: Head) -> Kept
     ensures { λ r. ⌜ r ≡ leaveKept h ⌝ }
 {
@@ -295,7 +305,7 @@ fn leave_kept(h: Head) -> Kept
         return kept;
     }
     let p = h.profile;
-    kept.commit(p, h.count - WINDOW, h.window)
+    kept.commit(p, h.count - WINDOW, top(h.window))
 }
 
 fn leave_body(h: Head, body: &mut [u8])
@@ -304,7 +314,7 @@ fn leave_body(h: Head, body: &mut [u8])
     if h.count < WINDOW {
         return;
     }
-    mark_answer::store(body, h.count - WINDOW, h.window);
+    mark_answer::store(body, h.count - WINDOW, top(h.window));
 }
 
 // The count of a text's nibbles with one more, held at its stop.

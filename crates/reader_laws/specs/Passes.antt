@@ -18,11 +18,11 @@ use Rattle.stream.specs.declared.Mark.{Mark}
 use Rattle.stream.specs.declared.Mark.the-variants.{NoMark, Open}
 use Rattle.stream.specs.Answers.{Outcome, nothing, refused, isLine}
 use Rattle.stream.specs.Stream.{kindAt, beforeBy}
-use Rattle.mark_answer.specs.Kept.{topPlace, gapStart, strayAt, keptAt}
+use Rattle.mark_answer.specs.Kept.{gapStart, strayAt, keptAt}
 use Rattle.mark_answer.specs.Judge.{judge}
 use Rattle.reader.specs.declared.Head.{Head}
 use Rattle.reader.specs.declared.Reader.{Reader}
-use Rattle.reader.specs.Reader.{Took, groupNumber, isMark, slide, countStop, bump, leaveKept, leaveBody, shifted, opened, aged, windowFits, handedFits, passes, freshReader, refusing, takeHead, takeOutcome, taking, feedOf, flushed, finishOf}
+use Rattle.reader.specs.Reader.{Took, topPlace, groupNumber, isMark, slide, countStop, bump, leaveKept, leaveBody, shifted, opened, aged, windowFits, handedFits, passes, freshReader, refusing, takeHead, takeOutcome, taking, feedOf, flushed, finishOf}
 use Rattle.reader_laws.specs.Passing.{Fits, Passed, Byte, Ok}
 use Rattle.mark_answer.specs.KeptLaws.{gap-start-small}
 use Rattle.mark_answer.specs.Sound.{Sound, line-ends, judge-sound, refusalOf, at-most-nine}

@@ -19,11 +19,11 @@ use Rattle.profile.specs.Profile.{longest}
 use Rattle.stream.specs.declared.Mark.{Mark}
 use Rattle.stream.specs.Answers.{nothing, answerFor, isAnswer}
 use Rattle.mark_answer.specs.declared.Kept.{Kept}
-use Rattle.mark_answer.specs.Kept.{topPlace, bodyPlace, gapStart, byteAt, strayAt, keptAt, bodyAt}
+use Rattle.mark_answer.specs.Kept.{bodyPlace, gapStart, byteAt, strayAt, keptAt, bodyAt}
 use Rattle.mark_answer.specs.KeptLaws.{gap-start-small}
 use Rattle.reader.specs.declared.Head.{Head}
 use Rattle.reader.specs.declared.Reader.{Reader}
-use Rattle.reader.specs.Reader.{Took, groupNumber, isMark, slide, countStop, bump, leaveKept, leaveBody, shifted, takeHead, takeOutcome, taking, readerOf}
+use Rattle.reader.specs.Reader.{Took, topPlace, groupNumber, isMark, slide, countStop, bump, leaveKept, leaveBody, shifted, takeHead, takeOutcome, taking, readerOf}
 use Rattle.reader.specs.ReaderLaws.{bump-more}
 use Rattle.run.specs.declared.Reached.{Reached}
 use Rattle.run.specs.Run.{onward}

@@ -37,11 +37,11 @@ returns-3 c =
 
 returns-4 : tie.Need-returns-4
 unfolding bodyAt
-returns-4 c = simp (le-leb _ _ (c .before .before .before .before .if1 .left), lt-ltb _ _ (c .before .before .before .if2 .left), eq-eqb _ _ (c .if4 .taken), c .before .top .ensures .0)
+returns-4 c = simp (le-leb _ _ (c .before .before .before .before .if1 .left), lt-ltb _ _ (c .before .before .before .if2 .left), eq-eqb _ _ (c .if4 .taken), c .before .low-four .ensures .0)
 
 returns-5 : tie.Need-returns-5
 unfolding bodyAt
-returns-5 c = simp (le-leb _ _ (c .before .before .before .before .before .before .if1 .left), lt-ltb _ _ (c .before .before .before .before .before .if2 .left), ne-eqb _ _ (c .before .before .if4 .left), c .with-low .ensures, c .before .before .before .top .ensures .0)
+returns-5 c = simp (le-leb _ _ (c .before .before .before .before .before .before .if1 .left), lt-ltb _ _ (c .before .before .before .before .before .if2 .left), ne-eqb _ _ (c .before .before .if4 .left), c .with-low .ensures, c .before .before .before .low-four .ensures .0)
 
 pub store-spec : {M : Type 1} → statement M
 store-spec =

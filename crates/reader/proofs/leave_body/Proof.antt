@@ -1,6 +1,7 @@
 -- Below eight nibbles none leaves the window; from there on the oldest is stored at its place, the count less eight.
 use borrow.Author.Tests.{le-leb, lt-leb}
 use Rattle.reader.specs.Reader.{leaveBody}
+use Rattle.reader.proofs.Window.{body-nibble}
 use borrow.Author.Needs.{needs}
 use Rattle.reader.proofs.leave_body.Statement.{statement}
 use Rattle.reader.proofs.leave_body.Tie as tie
@@ -11,7 +12,9 @@ returns c = simp (lt-leb _ _ (c .if1 .taken))
 
 returns-2 : tie.Need-returns-2
 unfolding leaveBody
-returns-2 c = simp (le-leb _ _ (c .before .before .before .before .before .if1 .left), c .before .before .store .ensures)
+returns-2 c =
+    let test = c .before .before .before .before .before .before .if1 in
+    simp (le-leb _ _ (test .left)) (body-nibble _ _ (c .before .before .store .ensures) (c .before .before .before .top .ensures))
 
 pub leave-body-spec : {M : Type 1} → statement M
-leave-body-spec = tie.close (tie.spec returns (λ c κs. search needs) (λ c. search needs) returns-2)
+leave-body-spec = tie.close (tie.spec returns (λ c κs. search needs) (λ c κs. search needs) (λ c. search needs) returns-2)

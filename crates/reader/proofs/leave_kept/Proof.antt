@@ -1,6 +1,7 @@
 -- Below eight nibbles none leaves the window; from there on the oldest is kept by its place, the count less eight.
 use borrow.Author.Tests.{le-leb, lt-leb}
 use Rattle.reader.specs.Reader.{leaveKept}
+use Rattle.reader.proofs.Window.{kept-nibble}
 use borrow.Author.Needs.{needs}
 use Rattle.reader.proofs.leave_kept.Statement.{statement}
 use Rattle.reader.proofs.leave_kept.Tie as tie
@@ -11,7 +12,8 @@ returns c = simp (lt-leb _ _ (c .if1 .taken))
 
 returns-2 : tie.Need-returns-2
 unfolding leaveKept
-returns-2 c = simp (le-leb _ _ (c .before .before .if1 .left), c .commit .ensures)
+returns-2 c =
+    simp (le-leb _ _ (c .before .before .before .if1 .left)) (kept-nibble _ _ _ (c .commit .ensures) (c .before .top .ensures))
 
 pub leave-kept-spec : {M : Type 1} → statement M
-leave-kept-spec = tie.close (tie.spec returns (λ c κs. search needs) returns-2)
+leave-kept-spec = tie.close (tie.spec returns (λ c κs. search needs) (λ c κs. search needs) returns-2)

@@ -1,4 +1,4 @@
--- Each of the three things kept is brought up to date by its own function, all from the oldest nibble of the window.
+-- Each of the three things kept is brought up to date by its own function, all from the one nibble.
 use Rattle.mark_answer.specs.Kept.{keptAt}
 use borrow.Author.Needs.{needs}
 use Rattle.mark_answer.proofs.Kept.commit.Statement.{statement}
@@ -6,7 +6,7 @@ use Rattle.mark_answer.proofs.Kept.commit.Tie as tie
 
 returns : tie.Need-returns
 unfolding keptAt
-returns c = simp (c .stray-at .ensures, c .before .byte-at2 .ensures, c .before .before .byte-at .ensures, c .before .before .before .top .ensures .0)
+returns c = simp (c .stray-at .ensures, c .before .byte-at2 .ensures, c .before .before .byte-at .ensures, c .before .before .before .low-four .ensures .0)
 
 pub commit-spec : {M : Type 1} → statement M
 commit-spec =
