@@ -14,7 +14,7 @@ use Rattle.profile.specs.Profile.{bodyLength, longest}
 use Rattle.stream.specs.Answers.{nothing, refused}
 use Rattle.reader.specs.declared.Head.{Head}
 use Rattle.reader.specs.declared.Reader.{Reader}
-use Rattle.reader.specs.Reader.{Took, passes, taking, readerOf}
+use Rattle.reader.specs.Reader.{passes, taking, readerOf}
 use Rattle.reader.proofs.Told.{take-profile}
 use Rattle.run.specs.Run.{Ran, ran, isAnswer, onward, runOf, lentRunOf}
 use Rattle.reader_laws.specs.Passing.{Small, Byte, Ok}
