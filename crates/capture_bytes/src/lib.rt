@@ -87,7 +87,7 @@ fn goes_on(answer: Answer, at: usize, bytes: usize) -> bool
 }
 
 // Runs over the nibbles of bytes from a place on, up to the end of the byte before another. A run is called here alone, so that it is compiled
-// into its place: called at two it was 1.2 times as slow.
+// into its place: called at three it was about 1.1 times as slow.
 fn run_portion(
     h: Head,
     body: &mut [u8],
