@@ -26,7 +26,7 @@ use Rattle.frame.specs.declared.Judge.the-variants.{Waiting, Due}
 use Rattle.frame.specs.declared.Judged.{Judged}
 use Rattle.frame.specs.declared.Ruling.the-variants as ruling
 use Rattle.frame.specs.Frame.{layout, kindsOf, lastPlace, kindAt, standsAt, kindDue, opens, begun, passes, gives}
-use Rattle.frame.specs.Calls.{Line, line, called, after, isBreak, accepts, accepted, fits, laidFrom, IsFrame}
+use Rattle.frame.specs.Calls.{Line, called, after, isBreak, accepts, accepted, fits, laidFrom, IsFrame}
 use Rattle.bits.specs.Agree.{agree}
 use Rattle.frame.specs.FrameLaws.{frame-length, passes-high, after-snoc, accepted-snoc, opens-is, first-is, sof-within, IsDue, Effect, wrongKind, wrongNumber, waits, breaks, strays, starts, restarts, goes, ends, effect, reached-passes, complete-frame}
 use Rattle.frame.specs.Handing.{handedOver, asLines, handedLines}

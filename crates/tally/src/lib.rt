@@ -1,8 +1,8 @@
 // The frames of a capture (paper 01, 'Frames of profile 0'): how many are complete, how many are broken, and why.
 //
 // In: the answer of each call to the reader, in order; at the end, finish's. Out: beside the next tally, news of a frame that is complete,
-// broken, or cut off by the capture's end. What frame::handed_over has of an answer is handed to the judge. Nothing is
-// refused; where the judge refuses 11, 13 or 14, which leave it as it was, the mark is counted. Cost: constant.
+// broken, or cut off by the capture's end. What frame::handed_over has of an answer is handed to the judge. Nothing is refused; where the
+// judge refuses 11, 13 or 14, which leave it as it was, the mark is counted. Cost: constant.
 ghost use mathlib.Core.Path.{_≡_};
 ghost use Rattle.tally.specs.Tally.{freshTally, oneMore, quiet, marked, markedBy, ownAnswer, bordersOf, opening, moved, completed, brokenBy, refusedBy, handed, takeOf, isUnfinished, cutOf, closeOf, isGood};
 use frame::Borders;

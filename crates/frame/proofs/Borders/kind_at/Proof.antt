@@ -1,6 +1,5 @@
 -- The kind by ranges in the frame's layout is the kind in its list of kinds (PlaceLaws).
 use mathlib.Core.Path.{sym, ap, _∙_}
-use Prim.Native.Nat.{ℕ}
 use Rattle.frame.specs.declared.Layout.{Layout}
 use Rattle.frame.specs.Places.{kindWithin}
 use Rattle.frame.proofs.PlaceLaws.{places}
