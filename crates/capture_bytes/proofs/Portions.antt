@@ -8,18 +8,18 @@ use borrow.Author.Tests.{ltb-true, ltb-false}
 use lib.Dec.{ltb}
 use lib.ListN.{length, drop, getD, drop-of-length-le}
 use Rattle.profile.specs.declared.Profile.{Profile}
-use Rattle.stream.specs.Answers.{outcomeOf, bufferAfter}
+use Rattle.stream.specs.Answers.{Outcome, outcomeOf, answerFor, bufferAfter, isAnswer}
+use Rattle.stream.specs.AnswersLaws.{answer-of, no-answer}
 use Rattle.stream.specs.Written.{nibbles}
+use Rattle.stream.specs.NibblesLaws.{nibbles-length}
 use Rattle.reader.specs.declared.Head.{Head}
 use Rattle.run.specs.declared.RunStepped.{RunStepped}
-use Rattle.run.specs.Run.{Ran, ran, isAnswer, lentRunOf}
+use Rattle.run.specs.Run.{Ran, ran, lentRunOf}
 use Rattle.run.specs.Gives.{LentRunGives}
-use Rattle.run.specs.Parts.{isTold}
-use Rattle.run.proofs.Running.{answered, nothing-kept}
 use Rattle.reader_laws.specs.Passing.{Small, Byte}
-use Rattle.reader_laws.specs.ByRuns.{small-drop, answer-of}
+use Rattle.reader_laws.specs.SmallLaws.{small-drop}
 use Rattle.capture_bytes.specs.Unpacked.{portion}
-use Rattle.capture_bytes.specs.UnpackedLaws.{nibbles-length, nibbles-small, small-front, portion-length, portion-first}
+use Rattle.capture_bytes.specs.UnpackedLaws.{nibbles-small, small-front, portion-length, portion-first}
 use Rattle.capture_bytes.specs.EndToEnd.{later, Goes, lent-stays, lent-goes, lent-within}
 
 -- bytes are run over up to the place `at`: the reader there, that it brings from there on what the first does, and the line buffer as lent
@@ -61,7 +61,7 @@ module _ {h₀ : Head} {body₀ bytes line₀ : List ℕ} {from at : ℕ} {h : H
   portion-within = omega (arith, lent-within h body (length line) w, portion-length bytes at end k)
 
   -- it is answered, or the last
-  pub answered-there : isAnswer (t .outcome) ≡ true → lentRunOf h₀ body₀ (drop from (nibbles bytes)) (length line₀) ≡ later (at - from) t
+  pub answered-there : isAnswer (answerFor (t .outcome)) ≡ true → lentRunOf h₀ body₀ (drop from (nibbles bytes)) (length line₀) ≡ later (at - from) t
   answered-there e =
       u .same
       ∙ ap (λ v. later (at - from) (lentRunOf h body v (length line))) (portion-first bytes at end k)
@@ -74,7 +74,7 @@ module _ {h₀ : Head} {body₀ bytes line₀ : List ℕ} {from at : ℕ} {h : H
       ∙ ap (λ v. later (at - from) (lentRunOf h body v (length line))) (portion-first bytes at end k ∙ ap (λ v. w ++ v) none ∙ append-nil w)
 
   -- it is not answered: all of it is taken
-  module _ (e : isAnswer (t .outcome) ≡ false) (s : length (t .reader .body) ≡ length body) where
+  module _ (e : isAnswer (answerFor (t .outcome)) ≡ false) (s : length (t .reader .body) ≡ length body) where
     goes : Goes h body w rest (length line) t
     goes = lent-goes h body w rest (length line) (u .byte) small e s
 
@@ -100,7 +100,7 @@ module _ {h₀ : Head} {body₀ bytes line₀ : List ℕ} {from at : ℕ} {h : H
     pub next-portion : {p : Profile} {r : RunStepped} {body′ line′ : List ℕ} → LentRunGives p t r body′ line line′
         → Upto h₀ body₀ bytes line₀ from (at + r .taken) (r .head) body′ line′
     next-portion {r = r} {body′ = body′} {line′ = line′} d =
-        subst (λ (x : List ℕ). Upto h₀ body₀ bytes line₀ from (at + r .taken) (r .head) body′ x) (sym (d .leaves ∙ nothing-kept (t .outcome) line e))
+        subst (λ (x : List ℕ). Upto h₀ body₀ bytes line₀ from (at + r .taken) (r .head) body′ x) (sym (d .leaves ∙ ap (λ (o : Outcome). bufferAfter o line) (no-answer (t .outcome) e)))
         (subst (λ (i : ℕ). Upto h₀ body₀ bytes line₀ from i (r .head) body′ line) (ap (λ (n : ℕ). at + n) (sym (d .count ∙ goes .count)))
         (subst (λ (x : Head). Upto h₀ body₀ bytes line₀ from (at + length w) x body′ line) (sym (d .next))
         (subst (λ (x : List ℕ). Upto h₀ body₀ bytes line₀ from (at + length w) (t .reader .head) x line) (sym (d .keeps)) next-there)))
@@ -108,9 +108,9 @@ module _ {h₀ : Head} {body₀ bytes line₀ : List ℕ} {from at : ℕ} {h : H
 -- What the call gives.
 
 -- whether there is an answer
-pub told : {p : Profile} {t : Ran} {r : RunStepped} {body before after : List ℕ} {b : Bool} → LentRunGives p t r body before after → b ≡ isTold (r .answer)
-    → isAnswer (t .outcome) ≡ b
-told {p} {t} {r} {after = after} d e = sym (answered (t .outcome) e (answer-of p (r .answer) after (t .outcome) (d .says)))
+pub told : {p : Profile} {t : Ran} {r : RunStepped} {body before after : List ℕ} {b : Bool} → LentRunGives p t r body before after → b ≡ isAnswer (r .answer)
+    → isAnswer (answerFor (t .outcome)) ≡ b
+told {p} {t} {r} {after = after} d e = sym (e ∙ ap isAnswer (answer-of p (r .answer) after (t .outcome) (d .says)))
 
 pub gives-as : {p : Profile} {t u : Ran} {r : RunStepped} {body before after : List ℕ} → t ≡ u → LentRunGives p t r body before after
     → LentRunGives p u r body before after
@@ -135,23 +135,23 @@ gives-whole {line₀ = line₀} u {t} q {r} {line′ = line′} d c =
 module _ {h₀ : Head} {body₀ bytes line₀ : List ℕ} {from at : ℕ} {h : Head} {body line : List ℕ} (u : Upto h₀ body₀ bytes line₀ from at h body line)
     (known : (i : ℕ) → getD bytes i 0 < 256) (end : ℕ) (k : end ≤ length bytes) {r : RunStepped} {body′ line′ : List ℕ}
     (d : LentRunGives (h .profile) (lentRunOf h body (portion bytes at end) (length line)) r body′ line line′) (s : length body′ ≡ length body)
-    {more : Bool} (g : more ≡ (not (isTold (r .answer)) && ltb ((at + r .taken) / 2) (length bytes))) where
+    {more : Bool} (g : more ≡ (not (isAnswer (r .answer)) && ltb ((at + r .taken) / 2) (length bytes))) where
   on : (x y : Bool) → (not x && y) ≡ true → (x ≡ false) × (y ≡ true)
   on true y e = absurd (true≢false (sym e))
   on false true e = (refl, refl)
   on false false e = absurd (true≢false (sym e))
 
-  no-answer-yet : more ≡ true → isAnswer (lentRunOf h body (portion bytes at end) (length line) .outcome) ≡ false
-  no-answer-yet e = told d refl ∙ on (isTold (r .answer)) _ (sym g ∙ e) .0
+  no-answer-yet : more ≡ true → isAnswer (answerFor (lentRunOf h body (portion bytes at end) (length line) .outcome)) ≡ false
+  no-answer-yet e = told d refl ∙ on (isAnswer (r .answer)) _ (sym g ∙ e) .0
 
   pub next-turn : more ≡ true → Upto h₀ body₀ bytes line₀ from (at + r .taken) (r .head) body′ line′
   next-turn e = next-portion u known end k (no-answer-yet e) (sym (ap length (d .keeps)) ∙ s) d
 
   pub last-turn : more ≡ false
       → LentRunGives (h₀ .profile) (lentRunOf h₀ body₀ (drop from (nibbles bytes)) (length line₀)) (record { head = r .head; answer = r .answer; taken = at + r .taken - from }) body′ line₀ line′
-  last-turn e = go (isTold (r .answer)) (ltb ((at + r .taken) / 2) (length bytes)) refl refl (sym g ∙ e)
+  last-turn e = go (isAnswer (r .answer)) (ltb ((at + r .taken) / 2) (length bytes)) refl refl (sym g ∙ e)
     where
-      go : (x y : Bool) → isTold (r .answer) ≡ x → ltb ((at + r .taken) / 2) (length bytes) ≡ y → (not x && y) ≡ false
+      go : (x y : Bool) → isAnswer (r .answer) ≡ x → ltb ((at + r .taken) / 2) (length bytes) ≡ y → (not x && y) ≡ false
           → LentRunGives (h₀ .profile) (lentRunOf h₀ body₀ (drop from (nibbles bytes)) (length line₀)) (record { head = r .head; answer = r .answer; taken = at + r .taken - from }) body′ line₀ line′
       go true y p q f = gives-whole u (answered-there u known end k (told d refl ∙ p)) d (omega (arith, d .count, u .forward))
       go false true p q f = absurd (true≢false f)
@@ -165,7 +165,7 @@ module _ {h₀ : Head} {body₀ bytes line₀ : List ℕ} {from at : ℕ} {h : H
     where
       go : (x : Bool) → more ≡ x → 2 * length bytes - (at + r .taken) + cond x 1 0 < 2 * length bytes - at + 1
       go true e =
-          let y = ltb-true ((at + r .taken) / 2) (length bytes) (on (isTold (r .answer)) _ (sym g ∙ e) .1) in
+          let y = ltb-true ((at + r .taken) / 2) (length bytes) (on (isAnswer (r .answer)) _ (sym g ∙ e) .1) in
           let all = all-taken u known end k (no-answer-yet e) (sym (ap length (d .keeps)) ∙ s) in
           let z = some (omega arith) in
           omega (arith, d .count, all)

@@ -11,12 +11,12 @@ use lib.ListN.{length}
 use Rattle.refusal.specs.Refusal.{notANibble, badState, noRoom}
 use Rattle.profile.specs.declared.Profile.{Profile}
 use Rattle.profile.specs.Profile.{bodyLength, longest}
-use Rattle.stream.specs.Answers.{nothing, refused}
+use Rattle.stream.specs.Answers.{nothing, refused, answerFor, isAnswer}
 use Rattle.reader.specs.declared.Head.{Head}
 use Rattle.reader.specs.declared.Reader.{Reader}
 use Rattle.reader.specs.Reader.{passes, taking, readerOf}
-use Rattle.reader.proofs.Told.{take-profile}
-use Rattle.run.specs.Run.{Ran, ran, isAnswer, onward, runOf, lentRunOf}
+use Rattle.reader.specs.ReaderLaws.{take-profile}
+use Rattle.run.specs.Run.{Ran, ran, onward, runOf, lentRunOf}
 use Rattle.reader_laws.specs.Passing.{Small, Byte, Ok}
 use Rattle.reader_laws.specs.Passes.{passed, passes-test}
 use Rattle.reader_laws.specs.ByRuns.{ByNibbles, run-on}
@@ -33,7 +33,7 @@ turn r n i a b rest = cond a (cond b (ran (taking r n .reader) (taking r n .outc
 
 onward-later : (w : List ℕ) (r : Reader) (i : ℕ) → onward r w i ≡ later i (onward r w 0)
 onward-later [] r i = ap (ran r nothing) (sym (add-zero i))
-onward-later (n ∷ w) r i = go (leb n 15) (isAnswer (taking r n .outcome)) (onward-later w (taking r n .reader))
+onward-later (n ∷ w) r i = go (leb n 15) (isAnswer (answerFor (taking r n .outcome))) (onward-later w (taking r n .reader))
   where
     next : Reader
     next = taking r n .reader
@@ -47,15 +47,15 @@ onward-later (n ∷ w) r i = go (leb n 15) (isAnswer (taking r n .outcome)) (onw
         ∙ ap (ran (onward next w 0 .reader) (onward next w 0 .outcome)) (let k = onward next w 0 .taken in let z : i + 1 + k ≡ i + (0 + 1 + k) = omega arith in z)
         ∙ ap (later i) (sym (rest (0 + 1)))
 
-onward-stays : (w v : List ℕ) (r : Reader) (i : ℕ) → isAnswer (onward r w i .outcome) ≡ true → onward r (w ++ v) i ≡ onward r w i
+onward-stays : (w v : List ℕ) (r : Reader) (i : ℕ) → isAnswer (answerFor (onward r w i .outcome)) ≡ true → onward r (w ++ v) i ≡ onward r w i
 onward-stays [] v r i e = absurd (true≢false (sym e))
-onward-stays (n ∷ w) v r i e = go (leb n 15) (isAnswer (taking r n .outcome)) (onward-stays w v (taking r n .reader) (i + 1)) e
+onward-stays (n ∷ w) v r i e = go (leb n 15) (isAnswer (answerFor (taking r n .outcome))) (onward-stays w v (taking r n .reader) (i + 1)) e
   where
     next : Reader
     next = taking r n .reader
 
-    go : (a b : Bool) → (isAnswer (onward next w (i + 1) .outcome) ≡ true → onward next (w ++ v) (i + 1) ≡ onward next w (i + 1))
-        → isAnswer (turn r n i a b (onward next w (i + 1)) .outcome) ≡ true
+    go : (a b : Bool) → (isAnswer (answerFor (onward next w (i + 1) .outcome)) ≡ true → onward next (w ++ v) (i + 1) ≡ onward next w (i + 1))
+        → isAnswer (answerFor (turn r n i a b (onward next w (i + 1)) .outcome)) ≡ true
         → turn r n i a b (onward next (w ++ v) (i + 1)) ≡ turn r n i a b (onward next w (i + 1))
     go false b rest e = refl
     go true true rest e = refl
@@ -65,16 +65,16 @@ onward-stays (n ∷ w) v r i e = go (leb n 15) (isAnswer (taking r n .outcome)) 
 abbrev Went : Ran → ℕ → List ℕ → Ran → Type 0
 Went t k v whole = (whole ≡ onward (t .reader) v k) × (t .taken ≡ k)
 
-onward-goes : (w v : List ℕ) (r : Reader) (i : ℕ) → isAnswer (onward r w i .outcome) ≡ false → Went (onward r w i) (i + length w) v (onward r (w ++ v) i)
+onward-goes : (w v : List ℕ) (r : Reader) (i : ℕ) → isAnswer (answerFor (onward r w i .outcome)) ≡ false → Went (onward r w i) (i + length w) v (onward r (w ++ v) i)
 onward-goes [] v r i e = (ap (onward r v) (sym (add-zero i)), sym (add-zero i))
-onward-goes (n ∷ w) v r i e = go (leb n 15) (isAnswer (taking r n .outcome)) refl (onward-goes w v (taking r n .reader) (i + 1)) e
+onward-goes (n ∷ w) v r i e = go (leb n 15) (isAnswer (answerFor (taking r n .outcome))) refl (onward-goes w v (taking r n .reader) (i + 1)) e
   where
     next : Reader
     next = taking r n .reader
 
-    go : (a b : Bool) → isAnswer (taking r n .outcome) ≡ b
-        → (isAnswer (onward next w (i + 1) .outcome) ≡ false → Went (onward next w (i + 1)) (i + 1 + length w) v (onward next (w ++ v) (i + 1)))
-        → isAnswer (turn r n i a b (onward next w (i + 1)) .outcome) ≡ false
+    go : (a b : Bool) → isAnswer (answerFor (taking r n .outcome)) ≡ b
+        → (isAnswer (answerFor (onward next w (i + 1) .outcome)) ≡ false → Went (onward next w (i + 1)) (i + 1 + length w) v (onward next (w ++ v) (i + 1)))
+        → isAnswer (answerFor (turn r n i a b (onward next w (i + 1)) .outcome)) ≡ false
         → Went (turn r n i a b (onward next w (i + 1))) (i + suc (length w)) v (turn r n i a b (onward next (w ++ v) (i + 1)))
     go false b q rest e = absurd (true≢false e)
     go true true q rest e = absurd (true≢false (sym q ∙ e))
@@ -83,7 +83,7 @@ onward-goes (n ∷ w) v r i e = go (leb n 15) (isAnswer (taking r n .outcome)) r
 
 onward-profile : (w : List ℕ) (r : Reader) (i : ℕ) → onward r w i .reader .head .profile ≡ r .head .profile
 onward-profile [] r i = refl
-onward-profile (n ∷ w) r i = go (leb n 15) (isAnswer (taking r n .outcome)) (onward-profile w (taking r n .reader) (i + 1))
+onward-profile (n ∷ w) r i = go (leb n 15) (isAnswer (answerFor (taking r n .outcome))) (onward-profile w (taking r n .reader) (i + 1))
   where
     next : Reader
     next = taking r n .reader
@@ -99,7 +99,7 @@ onward-profile (n ∷ w) r i = go (leb n 15) (isAnswer (taking r n .outcome)) (o
 
 onward-within : (w : List ℕ) (r : Reader) (i : ℕ) → onward r w i .taken ≤ i + length w
 onward-within [] r i = omega arith
-onward-within (n ∷ w) r i = go (leb n 15) (isAnswer (taking r n .outcome)) (onward-within w (taking r n .reader) (i + 1))
+onward-within (n ∷ w) r i = go (leb n 15) (isAnswer (answerFor (taking r n .outcome))) (onward-within w (taking r n .reader) (i + 1))
   where
     next : Reader
     next = taking r n .reader
@@ -130,11 +130,11 @@ module _ (h : Head) (body : List ℕ) (room : ℕ) where
   abbrev roomy : Bool
   roomy = leb (bodyLength (h .profile)) room
 
-  pub lent-stays : (w v : List ℕ) → isAnswer (lentRunOf h body w room .outcome) ≡ true → lentRunOf h body (w ++ v) room ≡ lentRunOf h body w room
+  pub lent-stays : (w v : List ℕ) → isAnswer (answerFor (lentRunOf h body w room .outcome)) ≡ true → lentRunOf h body (w ++ v) room ≡ lentRunOf h body w room
   unfolding lentRunOf runOf
   lent-stays w v = go right (passes h) roomy
     where
-      go : (a b c : Bool) → isAnswer (tested a b c (onward (readerOf h body) w 0) .outcome) ≡ true
+      go : (a b c : Bool) → isAnswer (answerFor (tested a b c (onward (readerOf h body) w 0) .outcome)) ≡ true
           → tested a b c (onward (readerOf h body) (w ++ v) 0) ≡ tested a b c (onward (readerOf h body) w 0)
       go false b c e = refl
       go true false c e = refl
@@ -142,11 +142,11 @@ module _ (h : Head) (body : List ℕ) (room : ℕ) where
       go true true true e = onward-stays w v (readerOf h body) 0 e
 
   -- a run that is not answered has passed the tests
-  tests-passed : (w : List ℕ) → isAnswer (lentRunOf h body w room .outcome) ≡ false → (right ≡ true) × (passes h ≡ true) × (roomy ≡ true)
+  tests-passed : (w : List ℕ) → isAnswer (answerFor (lentRunOf h body w room .outcome)) ≡ false → (right ≡ true) × (passes h ≡ true) × (roomy ≡ true)
   unfolding lentRunOf runOf
   tests-passed w = go right (passes h) roomy
     where
-      go : (a b c : Bool) → isAnswer (tested a b c (onward (readerOf h body) w 0) .outcome) ≡ false → (a ≡ true) × (b ≡ true) × (c ≡ true)
+      go : (a b c : Bool) → isAnswer (answerFor (tested a b c (onward (readerOf h body) w 0) .outcome)) ≡ false → (a ≡ true) × (b ≡ true) × (c ≡ true)
       go false b c e = absurd (true≢false e)
       go true false c e = absurd (true≢false e)
       go true true false e = absurd (true≢false e)
@@ -173,17 +173,17 @@ pub record Goes (h : Head) (body w v : List ℕ) (room : ℕ) (t : Ran) : Type 0
   pub sound : Ok (t .reader .head)
   pub profile : t .reader .head .profile ≡ h .profile
 
-pub lent-goes : (h : Head) (body w v : List ℕ) (room : ℕ) → Byte (h .at) → Small w → isAnswer (lentRunOf h body w room .outcome) ≡ false
+pub lent-goes : (h : Head) (body w v : List ℕ) (room : ℕ) → Byte (h .at) → Small w → isAnswer (answerFor (lentRunOf h body w room .outcome)) ≡ false
     → length (lentRunOf h body w room .reader .body) ≡ length body → Goes h body w v room (lentRunOf h body w room)
 lent-goes h body w v room byte small quiet same = by (lentRunOf h body w room) (lent-is h body room w (p .0) (p .1) (p .2)) quiet same
   where
     p : (eqb (length body) longest ≡ true) × (passes h ≡ true) × (leb (bodyLength (h .profile)) room ≡ true)
     p = tests-passed h body room w quiet
 
-    by : (t : Ran) → t ≡ onward (readerOf h body) w 0 → isAnswer (t .outcome) ≡ false → length (t .reader .body) ≡ length body → Goes h body w v room t
+    by : (t : Ran) → t ≡ onward (readerOf h body) w 0 → isAnswer (answerFor (t .outcome)) ≡ false → length (t .reader .body) ≡ length body → Goes h body w v room t
     by t e q s =
         let u = onward (readerOf h body) w 0 in
-        let g = onward-goes w v (readerOf h body) 0 (sym (ap (λ (x : Ran). isAnswer (x .outcome)) e) ∙ q) in
+        let g = onward-goes w v (readerOf h body) 0 (sym (ap (λ (x : Ran). isAnswer (answerFor (x .outcome))) e) ∙ q) in
         let good : Ok (t .reader .head) = subst (λ (x : Ran). Ok (x .reader .head)) (sym e) (onward-ok small (readerOf h body) (record { byte = byte; test = passed h (p .1) })) in
         let alike : t .reader .head .profile ≡ h .profile = ap (λ (x : Ran). x .reader .head .profile) e ∙ onward-profile w (readerOf h body) 0 in
         record {

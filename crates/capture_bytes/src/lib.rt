@@ -13,7 +13,7 @@ ghost use Rattle.reader.specs.Reader.{passes};
 ghost use Rattle.reader_laws.specs.Passing.{Small, Byte};
 ghost use Rattle.run.specs.Run.{lentRunOf};
 ghost use Rattle.run.specs.Gives.{LentRunGives};
-ghost use Rattle.run.specs.Parts.{isTold};
+ghost use Rattle.stream.specs.Answers.{isAnswer};
 ghost use Rattle.capture_bytes.specs.Unpacked.{fitting, unpacked, portion};
 use reader::Head;
 use run::RunStepped;
@@ -76,7 +76,7 @@ const PORTION: usize = 256;
 
 // Whether there is no answer yet, and a nibble left at a place.
 fn goes_on(answer: Answer, at: usize, bytes: usize) -> bool
-    ensures { λ r. ⌜ r ≡ (not (isTold answer) && ltb (at / 2) bytes) ⌝ }
+    ensures { λ r. ⌜ r ≡ (not (isAnswer answer) && ltb (at / 2) bytes) ⌝ }
 {
     match answer {
         Answer::Nothing => at / 2 < bytes,

@@ -10,7 +10,8 @@ use denote.Ref.{now}
 use Rattle.run.specs.Run.{lentRunOf}
 use Rattle.stream.specs.Written.{nibbles}
 use Rattle.capture_bytes.specs.Unpacked.{unpacked}
-use Rattle.capture_bytes.specs.UnpackedLaws.{nibbles-length, front-nibbles, portion-bytes, drop-most}
+use Rattle.stream.specs.NibblesLaws.{nibbles-length}
+use Rattle.capture_bytes.specs.UnpackedLaws.{front-nibbles, portion-bytes, drop-most}
 use Rattle.capture_bytes.proofs.Portions.{gives-as}
 use borrow.Author.Needs.{needs}
 use Rattle.capture_bytes.proofs.run_portion.Statement.{statement}

@@ -10,7 +10,8 @@ use borrow.Author.Needs.{needs}
 use Rattle.profile.specs.Profile.{longest}
 use Rattle.stream.specs.Written.{nibbles}
 use Rattle.reader_laws.specs.Passes.{passed}
-use Rattle.capture_bytes.specs.UnpackedLaws.{nibbles-length, nibbles-small}
+use Rattle.stream.specs.NibblesLaws.{nibbles-length}
+use Rattle.capture_bytes.specs.UnpackedLaws.{nibbles-small}
 use Rattle.listing.specs.Rows.{rowRoom}
 use Rattle.text.specs.PutLaws.{put-length, put-within}
 use Rattle.capture_lister.proofs.Runs.{lister, Along, along-start, along-next, some-taken, taken-fits, goes-there, along-end, nothing-listed}
