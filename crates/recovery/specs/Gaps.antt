@@ -30,25 +30,25 @@ gaps p s w = collected gapIn (outcomes p s w)
 
 -- Gaps of a line as written.
 
-abbrev endCode : ℕ
+abbrev pub endCode : ℕ
 endCode = cleanByte EndOfLine
 
 -- the state after it, whatever the state before
-abbrev after : Sent → State
+abbrev pub after : Sent → State
 after s = stateWith (Open (HandedOut (s .kind)) endCode) (gapText endCode s)
 
-back : (p : Profile) (s : Sent) → Writable p s → (x : State) → ComesBack p s (cleanByte (Line (s .kind))) endCode Clean Clean x
+pub back : (p : Profile) (s : Sent) → Writable p s → (x : State) → ComesBack p s (cleanByte (Line (s .kind))) endCode Clean Clean x
 back p s g x =
     comes-back p s g (cleanByte (Line (s .kind))) endCode Clean Clean (clean-reading (Line (s .kind))) (clean-reading EndOfLine) x
 
 -- none comes out of it after its start mark
-rest-none : (s : Sent) → collected gapIn (restTold s Clean Clean) ≡ []
+pub rest-none : (s : Sent) → collected gapIn (restTold s Clean Clean) ≡ []
 rest-none s =
     collected-append gapIn (nothings (content s)) _
     ∙ ap₂ _++_ (collected-nothings gapIn refl (content s)) (collected-nothings gapIn refl (tail s))
 
 -- and the start mark of the next line tells its gap
-abbrev sentGap : Sent → Outcome
+abbrev pub sentGap : Sent → Outcome
 sentGap s = goodGap (length (written s)) (s .gap-one) (s .gap-two)
 
 sent-gap : (s : Sent) → gapIn (sentGap s) ≡ gapAsSent s ∷ []
@@ -56,7 +56,7 @@ unfolding goodGap
 sent-gap s = refl
 
 -- what comes out of the next line, and of what follows
-next-told : (p : Profile) (s next : Sent) → Writable p s → Writable p next → (w : List ℕ)
+pub next-told : (p : Profile) (s next : Sent) → Writable p s → Writable p next → (w : List ℕ)
     → outcomes p (after s) (written next ++ w) ≡ seven ++ (sentGap s ∷ (restTold next Clean Clean ++ outcomes p (after next) w))
 next-told p s next g h w =
     let b = back p next h (after s) in
@@ -100,7 +100,7 @@ seven-length : (x : Outcome) (R : List Outcome) → length (seven ++ (x ∷ (R +
 seven-length x R = omega (arith, length-append R [])
 
 -- up to the place i, where the line that was just read starts at the place o
-gaps-up-to : (p : Profile) (s : Sent) → Writable p s → {ss : List Sent} → AllWritable p ss → (i o : ℕ)
+pub gaps-up-to : (p : Profile) (s : Sent) → Writable p s → {ss : List Sent} → AllWritable p ss → (i o : ℕ)
     → collected gapIn (take (i - (o + length (written s))) (outcomes p (after s) (stream ss))) ≡ map gapAsSent (closedBy i o (s ∷ ss))
 gaps-up-to p s g no-lines i o = ap (collected gapIn) (take-nil (i - (o + length (written s))))
 gaps-up-to p s g (and-line {s = next} {ss = ss} h hs) i o =

@@ -7,6 +7,8 @@ pub mod MarkFree
 pub mod ReadBack
 pub mod Damage
 pub mod Gaps
+pub mod CleanAnswers
+pub mod CleanAnswersLaws
 pub mod MarkPlaces
 pub mod Periods
 pub mod DemandThree
