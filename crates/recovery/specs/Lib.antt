@@ -9,6 +9,9 @@ pub mod Damage
 pub mod Gaps
 pub mod CleanAnswers
 pub mod CleanAnswersLaws
+pub mod CutStream
+pub mod CutReading
+pub mod CutStreamLaws
 pub mod MarkPlaces
 pub mod Periods
 pub mod DemandThree

@@ -40,14 +40,14 @@ no-group-here : {t : List ℕ} → NoGroup t → strip group t ≡ none
 no-group-here no-group-empty = refl
 no-group-here (no-group-more h g) = h
 
-no-group-older : {n : ℕ} {t : List ℕ} → NoGroup (n ∷ t) → NoGroup t
+pub no-group-older : {n : ℕ} {t : List ℕ} → NoGroup (n ∷ t) → NoGroup t
 no-group-older (no-group-more h g) = g
 
-no-group-onto : (t w : List ℕ) → NoGroup (onto t w) → NoGroup t
+pub no-group-onto : (t w : List ℕ) → NoGroup (onto t w) → NoGroup t
 no-group-onto t [] h = h
 no-group-onto t (n ∷ w) h = no-group-older (no-group-onto (n ∷ t) w h)
 
-none-completed : (n : ℕ) {t : List ℕ} → NoGroup t → detect (n ∷ t) ≡ not-yet
+pub none-completed : (n : ℕ) {t : List ℕ} → NoGroup t → detect (n ∷ t) ≡ not-yet
 none-completed n no-group-empty = refl
 none-completed n (no-group-more {n = x} h g) = ap (markIf x n) (no-group-here g)
 

@@ -60,11 +60,11 @@ abbrev pub sevenThen : Outcome → List Outcome
 sevenThen o = seven ++ (o ∷ [])
 
 -- a mark with the code c after a text t without F F F F 0 0: the mark before is answered with that text
-record MarkTold (p : Profile) (m : Mark) (t : List ℕ) (c : ℕ) : Type 0 where
-  state : run p (stateWith m t) (markOf c) ≡ opened (becomes p m t c) c
-  told : outcomes p (stateWith m t) (markOf c) ≡ sevenThen (answerAt p m t (some c))
+pub record MarkTold (p : Profile) (m : Mark) (t : List ℕ) (c : ℕ) : Type 0 where
+  pub state : run p (stateWith m t) (markOf c) ≡ opened (becomes p m t c) c
+  pub told : outcomes p (stateWith m t) (markOf c) ≡ sevenThen (answerAt p m t (some c))
 
-marked : (p : Profile) (m : Mark) (t : List ℕ) (c : ℕ) → NoGroup t → MarkTold p m t c
+pub marked : (p : Profile) (m : Mark) (t : List ℕ) (c : ℕ) → NoGroup t → MarkTold p m t c
 marked p m t c h =
     let w : List ℕ = 15 ∷ 15 ∷ 0 ∷ 0 ∷ c / 16 ∷ c % 16 ∷ [] in
     let q : Lengthens p m t (15 ∷ 15 ∷ []) = no-mark p m t (15 ∷ 15 ∷ []) (no-group-more refl (no-group-more refl h)) in
@@ -122,7 +122,7 @@ gapText c s = onto (c % 16 ∷ c / 16 ∷ []) (tail s)
 pub body-long : (p : Profile) (s : Sent) → Writable p s → eqb (length (s .body)) (bodyLength p) ≡ true
 body-long p s g = eq-eqb (length (s .body)) (bodyLength p) (fits-length (rules p (s .kind)) (s .body) (g .body-fits) ∙ rules-length p (s .kind))
 
-line-answer : (p : Profile) (s : Sent) → Writable p s → (before : Before) (start end : ℕ) (r q : Repair)
+pub line-answer : (p : Profile) (s : Sent) → Writable p s → (before : Before) (start end : ℕ) (r q : Repair)
     → readingOf start ≡ Says (Line (s .kind)) r → readingOf end ≡ Says EndOfLine q
     → answerAt p (Open before start) (lineText start s) (some end) ≡ line (facts (s .kind) (s .number) r q) (s .body)
 unfolding answerOf
@@ -177,7 +177,7 @@ no-group-two VV5300 VL a b c h hc =
 no-group-two VV5300 SOF a b c h hc = no-group-fillers a b c h hc
 no-group-two VV5300 EOF a b c h hc = no-group-fillers a b c h hc
 
-no-group-gap : (p : Profile) (s : Sent) → Writable p s → (c : ℕ) → c ≤ 254 → NoGroup (gapText c s)
+pub no-group-gap : (p : Profile) (s : Sent) → Writable p s → (c : ℕ) → c ≤ 254 → NoGroup (gapText c s)
 no-group-gap p s g c h = no-group-nulls (s .nulls) _ (no-group-two p (s .kind) (s .gap-one) (s .gap-two) c (g .gap-fits) h)
 
 turned-onto : (t w rest : List ℕ) → turned (onto t w) rest ≡ turned t (w ++ rest)
@@ -201,7 +201,7 @@ gap-from VV5300 k m a b n h =
     ap₂ (λ (x y : ℕ). require (gapFits VV5300 k x y && allF (nibbles (replicate n nullByte))) badGap (goodGap m x y)) (byte-joined a) (byte-joined b)
     ∙ passes (gapFits VV5300 k a b && allF (nibbles (replicate n nullByte))) badGap _ (and-both (gapFits VV5300 k a b) _ h (nulls-F n))
 
-gap-answer : (p : Profile) (s : Sent) → Writable p s → (end : ℕ) (q : Repair) → readingOf end ≡ Says EndOfLine q → (next : Option ℕ)
+pub gap-answer : (p : Profile) (s : Sent) → Writable p s → (end : ℕ) (q : Repair) → readingOf end ≡ Says EndOfLine q → (next : Option ℕ)
     → answerAt p (Open (HandedOut (s .kind)) end) (gapText end s) next
     ≡ goodGap (periodOf p (HandedOut (s .kind)) (length (gapText end s)) next) (s .gap-one) (s .gap-two)
 unfolding answerOf
@@ -214,7 +214,7 @@ gap-answer p s g end q he next =
 
 -- the period of a line as written is its length (A7)
 
-length-onto : (t w : List ℕ) → length (onto t w) ≡ length t + length w
+pub length-onto : (t w : List ℕ) → length (onto t w) ≡ length t + length w
 length-onto t [] = omega arith
 length-onto t (n ∷ w) = length-onto (n ∷ t) w ∙ (let e : suc (length t) + length w ≡ length t + suc (length w) = omega arith in e)
 
