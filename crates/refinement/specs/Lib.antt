@@ -4,3 +4,4 @@ pub mod Refine
 pub mod ReaderCalls
 pub mod Runs
 pub mod RunsLaws
+pub mod RunsReached

@@ -51,13 +51,13 @@ calls-ok (c ∷ cs) r h = calls-ok cs (readerCall r c .reader) (call-ok r c h)
 pub reached-passes : (p : Profile) (cs : List Call) → passes (onRun readerCall (freshReader p) cs .head) ≡ true
 reached-passes p cs = passes-test _ (calls-ok cs (freshReader p) (fresh-ok p) .test)
 
-answered : (o : Outcome) (k : ℕ) → answerFor o ≡ answers.Refused k → o ≡ refused k
+pub answered : (o : Outcome) (k : ℕ) → answerFor o ≡ answers.Refused k → o ≡ refused k
 answered nothing k e = cc
 answered (line f body) k e = cc
 answered (gap g) k e = cc
 answered (refused n) k e = cc
 
-eleven : (r : Reader) (c : Call) → readerCall r c .answer ≡ answers.Refused badState → passes (r .head) ≡ false
+pub eleven : (r : Reader) (c : Call) → readerCall r c .answer ≡ answers.Refused badState → passes (r .head) ≡ false
 eleven r (feed n buffer) e = feed-eleven r n (length buffer) (answered _ badState e)
 eleven r done e = finish-eleven r (answered _ badState e)
 
