@@ -5,3 +5,5 @@ pub mod ReaderCalls
 pub mod Runs
 pub mod RunsLaws
 pub mod RunsReached
+pub mod RunBySingles
+pub mod RunBySinglesLaws

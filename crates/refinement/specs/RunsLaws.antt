@@ -31,7 +31,7 @@ use Rattle.refinement.specs.Runs.{RunCall, run, one, runResult, runTakes
 -- One nibble of a run, as a feeding call.
 
 module _ (r : Reader) (n room : ℕ) (ok : Ok (r .head)) (enough : leb (bodyLength (r .head .profile)) room ≡ true) where
-  fed-taken : leb n 15 ≡ true → feedOf r n room ≡ taking r n
+  pub fed-taken : leb n 15 ≡ true → feedOf r n room ≡ taking r n
   unfolding feedOf
   fed-taken e = simp (passes-test (r .head) (ok .test), e, enough)
 
