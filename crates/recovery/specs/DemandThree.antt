@@ -278,7 +278,7 @@ module _ {R : Type 0} (on : R → Call → CallResult R) (p : Profile) (Same : R
   same-run [] r s h = h
   same-run (c ∷ cs) r s h = same-run cs (on r c .reader) (meaningCall p s c .reader) (same-reader r s c h)
 
-  same-collected : {A : Type 0} (k : Collector A) (cs : List Call) (r : R) (s : State) → Same r s
+  pub same-collected : {A : Type 0} (k : Collector A) (cs : List Call) (r : R) (s : State) → Same r s
       → onCollected on k p r cs ≡ onCollected (meaningCall p) k p s cs
   same-collected k [] r s h = refl
   same-collected {A} k (c ∷ cs) r s h =
@@ -286,7 +286,7 @@ module _ {R : Type 0} (on : R → Call → CallResult R) (p : Profile) (Same : R
       ∙ ap (λ (xs : List A). collects k c (outcomeOf p (meaningCall p s c .answer) (meaningCall p s c .buffer)) ++ xs)
       (same-collected k cs (on r c .reader) (meaningCall p s c .reader) (same-reader r s c h))
 
-  same-taken : (cs : List Call) (r : R) (s : State) → Same r s → onTaken on r cs ≡ onTaken (meaningCall p) s cs
+  pub same-taken : (cs : List Call) (r : R) (s : State) → Same r s → onTaken on r cs ≡ onTaken (meaningCall p) s cs
   same-taken [] r s h = refl
   same-taken (c ∷ cs) r s h =
       ap (λ a. takenBy c a (onTaken on (on r c .reader) cs)) (same-answer r s c h)

@@ -15,5 +15,7 @@ pub mod CutStreamLaws
 pub mod MarkPlaces
 pub mod Periods
 pub mod DemandThree
+pub mod CallAnswers
+pub mod CallAnswersLaws
 pub mod WrittenLaws
 pub mod Examples

@@ -5,5 +5,7 @@ pub mod ReaderCalls
 pub mod Runs
 pub mod RunsLaws
 pub mod RunsReached
+pub mod RunAnswers
+pub mod RunAnswersLaws
 pub mod RunBySingles
 pub mod RunBySinglesLaws

@@ -226,12 +226,12 @@ module _ {A : Type 0} (k : Collector A) (of-nothing : k .fed nothing ≡ []) (of
       record { leaves = refl; taken = λ later. taking-append (taking-by c (g .answer)) [] later; brought = sym (append-nil _) }
 
   -- what a list with runs does, and its calls one by one
-  record SameList (r : Reader) (cs : List RunCall) : Type 0 where
-    reader-same : onRuns r cs ≡ onRun readerCall r (allOneByOne r cs)
-    taken-same : runsTaken r cs ≡ onTaken readerCall r (allOneByOne r cs)
-    collected-same : runsCollected k p r cs ≡ onCollected readerCall k p r (allOneByOne r cs)
+  pub record SameList (r : Reader) (cs : List RunCall) : Type 0 where
+    pub reader-same : onRuns r cs ≡ onRun readerCall r (allOneByOne r cs)
+    pub taken-same : runsTaken r cs ≡ onTaken readerCall r (allOneByOne r cs)
+    pub collected-same : runsCollected k p r cs ≡ onCollected readerCall k p r (allOneByOne r cs)
 
-  same-list : (cs : List RunCall) (r : Reader) → Ok (r .head) → SameList r cs
+  pub same-list : (cs : List RunCall) (r : Reader) → Ok (r .head) → SameList r cs
   same-list [] r ok = record { reader-same = refl; taken-same = refl; collected-same = refl }
   same-list (c ∷ cs) r ok =
       let s = same-call r c ok in
@@ -268,7 +268,7 @@ feeds-first : (buffer w : List ℕ) (cs : List Call) → FinishLast cs → Finis
 feeds-first buffer [] cs h = h
 feeds-first buffer (n ∷ w) cs h = calls.feed-first (feeds-first buffer w cs h)
 
-finish-last : {cs : List RunCall} → FinishLastRun cs → (r : Reader) → FinishLast (allOneByOne r cs)
+pub finish-last : {cs : List RunCall} → FinishLastRun cs → (r : Reader) → FinishLast (allOneByOne r cs)
 finish-last no-call r = calls.no-call
 finish-last done-last r = calls.done-last
 finish-last (feed-first {n} {buffer} {cs} h) r = calls.feed-first (finish-last h (readerCall r (feed n buffer) .reader))
