@@ -1,0 +1,2 @@
+pub mod DemandTwo
+pub mod DemandTwoLaws

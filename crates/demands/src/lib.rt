@@ -1,0 +1,1 @@
+// Laws only (specs/): demands 2 and 3 of paper 01 over what the writer leaves in its buffer and the reader's own calls, each as one theorem.
