@@ -1,2 +1,4 @@
 pub mod DemandTwo
 pub mod DemandTwoLaws
+pub mod DemandThree
+pub mod DemandThreeLaws
