@@ -1,6 +1,7 @@
 pub mod Calls
 pub mod Marks
 pub mod AnswerLaws
+pub mod AnswerTable
 pub mod Collected
 pub mod Resync
 pub mod MarkFree
@@ -14,6 +15,7 @@ pub mod CutReading
 pub mod CutStreamLaws
 pub mod MarkPlaces
 pub mod Periods
+pub mod AnswerTableLaws
 pub mod DemandThree
 pub mod CallAnswers
 pub mod CallAnswersLaws

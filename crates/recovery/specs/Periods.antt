@@ -40,7 +40,7 @@ use Rattle.recovery.specs.Marks.{onto, isMark, Since, all-taken, since-g
 
 -- A line that is handed out has a text of fixed length.
 
-bytes-length : (t bs cs : List ℕ) → bytesOnto t bs ≡ some cs → length t + 2 * length bs ≡ 2 * length cs
+pub bytes-length : (t bs cs : List ℕ) → bytesOnto t bs ≡ some cs → length t + 2 * length bs ≡ 2 * length cs
 bytes-length [] bs cs h = let e : bs ≡ cs = cc in omega (arith, ap length e)
 bytes-length (l ∷ []) bs cs h = cc
 bytes-length (l ∷ u ∷ t) bs cs h = omega (arith, bytes-length t ((16 * u + l) ∷ bs) cs h)
