@@ -1,3 +1,5 @@
+pub mod CallTable
+pub mod CallTableLaws
 pub mod Window
 pub mod Stored
 pub mod Refine
