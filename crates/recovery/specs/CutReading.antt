@@ -36,11 +36,11 @@ pub data Phase : Type 0 where
   going : Phase
 
 -- the open mark: none, or an end mark without its line; then a line's, or an end mark after a line handed out
-pub data Stands (p : Profile) : Phase → State → Type 0 where
-  no-mark-yet : (t : List ℕ) → Stands p starting (stateWith NoMark t)
-  end-first : (t : List ℕ) → length t ≤ mostText p → Stands p starting (stateWith (Open NoLine endCode) t)
-  in-line : (b : Before) (k : Kind) (t : List ℕ) → length t ≤ mostText p → Stands p going (stateWith (Open b (cleanByte (Line k))) t)
-  in-gap : (k : Kind) (t : List ℕ) → length t ≤ mostText p → Stands p going (stateWith (Open (HandedOut k) endCode) t)
+pub data OpenMark (p : Profile) : Phase → State → Type 0 where
+  no-mark-yet : (t : List ℕ) → OpenMark p starting (stateWith NoMark t)
+  end-first : (t : List ℕ) → length t ≤ mostText p → OpenMark p starting (stateWith (Open NoLine endCode) t)
+  in-line : (b : Before) (k : Kind) (t : List ℕ) → length t ≤ mostText p → OpenMark p going (stateWith (Open b (cleanByte (Line k))) t)
+  in-gap : (k : Kind) (t : List ℕ) → length t ≤ mostText p → OpenMark p going (stateWith (Open (HandedOut k) endCode) t)
 
 -- what a nibble may bring: the first line's mark answers none or 8, every other mark a line or a good gap
 pub data Brings : Phase → Outcome → Phase → Type 0 where
@@ -52,8 +52,8 @@ pub data Brings : Phase → Outcome → Phase → Type 0 where
 
 -- the nibbles w lead from a state to another so
 pub data Reads (p : Profile) : Phase → State → List ℕ → Phase → State → Type 0 where
-  reads-none : {q : Phase} {x : State} → Stands p q x → Reads p q x [] q x
-  reads-one : {q r z : Phase} {x y end : State} {n : ℕ} {w : List ℕ} {o : Outcome} → Stands p q x → step p x n .outcome ≡ o → step p x n .state ≡ y
+  reads-none : {q : Phase} {x : State} → OpenMark p q x → Reads p q x [] q x
+  reads-one : {q r z : Phase} {x y end : State} {n : ℕ} {w : List ℕ} {o : Outcome} → OpenMark p q x → step p x n .outcome ≡ o → step p x n .state ≡ y
       → Brings q o r → Reads p r y w z end → Reads p q x (n ∷ w) z end
 
 module _ {p : Profile} where
@@ -66,11 +66,11 @@ module _ {p : Profile} where
   reads-run (reads-none s) = refl
   reads-run (reads-one {w = w} s e f b h) = ap (λ (x : State). run p x w) f ∙ reads-run h
 
-  stands-first : {q z : Phase} {x end : State} {w : List ℕ} → Reads p q x w z end → Stands p q x
+  stands-first : {q z : Phase} {x end : State} {w : List ℕ} → Reads p q x w z end → OpenMark p q x
   stands-first (reads-none s) = s
   stands-first (reads-one s e f b h) = s
 
-  stands-last : {q z : Phase} {x end : State} {w : List ℕ} → Reads p q x w z end → Stands p z end
+  stands-last : {q z : Phase} {x end : State} {w : List ℕ} → Reads p q x w z end → OpenMark p z end
   stands-last (reads-none s) = s
   stands-last (reads-one s e f b h) = stands-last h
 
@@ -143,14 +143,14 @@ gap-or-nine VV5300 k n (h ∷ l ∷ []) = within-gap
 gap-or-nine VV5300 k n (h ∷ l ∷ h₂ ∷ []) = within-gap
 gap-or-nine VV5300 k n (h ∷ l ∷ h₂ ∷ l₂ ∷ w) = require-nine _ _ (good n _ _)
 
-going-last : (p : Profile) (os : List Outcome) (x : State) → Stands p going x → LastAnswer os (finish p x .outcome)
+going-last : (p : Profile) (os : List Outcome) (x : State) → OpenMark p going x → LastAnswer os (finish p x .outcome)
 unfolding answerOf
 going-last p os x (in-line b k t l) =
     subst (λ c. LastAnswer os (byReading p b c t none)) (sym (clean-reading (Line k))) within-line
 going-last p os x (in-gap k t l) =
     subst (λ c. LastAnswer os (byReading p (HandedOut k) c t none)) (sym (clean-reading EndOfLine)) (gap-or-nine p k _ _)
 
-starting-last : (p : Profile) (x : State) → Stands p starting x → LastAnswer [] (finish p x .outcome)
+starting-last : (p : Profile) (x : State) → OpenMark p starting x → LastAnswer [] (finish p x .outcome)
 unfolding answerOf
 starting-last p x (no-mark-yet t) = no-mark-read
 starting-last p x (end-first t l) = subst (λ c. LastAnswer [] (byReading p NoLine c t none)) (sym (clean-reading EndOfLine)) end-alone
@@ -166,7 +166,7 @@ last-answer {p} {x} {w} going {end} h = going-last p _ end (stands-last h)
 
 -- The text.
 
-stands-short : {p : Profile} {q : Phase} {x : State} → Stands p q x → TextShort p x
+stands-short : {p : Profile} {q : Phase} {x : State} → OpenMark p q x → TextShort p x
 stands-short (no-mark-yet t) before code e = let z : _≡_ {A = ℕ} 0 1 = cc in omega arith
 stands-short (end-first t l) before code e = l
 stands-short (in-line b k t l) before code e = l
@@ -179,7 +179,7 @@ last-short h = stands-short (stands-last h)
 
 -- nibbles that bring no mark
 pub reads-text : (p : Profile) (q : Phase) (m : Mark) (t w : List ℕ) → NoGroup (onto t w)
-    → ((v : List ℕ) → length v ≤ length t + length w → Stands p q (stateWith m v)) → Reads p q (stateWith m t) w q (stateWith m (onto t w))
+    → ((v : List ℕ) → length v ≤ length t + length w → OpenMark p q (stateWith m v)) → Reads p q (stateWith m t) w q (stateWith m (onto t w))
 reads-text p q m t [] h s = reads-none (s t (omega arith))
 reads-text p q m t (n ∷ w) h s =
     let e = none-completed n (no-group-older (no-group-onto (n ∷ t) w h)) in
@@ -188,8 +188,8 @@ reads-text p q m t (n ∷ w) h s =
 
 -- a mark
 pub reads-mark : (p : Profile) (q r : Phase) (m : Mark) (t : List ℕ) (c : ℕ) {o : Outcome} {b : Before} → NoGroup t
-    → ((v : List ℕ) → length v ≤ length t + 7 → Stands p q (stateWith m v))
-    → answerAt p m t (some c) ≡ o → Brings q o r → becomes p m t c ≡ b → Stands p r (opened b c)
+    → ((v : List ℕ) → length v ≤ length t + 7 → OpenMark p q (stateWith m v))
+    → answerAt p m t (some c) ≡ o → Brings q o r → becomes p m t c ≡ b → OpenMark p r (opened b c)
     → Reads p q (stateWith m t) (markOf c) r (opened b c)
 reads-mark p q r m t c {o} {b} h s e k f last =
     let more : NoGroup (15 ∷ 15 ∷ t) = no-group-more refl (no-group-more refl h) in

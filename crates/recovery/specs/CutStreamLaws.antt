@@ -36,7 +36,7 @@ use Rattle.recovery.specs.Damage.{outcomes-take, outcomes-length, lines-
 use Rattle.recovery.specs.Gaps.{gaps, endCode, after, back, rest-none, gaps-up-to}
 use Rattle.recovery.specs.CleanAnswers.{said}
 use Rattle.recovery.specs.CutStream.{cutOut, Orderly, LastAnswer, mostText, TextShort, CutStream}
-use Rattle.recovery.specs.CutReading.{Phase, starting, going, Stands, no-mark-yet, end-first, in-line, in-gap, Brings, brings-nothing, brings-first, brings-eight, brings-line, brings-gap, Reads, reads-none, reads-append, reads-run, ReadsOn, reads-then, reads-front, starting-orderly, starting-quiet, last-answer, last-short, reads-text, reads-mark}
+use Rattle.recovery.specs.CutReading.{Phase, starting, going, OpenMark, no-mark-yet, end-first, in-line, in-gap, Brings, brings-nothing, brings-first, brings-eight, brings-line, brings-gap, Reads, reads-none, reads-append, reads-run, ReadsOn, reads-then, reads-front, starting-orderly, starting-quiet, last-answer, last-short, reads-text, reads-mark}
 
 -- Texts cut at the front.
 
@@ -45,7 +45,7 @@ onto-below : (t old w : List ℕ) → onto (t ++ old) w ≡ onto t w ++ old
 onto-below t old [] = refl
 onto-below t old (n ∷ w) = onto-below (n ∷ t) old w
 
-onto-append : (t u v : List ℕ) → onto t (u ++ v) ≡ onto (onto t u) v
+pub onto-append : (t u v : List ℕ) → onto t (u ++ v) ≡ onto (onto t u) v
 onto-append t [] v = refl
 onto-append t (n ∷ u) v = onto-append (n ∷ t) u v
 
@@ -88,11 +88,12 @@ no-group-after-cut : (t : List ℕ) → NoGroup t → NoGroup (t ++ cutGroup)
 no-group-after-cut [] h = no-group-more refl (no-group-more refl (no-group-more refl (no-group-more refl (no-group-more refl no-group-empty))))
 no-group-after-cut (n ∷ t) (no-group-more h g) = no-group-more (no-group-there n t h) (no-group-after-cut t g)
 
+-- a list of nibbles, newest first, in two parts
+pub onto-split : (w : List ℕ) (k : ℕ) → onto [] w ≡ onto [] (drop k w) ++ onto [] (take k w)
+onto-split w k = ap (onto []) (sym (take-append-drop k w)) ∙ onto-append [] (take k w) (drop k w) ∙ onto-below [] (onto [] (take k w)) (drop k w)
+
 no-group-dropped : (k : ℕ) (w : List ℕ) → NoGroup (onto [] w) → NoGroup (onto [] (drop k w))
-no-group-dropped k w h =
-    let e : onto [] w ≡ onto [] (drop k w) ++ onto [] (take k w)
-    = ap (onto []) (sym (take-append-drop k w)) ∙ onto-append [] (take k w) (drop k w) ∙ onto-below [] (onto [] (take k w)) (drop k w) in
-    no-group-newer (onto [] (drop k w)) (onto [] (take k w)) (subst NoGroup e h)
+no-group-dropped k w h = no-group-newer (onto [] (drop k w)) (onto [] (take k w)) (subst NoGroup (onto-split w k) h)
 
 -- a mark that has lost a nibble or more at its front is none
 no-group-cut : (c : ℕ) (w : List ℕ) → NoGroup (onto (c % 16 ∷ c / 16 ∷ []) w) → (k : ℕ) → NoGroup (onto [] (drop (suc k) (markOf c ++ w)))
@@ -131,7 +132,7 @@ gap-short p s g n h = omega (arith, h, tail-length p s g)
 -- before a line's start mark: no F F F F 0 0 in the text, and the start mark opens the line
 record Ready (p : Profile) (q : Phase) (m : Mark) (t : List ℕ) : Type 0 where
   clear : NoGroup t
-  stands : (v : List ℕ) → length v ≤ length t + 7 → Stands p q (stateWith m v)
+  stands : (v : List ℕ) → length v ≤ length t + 7 → OpenMark p q (stateWith m v)
   brings : (k : Kind) → Brings q (answerAt p m t (some (cleanByte (Line k)))) going
 
 ready-fresh : (p : Profile) {t : List ℕ} → NoGroup t → Ready p starting NoMark t

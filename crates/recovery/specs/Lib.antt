@@ -13,6 +13,8 @@ pub mod CleanAnswersLaws
 pub mod CutStream
 pub mod CutReading
 pub mod CutStreamLaws
+pub mod MarkTexts
+pub mod MarkTextsLaws
 pub mod MarkPlaces
 pub mod Periods
 pub mod AnswerTableLaws

@@ -153,14 +153,14 @@ answer-period p before code t next = go (readingOf code)
 
 -- the mark before the open one was handed out as a line exactly if the open one brought a line; and then its first F stands a line's
 -- length further back
-data Behind (p : Profile) : Before → Noted → List Noted → Type 0 where
+pub data Behind (p : Profile) : Before → Noted → List Noted → Type 0 where
   not-handed : {b : Before} {m : Noted} {ms : List Noted} → isLine (m .told) ≡ false
       → ((len : ℕ) (next : Option ℕ) → periodOf p b len next ≡ 0) → Behind p b m ms
   handed : {k : Kind} {m l : Noted} {ms : List Noted} → isLine (m .told) ≡ true → m .place ≡ l .place + (groupNibbles + lineNibbles p)
       → Behind p (HandedOut k) m (l ∷ ms)
 
 -- the open mark is the newest noted; its text is what follows its F F F F 0 0
-data Stands (p : Profile) : Mark → List ℕ → List ℕ → List Noted → Type 0 where
+pub data Stands (p : Profile) : Mark → List ℕ → List ℕ → List Noted → Type 0 where
   no-mark : {t all : List ℕ} → Stands p NoMark t all []
   open-mark : {before : Before} {code : ℕ} {t all : List ℕ} {m : Noted} {ms : List Noted}
       → length all ≡ m .place + groupNibbles + length t → Behind p before m ms → Stands p (Open before code) t all (m ∷ ms)
@@ -257,7 +257,7 @@ module _ (p : Profile) where
 
   -- Many nibbles.
 
-  stands-all : (s : State) (all : List ℕ) (ms : List Noted) → Stands p (s .at) (s .text) all ms → Since (s .text) all → (w : List ℕ)
+  pub stands-all : (s : State) (all : List ℕ) (ms : List Noted) → Stands p (s .at) (s .text) all ms → Since (s .text) all → (w : List ℕ)
       → (Stands p (run p s w .at) (run p s w .text) (onto all w) (notedFrom p s all ms w)) × Since (run p s w .text) (onto all w)
   stands-all s all ms h g [] = (h, g)
   stands-all s all ms h g (n ∷ w) =
