@@ -2,3 +2,4 @@ pub mod DemandTwo
 pub mod DemandTwoLaws
 pub mod DemandThree
 pub mod DemandThreeLaws
+pub mod Examples

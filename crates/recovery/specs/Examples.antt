@@ -131,11 +131,11 @@ all-taken p buffer h (and-nibble {n} {w} l g) s =
 abbrev pub calls : Profile → List Call
 calls p = fedThenDone (replicate (bodyLength p) 0) (changed (four p) (from p) (to p) new)
 
-room : (p : Profile) → bodyLength p ≤ length {A = ℕ} (replicate (bodyLength p) 0)
+pub room : (p : Profile) → bodyLength p ≤ length {A = ℕ} (replicate (bodyLength p) 0)
 room VV5404 = lit≤ tt
 room VV5300 = lit≤ tt
 
-new-nibbles : AllNibbles new
+pub new-nibbles : AllNibbles new
 new-nibbles = and-nibble (lit≤ tt) (and-nibble (lit≤ tt) (and-nibble (lit≤ tt) no-nibble))
 
 -- demand 3 holds of these lines, this stretch and these calls: the first line comes out before the stretch, and the last two after it

@@ -40,7 +40,7 @@ module _ (r : Reader) (n room : ℕ) (ok : Ok (r .head)) (enough : leb (bodyLeng
   fed-above e = simp (passes-test (r .head) (ok .test), e)
 
 -- a nibble that is taken is taken by its call, whatever the call answers
-takes-it : (o : Outcome) → refusalOf o ≤ 9 → (n : ℕ) (w : List ℕ) → takes (answerFor o) n w ≡ n ∷ w
+pub takes-it : (o : Outcome) → refusalOf o ≤ 9 → (n : ℕ) (w : List ℕ) → takes (answerFor o) n w ≡ n ∷ w
 takes-it nothing l n w = refl
 takes-it (line f body) l n w = refl
 takes-it (gap g) l n w = refl
