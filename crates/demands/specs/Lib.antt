@@ -3,3 +3,5 @@ pub mod DemandTwoLaws
 pub mod DemandThree
 pub mod DemandThreeLaws
 pub mod Examples
+pub mod Captures
+pub mod CapturesLaws
