@@ -5,4 +5,6 @@ pub mod Used
 pub mod Interchangeable
 pub mod StandsFor
 pub mod Explained
+pub mod RunsExplained
+pub mod RunsExplainedLaws
 pub mod Examples

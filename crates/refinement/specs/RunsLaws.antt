@@ -178,14 +178,14 @@ record Same {A : Type 0} (k : Collector A) (p : Profile) (r : Reader) (c : RunCa
   brought : runCollects k c (outcomeOf p (runResult r c .answer) (runResult r c .buffer)) ≡ onCollected readerCall k p r (oneByOne r c)
 
 -- a run that starts, and one that is refused 12
-run-starts : (r : Reader) (w buffer : List ℕ) → Ok (r .head) → leb (bodyLength (r .head .profile)) (length buffer) ≡ true
+pub run-starts : (r : Reader) (w buffer : List ℕ) → Ok (r .head) → leb (bodyLength (r .head .profile)) (length buffer) ≡ true
     → (runOf r w (length buffer) ≡ onward r w 0) × (oneByOne r (run w buffer) ≡ feeds buffer (upTo r w))
 unfolding runOf
 run-starts r w buffer ok room =
     let v = passes-test (r .head) (ok .test) in
     (simp (v, room), simp (v, room) (ap (feeds buffer) (sym (up-to-is w r))))
 
-run-short : (r : Reader) (w buffer : List ℕ) → Ok (r .head) → leb (bodyLength (r .head .profile)) (length buffer) ≡ false
+pub run-short : (r : Reader) (w buffer : List ℕ) → Ok (r .head) → leb (bodyLength (r .head .profile)) (length buffer) ≡ false
     → (runOf r w (length buffer) ≡ ran r (refused noRoom) 0) × (oneByOne r (run w buffer) ≡ [])
 unfolding runOf
 run-short r w buffer ok room = let v = passes-test (r .head) (ok .test) in (simp (v, room), simp (v, room))
