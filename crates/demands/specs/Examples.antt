@@ -36,8 +36,8 @@ use Rattle.refinement.specs.ReaderCalls.{gives, readerCall, reader-demand-three
 use Rattle.refinement.specs.Runs.{RunCall, run, one, runsTaken, allOneByOne, FinishLastRun, done-last, feed-first, run-first, SameAsFeeds}
 use Rattle.refinement.specs.RunsLaws.{takes-it}
 use Rattle.refinement.specs.RunBySingles.{untouched}
-use Rattle.demands.specs.DemandThree.{WroteAll, wrote-none, and-wrote}
-use Rattle.demands.specs.DemandThreeLaws.{demand-three-written}
+use Rattle.demands.specs.DemandThreeWritten.{WroteAll, wrote-none, and-wrote}
+use Rattle.demands.specs.DemandThreeWrittenLaws.{demand-three-written}
 
 -- The writer writes these lines.
 

@@ -1,7 +1,7 @@
 pub mod DemandTwo
 pub mod DemandTwoLaws
-pub mod DemandThree
-pub mod DemandThreeLaws
+pub mod DemandThreeWritten
+pub mod DemandThreeWrittenLaws
 pub mod Examples
 pub mod Captures
 pub mod CapturesLaws

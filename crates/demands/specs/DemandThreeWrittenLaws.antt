@@ -8,7 +8,7 @@ use Rattle.profile.specs.declared.Profile.{Profile}
 use Rattle.stream.specs.Written.{Sent, Writable, AllWritable, no-lines, and-line, written, stream}
 use Rattle.writer.specs.WriterLaws.{LineAnswer, line, writeSent, sent-answer}
 use Rattle.refinement.specs.RunsLaws.{runs-demand-three}
-use Rattle.demands.specs.DemandThree.{WroteAll, wrote-none, and-wrote, MeetsWritten}
+use Rattle.demands.specs.DemandThreeWritten.{WroteAll, wrote-none, and-wrote, MeetsWritten}
 
 -- one line
 wrote : (p : Profile) (s : Sent) (room n : ℕ) (w : List ℕ) → writeSent p s room ≡ used n w → Writable p s × (w ≡ written s)
