@@ -15,15 +15,16 @@ use Rattle.profile.specs.declared.Profile.{Profile}
 use Rattle.profile.specs.declared.Profile.the-variants.{VV5404, VV5300}
 use Rattle.profile.specs.Profile.{bodyLength}
 use Rattle.stream.specs.declared.Answer.the-variants as answers
-use Rattle.stream.specs.Answers.{nothing, refused}
+use Rattle.stream.specs.Answers.{nothing, refused, answerFor, isAnswer}
 use Rattle.stream.specs.Written.{Sent, Writable, written, stream}
 use Rattle.reader.specs.declared.Reader.{Reader}
 use Rattle.reader.specs.Reader.{Took, freshReader, taking}
-use Rattle.reader.proofs.Told.{take-profile}
-use Rattle.run.specs.Run.{Ran, ran, isAnswer, runOf}
+use Rattle.reader.specs.ReaderLaws.{take-profile}
+use Rattle.run.specs.Run.{Ran, ran, runOf}
 use Rattle.writer.specs.Writer.{roomFor}
 use Rattle.writer.specs.WriterLaws.{writeSent, writes}
-use Rattle.reader_laws.specs.Sound.{take-sound, at-most-nine}
+use Rattle.mark_answer.specs.Sound.{at-most-nine}
+use Rattle.reader.specs.ReaderLaws.{take-sound}
 use Rattle.reader_laws.specs.Passes.{passes-test, fresh-ok, take-ok}
 use Rattle.reader_laws.specs.Passing.{Ok}
 use Rattle.recovery.specs.Calls.{Call, feed, done, FinishLast, CallResult, changed, takenBy, onTaken, DemandThree}
@@ -120,10 +121,10 @@ module _ (p : Profile) (buffer : List ℕ) (enough : bodyLength p ≤ length buf
 
   stopped-run : (r : Reader) (n : ℕ) → n ≤ 15 → At p r → OneTaken r n (runOf r (n ∷ 16 ∷ []) (length buffer))
   unfolding runOf
-  stopped-run r n l a = subst (OneTaken r n) (sym begins) (go (isAnswer (taking r n .outcome)))
+  stopped-run r n l a = subst (OneTaken r n) (sym begins) (go (isAnswer (answerFor (taking r n .outcome))))
     where
       begins : runOf r (n ∷ 16 ∷ []) (length buffer)
-          ≡ cond (isAnswer (taking r n .outcome)) (ran (taking r n .reader) (taking r n .outcome) 1) (ran (taking r n .reader) (refused notANibble) 1)
+          ≡ cond (isAnswer (answerFor (taking r n .outcome))) (ran (taking r n .reader) (taking r n .outcome) 1) (ran (taking r n .reader) (refused notANibble) 1)
       begins = simp (passes-test (r .head) (a .ok .test), le-leb _ _ (roomy a), le-leb n 15 l)
 
       go : (b : Bool) → OneTaken r n (cond b (ran (taking r n .reader) (taking r n .outcome) 1) (ran (taking r n .reader) (refused notANibble) 1))

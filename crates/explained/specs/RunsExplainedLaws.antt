@@ -11,12 +11,12 @@ use Rattle.profile.specs.declared.Profile.{Profile}
 use Rattle.profile.specs.Profile.{bodyLength}
 use Rattle.stream.specs.declared.Answer.{Answer}
 use Rattle.stream.specs.declared.Answer.the-variants as answers
-use Rattle.stream.specs.Answers.{Outcome, nothing, line, gap, refused, answerFor, bufferAfter}
+use Rattle.stream.specs.Answers.{Outcome, nothing, line, gap, refused, answerFor, bufferAfter, isAnswer}
 use Rattle.stream.specs.Stream.{fresh}
 use Rattle.reader.specs.declared.Reader.{Reader}
 use Rattle.reader.specs.Reader.{Took, passes, freshReader, taking, feedOf, finishOf}
-use Rattle.reader.proofs.Told.{take-profile}
-use Rattle.run.specs.Run.{Ran, ran, isAnswer, onward, runOf}
+use Rattle.reader.specs.ReaderLaws.{take-profile}
+use Rattle.run.specs.Run.{Ran, ran, onward, runOf}
 use Rattle.recovery.specs.Calls.{Call, feed, done, CallResult}
 use Rattle.reader_laws.specs.Passing.{Ok}
 use Rattle.reader_laws.specs.Passes.{Feeding, feed-state, feed-nibble, feed-room, feed-taken, feeding, Finishing, finish-state, finish-taken, finishing, passed}
@@ -96,7 +96,7 @@ says (answers.Line f) = true
 says (answers.Gap g) = true
 says (answers.Refused n) = true
 
-says-so : (o : Outcome) → isAnswer o ≡ says (answerFor o)
+says-so : (o : Outcome) → isAnswer (answerFor o) ≡ says (answerFor o)
 says-so nothing = refl
 says-so (line f body) = refl
 says-so (gap g) = refl
@@ -112,7 +112,7 @@ run-together : (buffer w : List ℕ) (r q : Reader) (i : ℕ) → SameLater r q 
     → RunTogether buffer (onward r w i) (onward q w i)
 run-together buffer [] r q i s e = record { later = s; answer = refl; buffers = refl; count = refl }
 run-together buffer (n ∷ w) r q i s e =
-    go (leb n 15) (isAnswer (t .outcome)) (isAnswer (u .outcome)) refl same-test
+    go (leb n 15) (isAnswer (answerFor (t .outcome))) (isAnswer (answerFor (u .outcome))) refl same-test
     (λ l. run-together buffer w (t .reader) (u .reader) (i + 1) (both l .later) (ap (λ (p : Profile). leb (bodyLength p) (length buffer)) (take-profile (r .head) _ n) ∙ e))
   where
     t : Took
@@ -128,7 +128,7 @@ run-together buffer (n ∷ w) r q i s e =
         let eu = fed-taken q n (length buffer) (s .ok-two) (ap (λ (p : Profile). leb (bodyLength p) (length buffer)) (sym (s .same-profile)) ∙ e) l in
         subst (λ (x : Took). Together (gives x buffer) (gives u buffer)) et (subst (λ (x : Took). Together (gives (feedOf r n (length buffer)) buffer) (gives x buffer)) eu k)
 
-    same-test : leb n 15 ≡ true → isAnswer (t .outcome) ≡ isAnswer (u .outcome)
+    same-test : leb n 15 ≡ true → isAnswer (answerFor (t .outcome)) ≡ isAnswer (answerFor (u .outcome))
     same-test l = says-so (t .outcome) ∙ ap says (both l .answer) ∙ sym (says-so (u .outcome))
 
     go : (a b c : Bool) → leb n 15 ≡ a → (leb n 15 ≡ true → b ≡ c)

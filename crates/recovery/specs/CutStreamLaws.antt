@@ -31,7 +31,8 @@ use Rattle.recovery.specs.Marks.{onto, strip-none}
 use Rattle.recovery.specs.Collected.{collected, collected-nothings, take-past}
 use Rattle.recovery.specs.Resync.{lines, stateWith, becomes}
 use Rattle.recovery.specs.MarkFree.{NoGroup, no-group-empty, no-group-more, few-no-group, lineText, few-line}
-use Rattle.recovery.specs.ReadBack.{outcomes-append, marked, restTold, read-small, gapText, body-long, line-answer, gap-answer, no-group-gap, length-nibbles, length-onto}
+use Rattle.recovery.specs.ReadBack.{outcomes-append, marked, restTold, read-small, gapText, body-long, line-answer, gap-answer, no-group-gap, length-onto}
+use Rattle.stream.specs.NibblesLaws.{nibbles-length}
 use Rattle.recovery.specs.Damage.{outcomes-take, outcomes-length, lines-up-to, writable-from}
 use Rattle.recovery.specs.Gaps.{gaps, endCode, after, back, rest-none, gaps-up-to}
 use Rattle.recovery.specs.CleanAnswers.{said}
@@ -107,7 +108,7 @@ content-length : (p : Profile) (s : Sent) → Writable p s → length (content s
 content-length p s g =
     omega (
       arith,
-      length-nibbles (numberByte (s .number / 64) ∷ numberByte (s .number % 64) ∷ s .body),
+      nibbles-length (numberByte (s .number / 64) ∷ numberByte (s .number % 64) ∷ s .body),
       eqb-true (length (s .body)) (bodyLength p) (body-long p s g),
     )
 
@@ -115,7 +116,7 @@ tail-length : (p : Profile) (s : Sent) → Writable p s → length (tail s) ≤ 
 tail-length p s g =
     omega (
       arith,
-      length-nibbles (s .gap-one ∷ s .gap-two ∷ replicate (s .nulls) nullByte),
+      nibbles-length (s .gap-one ∷ s .gap-two ∷ replicate (s .nulls) nullByte),
       length-replicate {A = ℕ} (s .nulls) nullByte,
       g .nulls-few,
     )

@@ -13,12 +13,12 @@ use Rattle.refusal.specs.Refusal.{notANibble, badState, noRoom}
 use Rattle.profile.specs.declared.Profile.{Profile}
 use Rattle.profile.specs.Profile.{bodyLength}
 use Rattle.stream.specs.declared.Answer.the-variants as answers
-use Rattle.stream.specs.Answers.{Outcome, nothing, line, gap, refused, answerFor, bufferAfter}
+use Rattle.stream.specs.Answers.{Outcome, nothing, line, gap, refused, answerFor, bufferAfter, isAnswer}
 use Rattle.reader.specs.declared.Reader.{Reader}
 use Rattle.reader.specs.Reader.{Took, passes, taking}
-use Rattle.reader.proofs.Told.{take-profile}
-use Rattle.run.specs.Run.{Ran, ran, isAnswer, onward, runOf}
-use Rattle.reader_laws.specs.ByRuns.{no-answer}
+use Rattle.reader.specs.ReaderLaws.{take-profile}
+use Rattle.run.specs.Run.{Ran, ran, onward, runOf}
+use Rattle.stream.specs.AnswersLaws.{no-answer}
 use Rattle.reader_laws.specs.Passes.{passed, passes-test, take-ok}
 use Rattle.reader_laws.specs.Passing.{Byte, Ok}
 use Rattle.recovery.specs.Calls.{feed, CallResult}
@@ -40,7 +40,7 @@ more {n = n} b l e (to-its-end k q) h = to-its-end b (and-single (leb-true n 15 
 more {n = n} b l e (to-an-answer u v x k q m a) h = to-an-answer (n ∷ u) v x b (and-single (leb-true n 15 l) e q) m a
 more {n = n} b l e (to-no-nibble u v x k q m) h = to-no-nibble (n ∷ u) v x b (and-single (leb-true n 15 l) e q) m
 
-answers-something : (o : Outcome) → isAnswer o ≡ true → answerFor o ≡ answers.Nothing → ⊥
+answers-something : (o : Outcome) → isAnswer (answerFor o) ≡ true → answerFor o ≡ answers.Nothing → ⊥
 answers-something nothing e f = true≢false (sym e)
 answers-something (line g body) e f = let z : _≡_ {A = ℕ} 0 1 = cc in omega arith
 answers-something (gap g) e f = let z : _≡_ {A = ℕ} 0 1 = cc in omega arith
@@ -55,7 +55,7 @@ record UnderWay (r : Reader) (buffer w : List ℕ) (i : ℕ) (t : Ran) : Type 0 
 under-way : (buffer w : List ℕ) (r : Reader) (i : ℕ) → Ok (r .head) → Begins r buffer → UnderWay r buffer w i (onward r w i)
 under-way buffer [] r i ok b = record { count = 0; counted = sym (add-zero i); does = to-its-end b no-single }
 under-way buffer (n ∷ w) r i ok b =
-    go (leb n 15) (isAnswer (t .outcome)) refl refl (λ l. under-way buffer w (t .reader) (i + 1) (next-ok l) (next-begins l))
+    go (leb n 15) (isAnswer (answerFor (t .outcome))) refl refl (λ l. under-way buffer w (t .reader) (i + 1) (next-ok l) (next-begins l))
   where
     t : Took
     t = taking r n
@@ -73,7 +73,7 @@ under-way buffer (n ∷ w) r i ok b =
     single : leb n 15 ≡ true → readerCall r (feed n buffer) ≡ gives t buffer
     single l = ap (λ (x : Took). gives x buffer) (fed-taken r n (length buffer) ok (le-leb _ _ (b .room)) l)
 
-    go : (a d : Bool) → leb n 15 ≡ a → isAnswer (t .outcome) ≡ d
+    go : (a d : Bool) → leb n 15 ≡ a → isAnswer (answerFor (t .outcome)) ≡ d
         → (leb n 15 ≡ true → UnderWay (t .reader) buffer w (i + 1) (onward (t .reader) w (i + 1)))
         → UnderWay r buffer (n ∷ w) i (cond a (cond d (ran (t .reader) (t .outcome) (i + 1)) (onward (t .reader) w (i + 1))) (ran r (refused notANibble) i))
     go false d l e h = record { count = 0; counted = sym (add-zero i); does = to-no-nibble [] w n b no-single (leb-false n 15 l) }
@@ -110,13 +110,13 @@ run-by-singles r w buffer byte = go (passes (r .head)) (leb (bodyLength (r .head
 
 -- And there is no other.
 
-says-nothing : (o : Outcome) → answerFor o ≡ answers.Nothing → isAnswer o ≡ false
+says-nothing : (o : Outcome) → answerFor o ≡ answers.Nothing → isAnswer (answerFor o) ≡ false
 says-nothing nothing e = refl
 says-nothing (line f body) e = let z : _≡_ {A = ℕ} 0 1 = cc in absurd (omega arith)
 says-nothing (gap g) e = let z : _≡_ {A = ℕ} 0 1 = cc in absurd (omega arith)
 says-nothing (refused n) e = let z : _≡_ {A = ℕ} 0 1 = cc in absurd (omega arith)
 
-says-some : (o : Outcome) → (answerFor o ≡ answers.Nothing → ⊥) → isAnswer o ≡ true
+says-some : (o : Outcome) → (answerFor o ≡ answers.Nothing → ⊥) → isAnswer (answerFor o) ≡ true
 says-some nothing h = absurd (h refl)
 says-some (line f body) h = refl
 says-some (gap g) h = refl
@@ -135,7 +135,7 @@ past-quiet buffer (and-single {r} {next} {end} {n} {w = later} l e q) ok room =
     let t = taking r n in
     let same = sym (ap (λ (x : Took). gives x buffer) (fed-taken r n (length buffer) ok (le-leb _ _ room) (le-leb n 15 l))) ∙ e in
     let to : t .reader ≡ next = ap (λ (c : CallResult Reader). c .reader) same in
-    let quiet : isAnswer (t .outcome) ≡ false = says-nothing (t .outcome) (ap (λ (c : CallResult Reader). c .answer) same) in
+    let quiet : isAnswer (answerFor (t .outcome)) ≡ false = says-nothing (t .outcome) (ap (λ (c : CallResult Reader). c .answer) same) in
     let k = past-quiet buffer q (subst (λ (x : Reader). Ok (x .head)) to (take-ok r n (omega arith) ok))
     (subst (λ (x : Reader). bodyLength (x .head .profile) ≤ length buffer) to (subst (λ (p : Profile). bodyLength p ≤ length buffer) (sym (take-profile (r .head) _ n)) room)) in
     record {

@@ -11,11 +11,12 @@ use Rattle.refusal.specs.Refusal.{notANibble, badState, noRoom}
 use Rattle.profile.specs.declared.Profile.{Profile}
 use Rattle.profile.specs.Profile.{bodyLength}
 use Rattle.stream.specs.declared.Answer.the-variants as answers
-use Rattle.stream.specs.Answers.{refused}
+use Rattle.stream.specs.Answers.{refused, answerFor, isAnswer}
 use Rattle.reader.specs.declared.Reader.{Reader}
 use Rattle.reader.specs.Reader.{passes, freshReader, taking}
-use Rattle.run.specs.Run.{ran, isAnswer, onward, runOf}
-use Rattle.reader_laws.specs.Sound.{take-sound, refusalOf, at-most-nine}
+use Rattle.run.specs.Run.{ran, onward, runOf}
+use Rattle.mark_answer.specs.Sound.{refusalOf, at-most-nine}
+use Rattle.reader.specs.ReaderLaws.{take-sound}
 use Rattle.reader_laws.specs.Passes.{passes-test, fresh-ok}
 use Rattle.reader_laws.specs.Passing.{Ok}
 use Rattle.refinement.specs.ReaderCalls.{answered, eleven, calls-ok}
@@ -32,7 +33,7 @@ runs-reached-passes p cs = passes-test _ (runs-ok p cs (freshReader p) (fresh-ok
 -- a run under way is refused 10 at most
 onward-ten : (w : List ℕ) (r : Reader) (i : ℕ) → refusalOf (onward r w i .outcome) ≤ notANibble
 onward-ten [] r i = omega arith
-onward-ten (n ∷ w) r i = go (leb n 15) (isAnswer (taking r n .outcome)) (onward-ten w (taking r n .reader) (i + 1))
+onward-ten (n ∷ w) r i = go (leb n 15) (isAnswer (answerFor (taking r n .outcome))) (onward-ten w (taking r n .reader) (i + 1))
   where
     go : (a b : Bool) → refusalOf (onward (taking r n .reader) w (i + 1) .outcome) ≤ notANibble
         → refusalOf
