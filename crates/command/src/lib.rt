@@ -9,6 +9,7 @@ ghost use Rattle.command.specs.Word.{same, wordOf};
 use libc::STDERR_FILENO;
 use libc::STDIN_FILENO;
 use profile::Profile;
+use text::put;
 
 pub enum Word {
     Sensor(Profile),
@@ -115,22 +116,37 @@ fn not_understood(asked: Asked) -> Asked {
     }
 }
 
-// Opens the file at a place among the arguments, or standard input for 0, and answers its descriptor, or -1, which has been told. Where standard
-// input is a terminal, says what is waited for.
-pub fn open(file: usize) -> i32 {
+// An input: its descriptor, or -1; and how many bytes its name has.
+pub struct Input {
+    pub fd: i32,
+    pub length: usize,
+}
+
+// Opens the file at a place among the arguments, or standard input for 0, and puts its name at the front of a buffer. A file that can't be
+// opened is told. Where standard input is a terminal, says what is waited for.
+pub fn open(file: usize, name: &mut [u8]) -> Input {
     if file == 0 {
         if libc::isatty(STDIN_FILENO) == 1 {
             complain(b"waiting for a capture on standard input (or give a file's name)\n");
         }
-        return STDIN_FILENO;
+        let length = name_input(name);
+        return Input {
+            fd: STDIN_FILENO,
+            length,
+        };
     }
-    let mut buf = io::buffer();
-    let n = os::arg(file, &mut buf);
-    let fd = os::open_read(&buf[..n]);
+    let length = os::arg(file, name);
+    let fd = os::open_read(&name[..length]);
     if fd < 0 {
-        os::fail(&buf[..n]);
+        os::fail(&name[..length]);
     }
-    fd
+    Input { fd, length }
+}
+
+// Puts the name of standard input at the front of a buffer.
+fn name_input(name: &mut [u8]) -> usize {
+    let n = put(b"standard input", name, 0);
+    io::count(n as isize, name)
 }
 
 // Writes a line to standard error.

@@ -1,6 +1,6 @@
-// Lists what a capture holds (paper 01): reads the bytes of a profile 0 bus from standard input, and writes a row for each mark.
+// Lists what a capture holds (paper 01): reads the bytes of a sensor's bus, and writes a row for each mark.
 use capture_lister::Mode;
 
 fn main() {
-    standard::run(Mode::Rows);
+    standard::run(Mode::Rows, b"usage: list [vv5404|vv5300] [FILE]\n");
 }

@@ -1,20 +1,45 @@
-// Standard input listed on standard output, in large pieces: what the programs list and frames share.
+// A capture listed on standard output, in large pieces: what the programs list and frames share.
 //
-// In: what to list. Read: the bytes of a profile 0 capture. Written: their text, as capture_lister says it. A read or a write that fails is told
-// on standard error, and ends the list: nothing is then said of the whole.
+// In: what to list, and the program's usage. Read: the bytes of a capture of the sensor that the arguments name, from the file they name or from
+// standard input. Written: their text, as capture_lister says it. Arguments that are not understood print the usage on standard error, and
+// nothing else. An open, a read or a write that fails is told once, on standard error, and ends the list: nothing is then said of the whole.
 use capture_lister::Lister;
 use capture_lister::Mode;
-use libc::STDIN_FILENO;
+use command::Asked;
 use libc::STDOUT_FILENO;
-use profile::Profile;
 
-// Lists the whole of standard input.
-pub fn run(mode: Mode) {
+// Lists a whole capture, as the arguments ask.
+pub fn run(mode: Mode, usage: &[u8]) {
+    let asked = command::sensor_and_file();
+    if asked.understood {
+        list_asked(mode, asked);
+    } else {
+        command::complain(usage);
+    }
+}
+
+fn list_asked(mode: Mode, asked: Asked) {
+    let mut name = io::buffer();
+    let input = command::open(asked.file, &mut name);
+    if input.fd < 0 {
+        return;
+    }
+    let length = input.length;
+    if name.len() < length {
+        return;
+    }
+    let profile = asked.profile;
+    let lister = Lister::new(mode, profile);
+    list_input(lister, input.fd, &name[..length]);
+    libc::close(input.fd);
+}
+
+// Lists the whole of an input.
+fn list_input(lister: Lister, fd: i32, name: &[u8]) {
     let mut out = io::buffer();
-    let lister = Lister::new(mode, Profile::VV5404);
     let used = lister.head(&mut out);
     write(&out[..used]);
-    let end = list_all(lister);
+    let end = list_all(lister, fd, name);
     if end.failed {
         return;
     }
@@ -32,7 +57,7 @@ struct Turn {
 }
 
 // Lists the input. Nothing says that an input ends, so the loop counts its turns down, from a number that no run uses up.
-fn list_all(lister: Lister) -> Turn {
+fn list_all(lister: Lister, fd: i32, name: &[u8]) -> Turn {
     let mut turn = Turn {
         lister,
         more: true,
@@ -42,7 +67,7 @@ fn list_all(lister: Lister) -> Turn {
     while turns > 0 {
         let l = turn.lister;
         if turn.more {
-            turn = list_some(l);
+            turn = list_some(l, fd, name);
         } else {
             return turn;
         }
@@ -52,11 +77,11 @@ fn list_all(lister: Lister) -> Turn {
 }
 
 // Reads once, and lists what came.
-fn list_some(lister: Lister) -> Turn {
+fn list_some(lister: Lister, fd: i32, name: &[u8]) -> Turn {
     let mut buf = io::large_buffer();
-    let got = libc::read(STDIN_FILENO, &mut buf);
+    let got = libc::read(fd, &mut buf);
     if got < 0 {
-        os::fail(b"standard input");
+        os::fail(name);
         return Turn {
             lister,
             more: false,

@@ -4,10 +4,10 @@ use Rattle.standard.proofs.list_all.Statement.{statement}
 use Rattle.standard.proofs.list_all.Tie as tie
 
 abbrev Inv-loop : tie.InvT-loop
-Inv-loop turn₀ turns₀ turn turns = Unit {0}
+Inv-loop fd name turn₀ turns₀ turn turns = Unit {0}
 
 abbrev μ-loop : tie.MeasureT-loop
-μ-loop turn₀ turns₀ turn turns = turns
+μ-loop fd name turn₀ turns₀ turn turns = turns
 
 pub list-all-spec : {M : Type 1} → statement M
 list-all-spec =

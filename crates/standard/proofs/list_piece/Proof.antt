@@ -6,7 +6,7 @@ use lib.ListN.{drop, length-drop, length}
 use lib.Seq.{length-take-le}
 use borrow.Author.Needs.{needs}
 use Rattle.stream.specs.Written.{nibbles}
-use Rattle.capture_bytes.specs.UnpackedLaws.{nibbles-length}
+use Rattle.stream.specs.NibblesLaws.{nibbles-length}
 use Rattle.capture_lister.specs.declared.Listed.{Listed}
 use Rattle.capture_lister.specs.Listed.{listedOf}
 use Rattle.capture_lister.specs.ListedLaws.{taken-within}

@@ -8,15 +8,15 @@ use Rattle.text.specs.PutLaws.{front-within}
 use Rattle.capture_lister.specs.declared.Listed.{Listed}
 use Rattle.capture_lister.specs.Listed.{headText, finishedOf}
 use borrow.Author.Needs.{needs}
-use Rattle.standard.proofs.run.Statement.{statement}
-use Rattle.standard.proofs.run.Tie as tie
+use Rattle.standard.proofs.list_input.Statement.{statement}
+use Rattle.standard.proofs.list_input.Tie as tie
 
 -- the texts have room
 head-fits : (c : tie.After-head) → c .head .result ≤ length (c .head .last .1 .0)
 head-fits c =
-    let d = c .before .before .before .buffer .result in
+    let d = c .before .before .buffer .result in
     let h = c .head in
-    front-within d (ifRoom (length d) (headText (c .before .before .new .result .mode))) (h .ensures) (h .kept .1 .0)
+    front-within d (ifRoom (length d) (headText (c .before .before .before .before .args .lister .mode))) (h .ensures) (h .kept .1 .0)
 
 last-fits : (c : tie.After-finish) → c .finish .result .used ≤ length (c .finish .last .1 .0)
 last-fits c =
@@ -36,11 +36,10 @@ array-share-prefix-out-2 c = last-fits (c .before)
 slice-aggregate-write-2 : tie.Need-slice-aggregate-write-2
 slice-aggregate-write-2 c = sym (length-take-le _ _ (last-fits (c .before .before)))
 
-pub run-spec : {M : Type 1} → statement M
-run-spec =
+pub list-input-spec : {M : Type 1} → statement M
+list-input-spec =
     tie.close
     (tie.spec
-    (λ c κs. search needs)
     (λ c κs. search needs)
     (λ c. search needs)
     (λ c κs. search needs)
