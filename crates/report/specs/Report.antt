@@ -75,7 +75,7 @@ abbrev pub rangeWords : Spacing → List ℕ
 rangeWords s = decimal (s .least) ++ (ascii " to " ++ (decimal (s .greatest) ++ ascii " nibbles\n"))
 
 abbrev pub othersLine : Spacing → List ℕ
-othersLine s = cond (eqb (s .others) 0) [] (ascii "period: " ++ (decimal (s .others) ++ (ascii " others, " ++ rangeWords s)))
+othersLine s = cond (eqb (s .others) 0) [] (ascii "other periods: " ++ (decimal (s .others) ++ (ascii ", " ++ rangeWords s)))
 
 unfoldable pub periodLines : Spacing → List ℕ
 periodLines s =

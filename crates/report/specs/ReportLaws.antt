@@ -75,7 +75,7 @@ repaired-short c =
 others-short : (s : Spacing) → length (othersLine s) ≤ 100
 others-short s = either (eqb (s .others) 0)
   where
-    either : (b : Bool) → length (cond b [] (ascii "period: " ++ (decimal (s .others) ++ (ascii " others, " ++ rangeWords s)))) ≤ 100
+    either : (b : Bool) → length (cond b [] (ascii "other periods: " ++ (decimal (s .others) ++ (ascii ", " ++ rangeWords s)))) ≤ 100
     either true = omega arith
     either false = simp length-append (omega (arith, decimal-short (s .others), decimal-short (s .least), decimal-short (s .greatest)))
 

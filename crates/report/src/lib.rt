@@ -182,9 +182,9 @@ fn put_periods(spacing: Spacing, out: &mut [u8], at: usize) -> usize
     if spacing.others == 0 {
         return at;
     }
-    let at = put(b"period: ", out, at);
+    let at = put(b"other periods: ", out, at);
     let at = put_decimal(spacing.others, out, at);
-    let at = put(b" others, ", out, at);
+    let at = put(b", ", out, at);
     put_range(spacing, out, at)
 }
 
