@@ -3,12 +3,11 @@
 use mathlib.Core.Path.{_≡_, refl, _∙_, ap, ap₂, sym, subst}
 use mathlib.Core.Bool.{Bool, true, false, cond}
 use mathlib.Core.List.{List, [], _∷_, _++_, append-assoc, map}
-use mathlib.Core.Option.{none, some}
+use mathlib.Core.Option.{some}
 use Prim.Native.Nat.{ℕ, suc, _+_, _-_, _*_, _/_, _%_, _≤_}
-use native.Mathlib.Nat.{not-suc-le-zero, le-of-suc-le-suc}
 use native.Mathlib.Omega.{arith}
-use lib.Dec.{eqb, leb}
-use lib.ListN.{length, take, drop, replicate, take-append-drop, length-replicate, length-drop}
+use lib.Dec.{leb}
+use lib.ListN.{length, take, drop, replicate, length-replicate, length-drop}
 use lib.Seq.{take-nil, drop-nil, drop-append-le, drop-append-add}
 use borrow.Author.Tests.{leb-true, leb-false, le-leb, eqb-true}
 use Rattle.line_code.specs.declared.Kind.{Kind}
@@ -24,83 +23,21 @@ use Rattle.stream.specs.declared.Before.the-variants.{NoLine, HandedOut}
 use Rattle.stream.specs.declared.Mark.{Mark}
 use Rattle.stream.specs.declared.Mark.the-variants.{NoMark, Open}
 use Rattle.stream.specs.Answers.{Outcome, nothing, isLine, goodGap, byReading, answerOf}
-use Rattle.stream.specs.Stream.{State, fresh, group, strip, beforeBy, answerAt, finish, run, outcomes}
-use Rattle.stream.specs.Written.{Sent, Writable, AllWritable, no-lines, and-line, markOf, startMark, content, endMark, tail, written, stream}
+use Rattle.stream.specs.Stream.{State, fresh, beforeBy, answerAt, finish, run, outcomes}
+use Rattle.stream.specs.Written.{Sent, Writable, AllWritable, no-lines, and-line, startMark, content, endMark, tail, written, stream}
 use Rattle.recovery.specs.Calls.{lineIn, asSent, gapIn, gapAsSent, endedBy, startFrom, linesFrom, closedBy}
-use Rattle.recovery.specs.Marks.{onto, strip-none}
+use Rattle.recovery.specs.Marks.{onto}
 use Rattle.recovery.specs.Collected.{collected, collected-nothings, take-past}
 use Rattle.recovery.specs.Resync.{lines, stateWith, becomes}
-use Rattle.recovery.specs.MarkFree.{NoGroup, no-group-empty, no-group-more, few-no-group, lineText, few-line}
+use Rattle.recovery.specs.MarkFree.{NoGroup, no-group-empty, few-no-group, lineText, few-line}
 use Rattle.recovery.specs.ReadBack.{outcomes-append, marked, restTold, read-small, gapText, body-long, line-answer, gap-answer, no-group-gap, length-onto}
 use Rattle.stream.specs.NibblesLaws.{nibbles-length}
 use Rattle.recovery.specs.Damage.{outcomes-take, outcomes-length, lines-up-to, writable-from}
 use Rattle.recovery.specs.Gaps.{gaps, endCode, after, back, rest-none, gaps-up-to}
 use Rattle.recovery.specs.CleanAnswers.{said}
 use Rattle.recovery.specs.CutStream.{cutOut, Orderly, LastAnswer, mostText, TextShort, CutStream}
+use Rattle.recovery.specs.CutTexts.{no-group-cut}
 use Rattle.recovery.specs.CutReading.{Phase, starting, going, OpenMark, no-mark-yet, end-first, in-line, in-gap, Brings, brings-nothing, brings-first, brings-eight, brings-line, brings-gap, Reads, reads-none, reads-append, reads-run, ReadsOn, reads-then, reads-front, starting-orderly, starting-quiet, last-answer, last-short, reads-text, reads-mark}
-
--- Texts cut at the front.
-
--- what is left of a text, newest first, without its oldest nibbles
-onto-below : (t old w : List ℕ) → onto (t ++ old) w ≡ onto t w ++ old
-onto-below t old [] = refl
-onto-below t old (n ∷ w) = onto-below (n ∷ t) old w
-
-pub onto-append : (t u v : List ℕ) → onto t (u ++ v) ≡ onto (onto t u) v
-onto-append t [] v = refl
-onto-append t (n ∷ u) v = onto-append (n ∷ t) u v
-
-strip-newer : (ps t old : List ℕ) → strip ps (t ++ old) ≡ none → strip ps t ≡ none
-strip-newer [] t old h = cc
-strip-newer (q ∷ ps) [] old h = refl
-strip-newer (q ∷ ps) (n ∷ t) old h = go (eqb q n) h (strip-newer ps t old)
-  where
-    go : (b : Bool) → cond b (strip ps (t ++ old)) none ≡ none → (strip ps (t ++ old) ≡ none → strip ps t ≡ none) → cond b (strip ps t) none ≡ none
-    go true k f = f k
-    go false k f = refl
-
-no-group-newer : (t old : List ℕ) → NoGroup (t ++ old) → NoGroup t
-no-group-newer [] old h = no-group-empty
-no-group-newer (n ∷ t) old (no-group-more h g) = no-group-more (strip-newer group (n ∷ t) old h) (no-group-newer t old g)
-
-strip-longer : (ps t old : List ℕ) → length ps ≤ length t → strip ps t ≡ none → strip ps (t ++ old) ≡ none
-strip-longer [] t old l h = cc
-strip-longer (q ∷ ps) [] old l h = absurd (not-suc-le-zero l)
-strip-longer (q ∷ ps) (n ∷ t) old l h = go (eqb q n) h (strip-longer ps t old (le-of-suc-le-suc l))
-  where
-    go : (b : Bool) → cond b (strip ps t) none ≡ none → (strip ps t ≡ none → strip ps (t ++ old) ≡ none) → cond b (strip ps (t ++ old)) none ≡ none
-    go true k f = f k
-    go false k f = refl
-
--- F F F 0 0: the group without its first F, newest first
-abbrev cutGroup : List ℕ
-cutGroup = 0 ∷ 0 ∷ 15 ∷ 15 ∷ 15 ∷ []
-
-no-group-there : (n : ℕ) (t : List ℕ) → strip group (n ∷ t) ≡ none → strip group ((n ∷ t) ++ cutGroup) ≡ none
-no-group-there a [] h = strip-none (eqb 0 a) _ refl
-no-group-there a (b ∷ []) h = strip-none (eqb 0 a) _ (strip-none (eqb 0 b) _ refl)
-no-group-there a (b ∷ c ∷ []) h = strip-none (eqb 0 a) _ (strip-none (eqb 0 b) _ (strip-none (eqb 15 c) _ refl))
-no-group-there a (b ∷ c ∷ d ∷ []) h = strip-none (eqb 0 a) _ (strip-none (eqb 0 b) _ (strip-none (eqb 15 c) _ (strip-none (eqb 15 d) _ refl)))
-no-group-there a (b ∷ c ∷ d ∷ e ∷ []) h =
-    strip-none (eqb 0 a) _ (strip-none (eqb 0 b) _ (strip-none (eqb 15 c) _ (strip-none (eqb 15 d) _ (strip-none (eqb 15 e) _ refl))))
-no-group-there a (b ∷ c ∷ d ∷ e ∷ f ∷ t) h = strip-longer group (a ∷ b ∷ c ∷ d ∷ e ∷ f ∷ t) cutGroup (omega arith) h
-
-no-group-after-cut : (t : List ℕ) → NoGroup t → NoGroup (t ++ cutGroup)
-no-group-after-cut [] h = no-group-more refl (no-group-more refl (no-group-more refl (no-group-more refl (no-group-more refl no-group-empty))))
-no-group-after-cut (n ∷ t) (no-group-more h g) = no-group-more (no-group-there n t h) (no-group-after-cut t g)
-
--- a list of nibbles, newest first, in two parts
-pub onto-split : (w : List ℕ) (k : ℕ) → onto [] w ≡ onto [] (drop k w) ++ onto [] (take k w)
-onto-split w k = ap (onto []) (sym (take-append-drop k w)) ∙ onto-append [] (take k w) (drop k w) ∙ onto-below [] (onto [] (take k w)) (drop k w)
-
-no-group-dropped : (k : ℕ) (w : List ℕ) → NoGroup (onto [] w) → NoGroup (onto [] (drop k w))
-no-group-dropped k w h = no-group-newer (onto [] (drop k w)) (onto [] (take k w)) (subst NoGroup (onto-split w k) h)
-
--- a mark that has lost a nibble or more at its front is none
-no-group-cut : (c : ℕ) (w : List ℕ) → NoGroup (onto (c % 16 ∷ c / 16 ∷ []) w) → (k : ℕ) → NoGroup (onto [] (drop (suc k) (markOf c ++ w)))
-no-group-cut c w h k =
-    no-group-dropped k (15 ∷ 15 ∷ 15 ∷ 0 ∷ 0 ∷ c / 16 ∷ c % 16 ∷ w)
-    (subst NoGroup (sym (onto-below (c % 16 ∷ c / 16 ∷ []) cutGroup w)) (no-group-after-cut (onto (c % 16 ∷ c / 16 ∷ []) w) h))
 
 -- Lengths.
 

@@ -12,6 +12,7 @@ pub mod CleanAnswers
 pub mod CleanAnswersLaws
 pub mod CutStream
 pub mod CutReading
+pub mod CutTexts
 pub mod CutStreamLaws
 pub mod MarkTexts
 pub mod MarkTextsLaws
@@ -23,3 +24,4 @@ pub mod CallAnswers
 pub mod CallAnswersLaws
 pub mod WrittenLaws
 pub mod Examples
+pub mod CutExamples

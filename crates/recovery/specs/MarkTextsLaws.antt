@@ -17,7 +17,7 @@ use Rattle.recovery.specs.MarkPlaces.{Noted, marksOf}
 use Rattle.recovery.specs.ReadBack.{length-onto}
 use Rattle.recovery.specs.Periods as periods
 use Rattle.recovery.specs.Periods.{Stands, stands-all}
-use Rattle.recovery.specs.CutStreamLaws.{onto-append, onto-split}
+use Rattle.recovery.specs.CutTexts.{onto-append, onto-split}
 use Rattle.recovery.specs.MarkTexts.{textToEnd, TextByPlaces}
 
 -- Lists turned.
