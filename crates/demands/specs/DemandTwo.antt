@@ -15,11 +15,12 @@ use Rattle.line_code.specs.LineCode.{cleanByte, readingOf, kindOf, kindNumbered
 use Rattle.profile.specs.declared.Profile.{Profile}
 use Rattle.profile.specs.declared.Numbered.the-variants as numbered
 use Rattle.profile.specs.Profile.{profileNumbered}
-use Rattle.stream.specs.Answers.{Outcome, line, gap, facts}
+use Rattle.stream.specs.Answers.{Outcome}
 use Rattle.stream.specs.Written.{Sent, markOf}
 use Rattle.reader.specs.Reader.{freshReader}
 use Rattle.writer.specs.Writer.{sent}
 use Rattle.recovery.specs.ReadBack.{writtenWith}
+use Rattle.recovery.specs.CleanAnswers.{lineRead, gapRead}
 use Rattle.recovery.specs.CallAnswers.{markCollector}
 use Rattle.refinement.specs.Runs.{RunCall, runsTaken, runsCollected, FinishLastRun}
 use Rattle.refinement.specs.RunAnswers.{runsFinish}
@@ -27,14 +28,6 @@ use Rattle.refinement.specs.RunAnswers.{runsFinish}
 -- the answers that marks get over calls of a fresh reader
 abbrev pub answersTo : Profile → List RunCall → List Outcome
 answersTo p cs = runsCollected markCollector p (freshReader p) cs
-
--- the line given to the writer, with these repairs of the code that starts it and of the code that ends it
-abbrev pub lineRead : Sent → Repair → Repair → Outcome
-lineRead s start end = line (facts (s .kind) (s .number) start end) (s .body)
-
--- its good gap, with the two bytes given to the writer, and this period in nibbles
-abbrev pub gapRead : Sent → ℕ → Outcome
-gapRead s n = gap (record { first = s .gap-one; second = s .gap-two; period = record { 0 = n } })
 
 -- the nibbles w are read as the line s, whatever calls take them from a fresh reader on: singles and runs, refused ones anywhere among them,
 -- and finish last or not at all

@@ -15,11 +15,11 @@ use Rattle.writer.specs.Writer.{sent, writeOf}
 use Rattle.writer.specs.WriterLaws.{line, Answer, of-line, answer}
 use Rattle.recovery.specs.Collected.{nothings, collected-append, collected-nothings}
 use Rattle.recovery.specs.ReadBack.{outcomes-append, sevenThen, ReadsBack, read-back, start-flipped, end-flipped}
-use Rattle.recovery.specs.CleanAnswers.{saidIn, said}
+use Rattle.recovery.specs.CleanAnswers.{saidIn, said, lineRead, gapRead}
 use Rattle.recovery.specs.CallAnswers.{broughtBy}
 use Rattle.refinement.specs.RunAnswers.{runsFinish}
 use Rattle.refinement.specs.RunAnswersLaws.{runs-said}
-use Rattle.demands.specs.DemandTwo.{lineRead, gapRead, ReadAs, DemandTwo, Accepted}
+use Rattle.demands.specs.DemandTwo.{ReadAs, DemandTwo, Accepted}
 
 -- what is brought, and what finish brings
 last-part : (p : Profile) (w : List ℕ) (b : Bool) → broughtBy p fresh w b ≡ outcomes p fresh w ++ cond b (finish p (run p fresh w) .outcome ∷ []) []

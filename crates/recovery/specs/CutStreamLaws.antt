@@ -41,6 +41,10 @@ use Rattle.recovery.specs.CutReading.{Phase, starting, going, OpenMark, 
 
 -- Lengths.
 
+-- the most nibbles of an open mark's text in either profile
+pub most-text : (mostText VV5404 ≡ 725) × (mostText VV5300 ≡ 523)
+most-text = (refl, refl)
+
 content-length : (p : Profile) (s : Sent) → Writable p s → length (content s) ≡ 4 + 2 * bodyLength p
 content-length p s g =
     omega (
@@ -190,20 +194,20 @@ leads-cut p s g k = go (leb (suc k) (length front)) refl
 -- Where the first whole line starts.
 
 -- if lines are left, they start at the place f
-abbrev Starts : List Sent → ℕ → ℕ → Type 0
-Starts [] n f = Unit {0}
-Starts (s ∷ ss) n f = n ≡ f
+abbrev PlacedAt : List Sent → ℕ → ℕ → Type 0
+PlacedAt [] n f = Unit {0}
+PlacedAt (s ∷ ss) n f = n ≡ f
 
-starts : (ss : List Sent) {n f : ℕ} → n ≡ f → Starts ss n f
-starts [] e = tt
-starts (s ∷ ss) e = e
+placed-at : (ss : List Sent) {n f : ℕ} → n ≡ f → PlacedAt ss n f
+placed-at [] e = tt
+placed-at (s ∷ ss) e = e
 
 -- the stream of ss from the place i on, where its first line starts at the place o: a first piece, and then the lines L, from the place f on
 record Cuts (p : Profile) (ss : List Sent) (i o : ℕ) (L : List Sent) (f : ℕ) : Type 0 where
   piece : List ℕ
   leads : Leads p piece
   whole : drop (i - o) (stream ss) ≡ piece ++ stream L
-  place : Starts L (i + length piece) f
+  place : PlacedAt L (i + length piece) f
 
 from-here : (i o : ℕ) (ss : List Sent) → i ≤ o → (linesFrom i o ss ≡ ss) × (startFrom i o ss ≡ o)
 from-here i o [] h = (refl, refl)
@@ -251,7 +255,7 @@ cuts p (and-line {s = s} {ss = ss} g hs) i o h = go (leb i o) (leb (o + length (
               ap (λ (n : ℕ). drop n (written s ++ stream ss)) z
               ∙ drop-append-le (suc k) (written s) (stream ss) (omega arith)
               ∙ ap (λ (L : List Sent). u ++ stream L) (sym (here .0));
-          place = starts (linesFrom i next ss) (long ∙ sym (here .1));
+          place = placed-at (linesFrom i next ss) (long ∙ sym (here .1));
         })
 
 -- What comes out.
@@ -266,7 +270,7 @@ past-piece p brings h u v y r n =
     ∙ ap (collected brings) (sym (outcomes-take p y (n - length u) v))
 
 -- lines
-lines-cut : (p : Profile) {L : List Sent} → AllWritable p L → (y : State) (i f n : ℕ) (u : List ℕ) → Starts L (i + length u) f
+lines-cut : (p : Profile) {L : List Sent} → AllWritable p L → (y : State) (i f n : ℕ) (u : List ℕ) → PlacedAt L (i + length u) f
     → lines p y (take (n - length u) (stream L)) ≡ map asSent (endedBy (i + n) f L)
 lines-cut p no-lines y i f n u e = ap (lines p y) (take-nil (n - length u))
 lines-cut p (and-line {s = s} {ss = ss} g h) y i f n u e =
@@ -283,7 +287,7 @@ first-none p s g m t r =
     ap (collected gapIn) (back p s g (stateWith m t) .told ∙ ap (λ (os : List Outcome). os ++ restTold s Clean Clean) (marked p m t (cleanByte (Line (s .kind))) (r .clear) .told))
     ∙ ap₂ _++_ (no-gap-first (r .brings (s .kind))) (rest-none s)
 
-gaps-cut : (p : Profile) {L : List Sent} → AllWritable p L → (m : Mark) (t : List ℕ) → Ready p starting m t → (i f n : ℕ) (u : List ℕ) → Starts L (i + length u) f
+gaps-cut : (p : Profile) {L : List Sent} → AllWritable p L → (m : Mark) (t : List ℕ) → Ready p starting m t → (i f n : ℕ) (u : List ℕ) → PlacedAt L (i + length u) f
     → gaps p (stateWith m t) (take (n - length u) (stream L)) ≡ map gapAsSent (closedBy (i + n) f L)
 gaps-cut p no-lines m t r i f n u e = ap (gaps p (stateWith m t)) (take-nil (n - length u))
 gaps-cut p (and-line {s = s} {ss = ss} g h) m t r i f n u e =
@@ -322,7 +326,3 @@ cut-stream p {ss} h i n =
           (subst (λ (w : List ℕ). LastAnswer (said (outcomes p fresh w)) (finish p (r .end) .outcome)) (sym is) (last-answer (r .phase) (r .reads)));
       text-short = subst (TextShort p) end (last-short (r .reads));
     }
-
--- the most nibbles of an open mark's text in either profile
-pub most-text : (mostText VV5404 ≡ 725) × (mostText VV5300 ≡ 523)
-most-text = (refl, refl)
