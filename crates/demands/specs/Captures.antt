@@ -20,7 +20,7 @@ pub record CaptureRead (p : Profile) (ss : List Sent) (i n : ℕ) (cs : List Run
   pub on-the-way : List Outcome
   pub last : Outcome
   pub answered : answersTo p cs ≡ on-the-way ++ cond (runsFinish cs) (saidIn last) []
-  -- lines and good gaps, but that the first may be 8; and what finish answers after them
+  -- line, good gap, line, good gap, but that the first may be 8; and what finish answers after them
   pub orderly : Orderly on-the-way
   pub last-fits : LastAnswer on-the-way last
   -- the lines are exactly those that lie wholly in the cut up to their end code, as sent, and the gaps those of them with a mark after their gap

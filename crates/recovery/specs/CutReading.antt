@@ -28,27 +28,28 @@ use Rattle.recovery.specs.Resync.{stateWith, opened, becomes, byte-joine
 use Rattle.recovery.specs.MarkFree.{NoGroup, no-group-more, no-group-onto, no-group-older, none-completed}
 use Rattle.recovery.specs.Gaps.{endCode}
 use Rattle.recovery.specs.CleanAnswers.{saidIn, said}
-use Rattle.recovery.specs.CutStream.{Tidy, tidy-none, tidy-line, tidy-gap, Orderly, all-tidy, began-within, LastAnswer, no-mark-read, within-line, within-gap, gap-closed, end-alone, mostText, TextShort}
+use Rattle.recovery.specs.CutStream.{Tidy, tidy-none, tidy-line, tidy-both, Orderly, all-tidy, began-within, LastAnswer, no-mark-read, within-line, within-gap, gap-closed, end-alone, mostText, TextShort}
 
--- before the first line's mark, and from there on
+-- before the first line's mark; and from there on within a line, or within a gap
 pub data Phase : Type 0 where
   starting : Phase
-  going : Phase
+  lining : Phase
+  gapping : Phase
 
 -- the open mark: none, or an end mark without its line; then a line's, or an end mark after a line handed out
 pub data OpenMark (p : Profile) : Phase → State → Type 0 where
   no-mark-yet : (t : List ℕ) → OpenMark p starting (stateWith NoMark t)
   end-first : (t : List ℕ) → length t ≤ mostText p → OpenMark p starting (stateWith (Open NoLine endCode) t)
-  in-line : (b : Before) (k : Kind) (t : List ℕ) → length t ≤ mostText p → OpenMark p going (stateWith (Open b (cleanByte (Line k))) t)
-  in-gap : (k : Kind) (t : List ℕ) → length t ≤ mostText p → OpenMark p going (stateWith (Open (HandedOut k) endCode) t)
+  in-line : (b : Before) (k : Kind) (t : List ℕ) → length t ≤ mostText p → OpenMark p lining (stateWith (Open b (cleanByte (Line k))) t)
+  in-gap : (k : Kind) (t : List ℕ) → length t ≤ mostText p → OpenMark p gapping (stateWith (Open (HandedOut k) endCode) t)
 
 -- what a nibble may bring: the first line's mark answers none or 8, every other mark a line or a good gap
 pub data Brings : Phase → Outcome → Phase → Type 0 where
   brings-nothing : {q : Phase} → Brings q nothing q
-  brings-first : Brings starting nothing going
-  brings-eight : Brings starting (refused endWithoutLine) going
-  brings-line : {f : LineFacts} {body : List ℕ} → Brings going (line f body) going
-  brings-gap : {g : GapFacts} → Brings going (gap g) going
+  brings-first : Brings starting nothing lining
+  brings-eight : Brings starting (refused endWithoutLine) lining
+  brings-line : {f : LineFacts} {body : List ℕ} → Brings lining (line f body) gapping
+  brings-gap : {g : GapFacts} → Brings gapping (gap g) lining
 
 -- the nibbles w lead from a state to another so
 pub data Reads (p : Profile) : Phase → State → List ℕ → Phase → State → Type 0 where
@@ -91,37 +92,59 @@ reads-front (reads-one s e f b h) (suc n) = let k = reads-front h n in record { 
 
 -- What is said on the way.
 
+not-lining : lining ≡ starting → ⊥
+not-lining e = let z : _≡_ {A = ℕ} 0 1 = cc in omega arith
+
+not-gapping : gapping ≡ starting → ⊥
+not-gapping e = let z : _≡_ {A = ℕ} 0 1 = cc in omega arith
+
 -- one outcome, and those after it
 said-more : (A : List Outcome → Type 0) (p : Profile) (x : State) (n : ℕ) {y : State} {o : Outcome} (w : List ℕ) → step p x n .outcome ≡ o → step p x n .state ≡ y
     → A (saidIn o ++ said (outcomes p y w)) → A (said (outcomes p x (n ∷ w)))
 said-more A p x n {y} {o} w e f h =
     subst (λ (o : Outcome). A (saidIn o ++ said (outcomes p (step p x n .state) w))) (sym e) (subst (λ (y : State). A (saidIn o ++ said (outcomes p y w))) (sym f) h)
 
-module _ {p : Profile} where
-  going-tidy : {z : Phase} {x end : State} {w : List ℕ} → Reads p going x w z end → Tidy (said (outcomes p x w))
-  going-tidy (reads-none s) = tidy-none
-  going-tidy (reads-one {x = x} {n = n} {w = w} s e f brings-nothing h) = said-more Tidy p x n w e f (going-tidy h)
-  going-tidy (reads-one {x = x} {n = n} {w = w} s e f brings-line h) = said-more Tidy p x n w e f (tidy-line (going-tidy h))
-  going-tidy (reads-one {x = x} {n = n} {w = w} s e f brings-gap h) = said-more Tidy p x n w e f (tidy-gap (going-tidy h))
+-- what is said from each phase on: within a gap, after any line
+abbrev pub TidyFrom : Phase → List Outcome → Type 0
+TidyFrom starting os = Orderly os
+TidyFrom lining os = Tidy os
+TidyFrom gapping os = (f : LineFacts) (body : List ℕ) → Tidy (line f body ∷ os)
 
-  pub starting-orderly : {z : Phase} {x end : State} {w : List ℕ} → Reads p starting x w z end → Orderly (said (outcomes p x w))
-  starting-orderly (reads-none s) = all-tidy tidy-none
-  starting-orderly (reads-one {x = x} {n = n} {w = w} s e f brings-nothing h) = said-more Orderly p x n w e f (starting-orderly h)
-  starting-orderly (reads-one {x = x} {n = n} {w = w} s e f brings-first h) = said-more Orderly p x n w e f (all-tidy (going-tidy h))
-  starting-orderly (reads-one {x = x} {n = n} {w = w} s e f brings-eight h) = said-more Orderly p x n w e f (began-within (going-tidy h))
+none-from : (q : Phase) → TidyFrom q []
+none-from starting = all-tidy tidy-none
+none-from lining = tidy-none
+none-from gapping = λ f body. tidy-line
+
+more-from : {q r : Phase} {o : Outcome} (os : List Outcome) → Brings q o r → TidyFrom r os → TidyFrom q (saidIn o ++ os)
+more-from os brings-nothing h = h
+more-from os brings-first h = all-tidy h
+more-from os brings-eight h = began-within h
+more-from os (brings-line {f} {body}) h = h f body
+more-from os brings-gap h = λ f body. tidy-both h
+
+back : {q r : Phase} {o : Outcome} → Brings q o r → r ≡ starting → q ≡ starting
+back brings-nothing e = e
+back brings-first e = refl
+back brings-eight e = refl
+back brings-line e = absurd (not-gapping e)
+back brings-gap e = absurd (not-lining e)
+
+module _ {p : Profile} where
+  pub tidy-from : {q z : Phase} {x end : State} {w : List ℕ} → Reads p q x w z end → TidyFrom q (said (outcomes p x w))
+  tidy-from (reads-none {q} s) = none-from q
+  tidy-from (reads-one {q} {x = x} {y} {n = n} {w} s e f b h) = said-more (TidyFrom q) p x n w e f (more-from (said (outcomes p y w)) b (tidy-from h))
 
   -- before the first line's mark no nibble brings an answer
-  never-back : {x end : State} {w : List ℕ} → Reads p going x w starting end → ⊥
-  never-back (reads-one s e f brings-nothing h) = never-back h
-  never-back (reads-one s e f brings-line h) = never-back h
-  never-back (reads-one s e f brings-gap h) = never-back h
+  never-back : {q : Phase} {x end : State} {w : List ℕ} → Reads p q x w starting end → q ≡ starting
+  never-back (reads-none s) = refl
+  never-back (reads-one s e f b h) = back b (never-back h)
 
   pub starting-quiet : {x end : State} {w : List ℕ} → Reads p starting x w starting end → outcomes p x w ≡ nothings w
   starting-quiet (reads-none s) = refl
   starting-quiet (reads-one {w = w} s e f brings-nothing h) =
       ap₂ (λ (o : Outcome) (y : State). o ∷ outcomes p y w) e f ∙ ap {B = List Outcome} (λ os. nothing ∷ os) (starting-quiet h)
-  starting-quiet (reads-one s e f brings-first h) = absurd (never-back h)
-  starting-quiet (reads-one s e f brings-eight h) = absurd (never-back h)
+  starting-quiet (reads-one s e f brings-first h) = absurd (not-lining (never-back h))
+  starting-quiet (reads-one s e f brings-eight h) = absurd (not-lining (never-back h))
 
 -- What finish answers.
 
@@ -143,11 +166,14 @@ gap-or-nine VV5300 k n (h ∷ l ∷ []) = within-gap
 gap-or-nine VV5300 k n (h ∷ l ∷ h₂ ∷ []) = within-gap
 gap-or-nine VV5300 k n (h ∷ l ∷ h₂ ∷ l₂ ∷ w) = require-nine _ _ (good n _ _)
 
-going-last : (p : Profile) (os : List Outcome) (x : State) → OpenMark p going x → LastAnswer os (finish p x .outcome)
+line-last : (p : Profile) (os : List Outcome) (x : State) → OpenMark p lining x → LastAnswer os (finish p x .outcome)
 unfolding answerOf
-going-last p os x (in-line b k t l) =
+line-last p os x (in-line b k t l) =
     subst (λ c. LastAnswer os (byReading p b c t none)) (sym (clean-reading (Line k))) within-line
-going-last p os x (in-gap k t l) =
+
+gap-last : (p : Profile) (os : List Outcome) (x : State) → OpenMark p gapping x → LastAnswer os (finish p x .outcome)
+unfolding answerOf
+gap-last p os x (in-gap k t l) =
     subst (λ c. LastAnswer os (byReading p (HandedOut k) c t none)) (sym (clean-reading EndOfLine)) (gap-or-nine p k _ _)
 
 starting-last : (p : Profile) (x : State) → OpenMark p starting x → LastAnswer [] (finish p x .outcome)
@@ -162,7 +188,8 @@ said-nothings w = collected-nothings saidIn refl w
 pub last-answer : {p : Profile} {x : State} {w : List ℕ} (z : Phase) {end : State} → Reads p starting x w z end → LastAnswer (said (outcomes p x w)) (finish p end .outcome)
 last-answer {p} {x} {w} starting {end} h =
     subst (λ (os : List Outcome). LastAnswer os (finish p end .outcome)) (sym (ap said (starting-quiet h) ∙ said-nothings w)) (starting-last p end (stands-last h))
-last-answer {p} {x} {w} going {end} h = going-last p _ end (stands-last h)
+last-answer {p} {x} {w} lining {end} h = line-last p _ end (stands-last h)
+last-answer {p} {x} {w} gapping {end} h = gap-last p _ end (stands-last h)
 
 -- The text.
 

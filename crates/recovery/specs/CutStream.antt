@@ -29,11 +29,11 @@ wholeBetween i j ss = endedBy j (startFrom i 0 ss) (linesFrom i 0 ss)
 abbrev pub closedBetween : ℕ → ℕ → List Sent → List Sent
 closedBetween i j ss = closedBy j (startFrom i 0 ss) (linesFrom i 0 ss)
 
--- answers that are lines and good gaps only
+-- line, good gap, line, good gap, and so on
 pub data Tidy : List Outcome → Type 0 where
   tidy-none : Tidy []
-  tidy-line : {f : LineFacts} {body : List ℕ} {os : List Outcome} → Tidy os → Tidy (line f body ∷ os)
-  tidy-gap : {g : GapFacts} {os : List Outcome} → Tidy os → Tidy (gap g ∷ os)
+  tidy-line : {f : LineFacts} {body : List ℕ} → Tidy (line f body ∷ [])
+  tidy-both : {f : LineFacts} {body : List ℕ} {g : GapFacts} {os : List Outcome} → Tidy os → Tidy (line f body ∷ gap g ∷ os)
 
 -- the same, but that the first may be 8: the capture began within a line, and its end mark comes first
 pub data Orderly : List Outcome → Type 0 where
@@ -64,7 +64,7 @@ pub record CutStream (p : Profile) (ss : List Sent) (i n : ℕ) : Type 0 where
   pub lines-whole : lines p fresh (cutOut ss i n) ≡ map asSent (wholeBetween i (i + n) ss)
   -- and exactly the good gaps of those with the mark after their gap in the cut, each with its period as sent
   pub gaps-closed : gaps p fresh (cutOut ss i n) ≡ map gapAsSent (closedBetween i (i + n) ss)
-  -- beside them only the very first answer may come, and be 8
+  -- they come in turn, and beside them only the very first answer may come, and be 8
   pub answers-orderly : Orderly (said (outcomes p fresh (cutOut ss i n)))
   -- finish answers as the place says where the cut ends
   pub finish-answers : LastAnswer (said (outcomes p fresh (cutOut ss i n))) (finish p (run p fresh (cutOut ss i n)) .outcome)

@@ -37,7 +37,7 @@ use Rattle.recovery.specs.Gaps.{gaps, endCode, after, back, rest-none, g
 use Rattle.recovery.specs.CleanAnswers.{said}
 use Rattle.recovery.specs.CutStream.{cutOut, Orderly, LastAnswer, mostText, TextShort, CutStream}
 use Rattle.recovery.specs.CutTexts.{no-group-cut}
-use Rattle.recovery.specs.CutReading.{Phase, starting, going, OpenMark, no-mark-yet, end-first, in-line, in-gap, Brings, brings-nothing, brings-first, brings-eight, brings-line, brings-gap, Reads, reads-none, reads-append, reads-run, ReadsOn, reads-then, reads-front, starting-orderly, starting-quiet, last-answer, last-short, reads-text, reads-mark}
+use Rattle.recovery.specs.CutReading.{Phase, starting, lining, gapping, OpenMark, no-mark-yet, end-first, in-line, in-gap, Brings, brings-nothing, brings-first, brings-eight, brings-line, brings-gap, Reads, reads-none, reads-append, reads-run, ReadsOn, reads-then, reads-front, tidy-from, starting-quiet, last-answer, last-short, reads-text, reads-mark}
 
 -- Lengths.
 
@@ -75,7 +75,7 @@ gap-short p s g n h = omega (arith, h, tail-length p s g)
 record Ready (p : Profile) (q : Phase) (m : Mark) (t : List ℕ) : Type 0 where
   clear : NoGroup t
   stands : (v : List ℕ) → length v ≤ length t + 7 → OpenMark p q (stateWith m v)
-  brings : (k : Kind) → Brings q (answerAt p m t (some (cleanByte (Line k)))) going
+  brings : (k : Kind) → Brings q (answerAt p m t (some (cleanByte (Line k)))) lining
 
 ready-fresh : (p : Profile) {t : List ℕ} → NoGroup t → Ready p starting NoMark t
 ready-fresh p h = record { clear = h; stands = λ v l. no-mark-yet v; brings = λ k. brings-first }
@@ -87,17 +87,17 @@ gap-clear p s g = no-group-gap p s g endCode (read-small endCode Clean EndOfLine
 gap-text-short : (p : Profile) (s : Sent) → Writable p s → (n : ℕ) → n ≤ length (gapText endCode s) + 7 → n ≤ mostText p
 gap-text-short p s g n h = gap-short p s g n (omega (arith, h, length-onto (endCode % 16 ∷ endCode / 16 ∷ []) (tail s)))
 
-good-brings : (n a b : ℕ) → Brings going (goodGap n a b) going
+good-brings : (n a b : ℕ) → Brings gapping (goodGap n a b) lining
 unfolding goodGap
 good-brings n a b = brings-gap
 
-ready-after : (p : Profile) (s : Sent) → Writable p s → Ready p going (Open (HandedOut (s .kind)) endCode) (gapText endCode s)
+ready-after : (p : Profile) (s : Sent) → Writable p s → Ready p gapping (Open (HandedOut (s .kind)) endCode) (gapText endCode s)
 ready-after p s g =
     record {
       clear = gap-clear p s g;
       stands = λ v l. in-gap (s .kind) v (gap-text-short p s g (length v) l);
       brings = λ k.
-          subst (λ (o : Outcome). Brings going o going)
+          subst (λ (o : Outcome). Brings gapping o lining)
           (sym (gap-answer p s g endCode Clean (clean-reading EndOfLine) (some (cleanByte (Line k))))) (good-brings _ (s .gap-one) (s .gap-two));
     }
 
@@ -108,11 +108,11 @@ ready-alone p s g =
       clear = gap-clear p s g;
       stands = λ v l. end-first v (gap-text-short p s g (length v) l);
       brings = λ k.
-          subst (λ c. Brings starting (byReading p NoLine c (gapText endCode s) (some (cleanByte (Line k)))) going) (sym (clean-reading EndOfLine)) brings-eight;
+          subst (λ c. Brings starting (byReading p NoLine c (gapText endCode s) (some (cleanByte (Line k)))) lining) (sym (clean-reading EndOfLine)) brings-eight;
     }
 
 -- a line as written is read whole
-reads-line : (p : Profile) (s : Sent) → Writable p s → (q : Phase) (m : Mark) (t : List ℕ) → Ready p q m t → Reads p q (stateWith m t) (written s) going (after s)
+reads-line : (p : Profile) (s : Sent) → Writable p s → (q : Phase) (m : Mark) (t : List ℕ) → Ready p q m t → Reads p q (stateWith m t) (written s) gapping (after s)
 reads-line p s g q m t h =
     let c = cleanByte (Line (s .kind)) in
     let b = becomes p m t c in
@@ -123,19 +123,19 @@ reads-line p s g q m t h =
     let answer = line-answer p s g b c endCode Clean Clean (clean-reading (Line (s .kind))) (clean-reading EndOfLine) in
     let handed : becomes p o (lineText c s) endCode ≡ HandedOut (s .kind)
     = ap₂ (λ k a. beforeBy k (isLine a)) (ap kindOf (clean-reading (Line (s .kind)))) answer in
-    reads-append (reads-mark p q going m t c (h .clear) (h .stands) refl (h .brings (s .kind)) refl (in-line b (s .kind) two (line-short p s g 2 (omega arith))))
-    (reads-append (reads-text p going o two (content s) clear (λ v l. in-line b (s .kind) v (line-short p s g (length v) (omega arith))))
+    reads-append (reads-mark p q lining m t c (h .clear) (h .stands) refl (h .brings (s .kind)) refl (in-line b (s .kind) two (line-short p s g 2 (omega arith))))
+    (reads-append (reads-text p lining o two (content s) clear (λ v l. in-line b (s .kind) v (line-short p s g (length v) (omega arith))))
     (reads-append
-    (reads-mark p going going o (lineText c s) endCode clear
+    (reads-mark p lining gapping o (lineText c s) endCode clear
     (λ v l. in-line b (s .kind) v (line-short p s g (length v) (omega (arith, l, length-onto two (content s)))))
     answer brings-line handed (in-gap (s .kind) _ (gap-short p s g 2 (omega arith))))
-    (reads-text p going e (endCode % 16 ∷ endCode / 16 ∷ []) (tail s) (gap-clear p s g) (λ v l. in-gap (s .kind) v (gap-short p s g (length v) (omega arith))))))
+    (reads-text p gapping e (endCode % 16 ∷ endCode / 16 ∷ []) (tail s) (gap-clear p s g) (λ v l. in-gap (s .kind) v (gap-short p s g (length v) (omega arith))))))
 
 -- and so is a clean stream
 reads-stream : (p : Profile) {ss : List Sent} → AllWritable p ss → (q : Phase) (m : Mark) (t : List ℕ) → Ready p q m t → ReadsOn p q (stateWith m t) (stream ss)
 reads-stream p no-lines q m t h = record { phase = q; end = stateWith m t; reads = reads-none (h .stands t (omega arith)) }
 reads-stream p (and-line {s = s} g hs) q m t h =
-    reads-then (reads-line p s g q m t h) (reads-stream p hs going (Open (HandedOut (s .kind)) endCode) (gapText endCode s) (ready-after p s g))
+    reads-then (reads-line p s g q m t h) (reads-stream p hs gapping (Open (HandedOut (s .kind)) endCode) (gapText endCode s) (ready-after p s g))
 
 -- The first piece of a cut: what is left of the line that the cut begins in.
 
@@ -278,7 +278,7 @@ lines-cut p (and-line {s = s} {ss = ss} g h) y i f n u e =
     ap (λ (k : ℕ). lines p y (take k (stream (s ∷ ss)))) z ∙ lines-up-to p (and-line g h) y (i + n) f
 
 -- gaps: none comes out of the first whole line, nor of its start mark
-no-gap-first : {o : Outcome} → Brings starting o going → gapIn o ≡ []
+no-gap-first : {o : Outcome} → Brings starting o lining → gapIn o ≡ []
 no-gap-first brings-first = refl
 no-gap-first brings-eight = refl
 
@@ -320,7 +320,7 @@ cut-stream p {ss} h i n =
           ap (gaps p fresh) is
           ∙ past-piece p gapIn refl (c .piece) (stream L) y (d .reads) n
           ∙ gaps-cut p good (d .mark) (d .text) (d .ready) i f n (c .piece) (c .place);
-      answers-orderly = subst (λ (w : List ℕ). Orderly (said (outcomes p fresh w))) (sym is) (starting-orderly (r .reads));
+      answers-orderly = subst (λ (w : List ℕ). Orderly (said (outcomes p fresh w))) (sym is) (tidy-from (r .reads));
       finish-answers =
           subst (λ (x : State). LastAnswer (said (outcomes p fresh (cutOut ss i n))) (finish p x .outcome)) end
           (subst (λ (w : List ℕ). LastAnswer (said (outcomes p fresh w)) (finish p (r .end) .outcome)) (sym is) (last-answer (r .phase) (r .reads)));
