@@ -1,8 +1,9 @@
 -- The reader's own calls answer a clean stream, whole or cut, as the meaning does.
-use mathlib.Core.Path.{_≡_, refl, _∙_, ap, ap₂, sym}
+use mathlib.Core.Path.{_≡_, refl, _∙_, ap, ap₂, sym, subst}
 use mathlib.Core.Bool.{Bool, true, false, cond}
 use mathlib.Core.List.{List, [], _∷_, _++_, append-nil}
 use Prim.Native.Nat.{ℕ}
+use native.Mathlib.Omega.{arith}
 use Rattle.profile.specs.declared.Profile.{Profile}
 use Rattle.stream.specs.Answers.{Outcome, nothing, line, gap, refused}
 use Rattle.stream.specs.Stream.{fresh, finish, run, outcomes}
@@ -15,9 +16,10 @@ use Rattle.recovery.specs.CleanAnswersLaws.{clean-answers}
 use Rattle.recovery.specs.CallAnswers.{broughtBy}
 use Rattle.recovery.specs.CutStream.{cutOut}
 use Rattle.recovery.specs.CutStreamLaws.{cut-stream}
-use Rattle.refinement.specs.Runs.{RunCall, runsTaken, FinishLastRun}
+use Rattle.refinement.specs.Refine.{Follows}
+use Rattle.refinement.specs.Runs.{RunCall, onRuns, runsTaken, FinishLastRun}
 use Rattle.refinement.specs.RunAnswers.{runsFinish}
-use Rattle.refinement.specs.RunAnswersLaws.{runs-said}
+use Rattle.refinement.specs.RunAnswersLaws.{runs-follow, runs-said}
 use Rattle.demands.specs.DemandTwo.{answersTo}
 use Rattle.demands.specs.Captures.{CaptureRead}
 
@@ -50,6 +52,10 @@ capture-read p {ss} h i n cs fl e =
       last-fits = c .finish-answers;
       lines-whole = collected-said lineIn refl (outcomes p fresh w) ∙ c .lines-whole;
       gaps-closed = collected-said gapIn refl (outcomes p fresh w) ∙ c .gaps-closed;
+      text-short = λ no before code at.
+          let f = subst (λ (v : List ℕ). Follows p (onRuns (freshReader p) cs) (run p fresh v)) e (runs-follow p cs no) .same .head-same in
+          let short = c .text-short before code (sym (f .at-same) ∙ at) in
+          omega (arith, f .count-same, short);
     }
 
 -- of a whole clean stream that is finished: each line and its gap as sent, in order, and no other answer

@@ -1,5 +1,5 @@
--- Over any list of calls the marks' answers are those of the nibbles taken, and of finish where it is the last call: a refused call takes none
--- and answers no mark.
+-- Over any list of calls the marks' answers are those of the nibbles taken, and of finish where it is the last call, and so is the state: a refused
+-- call takes none and answers no mark.
 use mathlib.Core.Path.{_≡_, refl, _∙_, ap, ap₂, sym}
 use mathlib.Core.Bool.{Bool, true, false, cond, true≢false}
 use mathlib.Core.List.{List, [], _∷_, _++_}
@@ -13,8 +13,8 @@ use Rattle.refusal.specs.Refusal.{notANibble}
 use Rattle.profile.specs.declared.Profile.{Profile}
 use Rattle.profile.specs.Profile.{bodyLength}
 use Rattle.stream.specs.Answers.{Outcome, line, refused, outcomeOf, answerFor, bufferAfter}
-use Rattle.stream.specs.Stream.{State, step, finish}
-use Rattle.recovery.specs.Calls.{Call, feed, FinishLast, no-call, done-last, feed-first, CallResult, takes, onTaken, onCollected, fed, meaningCall}
+use Rattle.stream.specs.Stream.{State, step, finish, run}
+use Rattle.recovery.specs.Calls.{Call, feed, done, FinishLast, no-call, done-last, feed-first, CallResult, takes, onRun, onTaken, onCollected, fed, meaningCall}
 use Rattle.recovery.specs.AnswerLaws.{answer-cases, step-cases}
 use Rattle.recovery.specs.Damage.{by-test}
 use Rattle.recovery.specs.DemandThree.{step-taken}
@@ -60,6 +60,20 @@ module _ (p : Profile) where
           ap₂ (λ (os l : List Outcome). os ++ l) (step-says p s n buffer) (later x)
           ∙ ap said (sym (brought-more p s n w (withFinish cs)))
           ∙ ap (λ (v : List ℕ). said (broughtBy p s v (withFinish cs))) (sym (step-taken p s n w))
+
+  -- calls without finish lead where the nibbles lead that they take
+  pub calls-run : (cs : List Call) → withFinish cs ≡ false → (s : State) → onRun (meaningCall p) s cs ≡ run p s (onTaken (meaningCall p) s cs)
+  calls-run [] e s = refl
+  calls-run (done ∷ cs) e s = absurd (true≢false e)
+  calls-run (feed n buffer ∷ cs) e s = go (calls-run cs e)
+    where
+      Leads : CallResult State → Type 0
+      Leads c = onRun (meaningCall p) (c .reader) cs ≡ run p s (takes (c .answer) n (onTaken (meaningCall p) (c .reader) cs))
+
+      go : ((x : State) → onRun (meaningCall p) x cs ≡ run p x (onTaken (meaningCall p) x cs)) → Leads (meaningCall p s (feed n buffer))
+      go later =
+          by-test Leads (leb n 15)
+          (λ _. by-test Leads (leb (bodyLength p) (length buffer)) (λ _. later (step p s n .state) ∙ ap (run p s) (sym (step-taken p s n _))) (λ _. later s)) (λ _. later s)
 
   pub calls-said : {cs : List Call} → FinishLast cs → (s : State)
       → onCollected (meaningCall p) markCollector p s cs ≡ said (broughtBy p s (onTaken (meaningCall p) s cs) (withFinish cs))

@@ -274,7 +274,7 @@ module _ {R : Type 0} (on : R → Call → CallResult R) (p : Profile) (Same : R
     (same-reader : (r : R) (s : State) (c : Call) → Same r s → Same (on r c .reader) (meaningCall p s c .reader))
     (same-answer : (r : R) (s : State) (c : Call) → Same r s → on r c .answer ≡ meaningCall p s c .answer)
     (same-buffer : (r : R) (s : State) (c : Call) → Same r s → on r c .buffer ≡ meaningCall p s c .buffer) where
-  same-run : (cs : List Call) (r : R) (s : State) → Same r s → Same (onRun on r cs) (onRun (meaningCall p) s cs)
+  pub same-run : (cs : List Call) (r : R) (s : State) → Same r s → Same (onRun on r cs) (onRun (meaningCall p) s cs)
   same-run [] r s h = h
   same-run (c ∷ cs) r s h = same-run cs (on r c .reader) (meaningCall p s c .reader) (same-reader r s c h)
 
