@@ -1,4 +1,4 @@
--- Registers of the VV5404 and VV6404 by name (004, Table 8).
+-- Registers by name, of the VV5404 and VV6404 (004, Table 8), and of the VV5300 (000, 'The programmers model').
 use Prim.Native.Nat.{ℕ}
 
 abbrev pub setup0 : ℕ
@@ -10,9 +10,14 @@ setup1 = 17
 abbrev pub setup2 : ℕ
 setup2 = 18
 
+-- of the VV5300 alone
+abbrev pub setup3 : ℕ
+setup3 = 19
+
 abbrev pub setup4 : ℕ
 setup4 = 20
 
+-- of the VV5404 and VV6404 alone
 abbrev pub setup5 : ℕ
 setup5 = 21
 

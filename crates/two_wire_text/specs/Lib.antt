@@ -1,4 +1,4 @@
-pub mod Text
-pub mod TextLaws
-pub mod Lines
-pub mod LineLaws
+pub mod Hex
+pub mod HexLaws
+pub mod Explained
+pub mod ExplainedLaws

@@ -1,5 +1,5 @@
 -- Two digits, each at most 16, joined and cut to a byte: nothing overflows sixteen bits.
-use Rattle.two_wire_text.specs.Text.{byteOf}
+use Rattle.two_wire_text.specs.Hex.{byteOf}
 use borrow.Author.Needs.{needs}
 use Rattle.two_wire_text.proofs.byte_of.Statement.{statement}
 use Rattle.two_wire_text.proofs.byte_of.Tie as tie

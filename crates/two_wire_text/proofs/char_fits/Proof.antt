@@ -1,7 +1,7 @@
 -- Every third character is a space; any other must be a digit, which the call for digits tells.
 use Prim.Native.Nat.{_%_}
 use borrow.Author.Tests.{eq-eqb, ne-eqb}
-use Rattle.two_wire_text.specs.Text.{charFits}
+use Rattle.two_wire_text.specs.Hex.{charFits}
 use borrow.Author.Needs.{needs}
 use Rattle.two_wire_text.proofs.char_fits.Statement.{statement}
 use Rattle.two_wire_text.proofs.char_fits.Tie as tie

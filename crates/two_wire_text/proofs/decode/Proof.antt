@@ -7,8 +7,8 @@ use native.Mathlib.Numerals.{add-one}
 use borrow.Author.Needs.{needs}
 use lib.ListN.{length, drop}
 use lib.Seq.{sets}
-use Rattle.two_wire_text.specs.Text.{bytesOf}
-use Rattle.two_wire_text.specs.TextLaws.{bytes-step, bytes-end}
+use Rattle.two_wire_text.specs.Hex.{bytesOf}
+use Rattle.two_wire_text.specs.HexLaws.{bytes-step, bytes-end}
 use Rattle.two_wire_text.proofs.decode.Statement.{statement}
 use Rattle.two_wire_text.proofs.decode.Tie as tie
 

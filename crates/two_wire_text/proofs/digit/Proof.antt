@@ -1,6 +1,6 @@
 -- The ranges are tested from the lowest character up: where one test holds all before it have failed.
 use borrow.Author.Tests.{lt-ltb, le-ltb, le-leb, lt-leb}
-use Rattle.two_wire_text.specs.Text.{digitOf}
+use Rattle.two_wire_text.specs.Hex.{digitOf}
 use borrow.Author.Needs.{needs}
 use Rattle.two_wire_text.proofs.digit.Statement.{statement}
 use Rattle.two_wire_text.proofs.digit.Tie as tie

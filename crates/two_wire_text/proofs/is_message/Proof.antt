@@ -4,8 +4,8 @@ use Prim.Native.Nat.{_≤_, _-_, _%_}
 use borrow.Author.Needs.{needs}
 use borrow.Author.Tests.{eq-eqb, ne-eqb}
 use lib.ListN.{length, drop, drop-of-length-le}
-use Rattle.two_wire_text.specs.Text.{charsFit, isMessage}
-use Rattle.two_wire_text.specs.TextLaws.{chars-step}
+use Rattle.two_wire_text.specs.Hex.{charsFit, isMessage}
+use Rattle.two_wire_text.specs.HexLaws.{chars-step}
 use Rattle.two_wire_text.proofs.is_message.Statement.{statement}
 use Rattle.two_wire_text.proofs.is_message.Tie as tie
 

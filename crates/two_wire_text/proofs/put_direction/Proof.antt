@@ -1,7 +1,7 @@
 -- `WRITE ` or `READ `, by the test of the address.
 use borrow.Author.Tests.{eq-eqb, ne-eqb}
 use borrow.Author.Needs.{needs}
-use Rattle.two_wire_text.specs.Lines.{directionWord}
+use Rattle.two_wire_text.specs.Explained.{directionWord}
 use Rattle.two_wire_text.proofs.put_direction.Statement.{statement}
 use Rattle.two_wire_text.proofs.put_direction.Tie as tie
 

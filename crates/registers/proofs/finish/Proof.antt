@@ -1,0 +1,25 @@
+-- The text for the last line is within the buffer that it was put in, so the front that is written has its length.
+use mathlib.Core.Path.{sym}
+use lib.Seq.{length-take-le}
+use Rattle.script.specs.ScriptLaws.{text-within}
+use borrow.Author.Needs.{needs}
+use Rattle.registers.proofs.finish.Statement.{statement}
+use Rattle.registers.proofs.finish.Tie as tie
+
+array-share-prefix-out : tie.Need-array-share-prefix-out
+array-share-prefix-out c = text-within _ _ (c .finish .ensures)
+
+slice-aggregate-write : tie.Need-slice-aggregate-write
+slice-aggregate-write c =
+    let finish = c .before .finish in
+    sym (length-take-le _ _ (text-within _ _ (finish .ensures)))
+
+pub finish-spec : {M : Type 1} → statement M
+finish-spec =
+    tie.close
+    (tie.spec
+    (λ c κs. search needs)
+    array-share-prefix-out
+    slice-aggregate-write
+    (λ c κs. search needs)
+    (λ c. search needs))

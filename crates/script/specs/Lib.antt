@@ -1,0 +1,6 @@
+pub mod Bare
+pub mod BareLaws
+pub mod Line
+pub mod LineLaws
+pub mod Script
+pub mod ScriptLaws

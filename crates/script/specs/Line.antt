@@ -1,0 +1,69 @@
+-- What a line of a script gives: its text, and the sensor's state after it.
+use mathlib.Core.Bool.{cond}
+use mathlib.Core.List.{List, [], _∷_, _++_}
+use Prim.Native.Nat.{ℕ}
+use lib.Dec.{eqb}
+use lib.ListN.{take}
+use Rattle.text.specs.Text.{ascii, newline, decimal}
+use Rattle.profile.specs.declared.Profile.{Profile}
+use Rattle.profile.specs.declared.Profile.the-variants.{VV5404, VV5300}
+use Rattle.two_wire.specs.declared.Sensor.{Sensor}
+use Rattle.two_wire.specs.Writing.{message}
+use Rattle.setting.specs.declared.Setting.{Setting}
+use Rattle.setting.specs.declared.Setting.the-variants.{Single, Double, Beyond, NoGain, Unknown}
+use Rattle.setting.specs.Setting.{settingOf}
+use Rattle.two_wire_text.specs.Hex.{hexText, isMessage}
+use Rattle.two_wire_text.specs.declared.Told.{Told}
+use Rattle.two_wire_text.specs.Explained.{messageText, messageSensor, TellsIn}
+use Rattle.script.specs.Bare.{bareLength, bare}
+
+-- ---- why a line is refused: its number, and what it may be
+
+unfoldable pub lineWords : ℕ → List ℕ
+lineWords n = ascii "line " ++ (decimal n ++ ascii ": ")
+
+-- a value above its limit, or none: the name with its space, and the limit
+unfoldable pub beyondText : ℕ → ℕ → ℕ → List ℕ → List ℕ
+beyondText n at limit line = lineWords n ++ (take at line ++ (ascii "takes 0 to " ++ (decimal limit ++ (newline ∷ []))))
+
+unfoldable pub noGainText : ℕ → List ℕ
+noGainText n = lineWords n ++ ascii "gain takes 0, 1, 3 or 7\n"
+
+abbrev pub unknownWords : Profile → List ℕ
+unknownWords VV5404 = ascii "no setting of the VV5404, and no message\n"
+unknownWords VV5300 = ascii "no setting of the VV5300, and no message\n"
+
+unfoldable pub unknownText : Profile → ℕ → List ℕ
+unknownText p n = lineWords n ++ unknownWords p
+
+unfoldable pub tooLongText : ℕ → ℕ → List ℕ
+tooLongText n room = lineWords n ++ (decimal room ++ ascii " characters or more\n")
+
+-- ---- lines
+
+-- the text for a line, by the setting that it is, or as a message
+unfoldable pub textBy : Setting → Profile → Sensor → ℕ → List ℕ → List ℕ
+textBy (Single i v) p s n line = hexText (message i v)
+textBy (Double i v j w) p s n line = hexText (message i v) ++ hexText (message j w)
+textBy (Beyond at limit) p s n line = beyondText n at limit line
+textBy NoGain p s n line = noGainText n
+textBy Unknown p s n line = cond (isMessage line) (messageText s line) (unknownText p n)
+
+-- the state after a line: a setting leaves it
+unfoldable pub sensorBy : Setting → Sensor → List ℕ → Sensor
+sensorBy (Single i v) s line = s
+sensorBy (Double i v j w) s line = s
+sensorBy (Beyond at limit) s line = s
+sensorBy NoGain s line = s
+sensorBy Unknown s line = cond (isMessage line) (messageSensor s line) s
+
+-- a line that is empty without its comment has no text
+unfoldable pub textOf : Profile → Sensor → ℕ → List ℕ → List ℕ
+textOf p s n line = cond (eqb (bareLength line) 0) [] (textBy (settingOf p (bare line)) p s n (bare line))
+
+unfoldable pub sensorOf : Profile → Sensor → List ℕ → Sensor
+sensorOf p s line = cond (eqb (bareLength line) 0) s (sensorBy (settingOf p (bare line)) s (bare line))
+
+-- what a call tells, for the setting that a line is: the state after, and the text at the front of a buffer, as far as it has room
+abbrev pub TellsBy : Setting → Profile → Sensor → ℕ → List ℕ → List ℕ → List ℕ → Told → Type 0
+TellsBy asked p s n line = TellsIn (sensorBy asked s line) (textBy asked p s n line)

@@ -1,0 +1,29 @@
+-- A line's word, and its number in decimal.
+use mathlib.Core.Bool.{Bool, true, false, _&&_, cond}
+use mathlib.Core.List.{List, [], _∷_}
+use Prim.Native.Nat.{ℕ, _+_, _-_, _*_}
+use lib.Dec.{eqb, ltb}
+
+unfoldable pub startsWith : List ℕ → List ℕ → Bool
+startsWith [] line = true
+startsWith (w ∷ word) [] = false
+startsWith (w ∷ word) (c ∷ line) = eqb c w && startsWith word line
+
+-- what stands for a number that is missing, or above 65,535
+abbrev pub noNumber : ℕ
+noNumber = 65536
+
+-- a number with one decimal digit more
+unfoldable pub digitOnto : ℕ → ℕ → ℕ
+digitOnto n c =
+    cond (ltb c 0x30) noNumber
+    (cond (ltb 0x39 c) noNumber (cond (ltb 6553 n) noNumber (cond (ltb 65535 (10 * n + (c - 0x30))) noNumber (10 * n + (c - 0x30)))))
+
+abbrev pub digitsOnto : ℕ → List ℕ → ℕ
+digitsOnto n [] = n
+digitsOnto n (c ∷ line) = digitsOnto (digitOnto n c) line
+
+-- the number that a text is, up to 65,535
+abbrev pub numberIn : List ℕ → ℕ
+numberIn [] = noNumber
+numberIn (c ∷ line) = digitsOnto 0 (c ∷ line)

@@ -1,0 +1,31 @@
+-- A word and a number, one character after another.
+use mathlib.Core.Path.{_≡_}
+use mathlib.Core.Bool.{true, false, _&&_}
+use mathlib.Core.List.{List}
+use Prim.Native.Nat.{ℕ, _+_, _<_, _≤_}
+use native.Mathlib.Numerals.{add-one}
+use lib.Dec.{eqb}
+use lib.ListN.{length, drop, getD, drop-of-length-le}
+use lib.Seq.{drop-cons}
+use Rattle.setting.specs.Number.{startsWith, digitOnto, digitsOnto, numberIn}
+
+module _ (word line : List ℕ) (i : ℕ) (h : i < length word) where
+  pub starts-step : i < length line
+      → startsWith (drop i word) (drop i line) ≡ (eqb (getD line i 0) (getD word i 0) && startsWith (drop (i + 1) word) (drop (i + 1) line))
+  unfolding startsWith
+  starts-step l = rw (add-one i, drop-cons word i 0, drop-cons line i 0)
+
+  pub starts-short : length line ≤ i → startsWith (drop i word) (drop i line) ≡ false
+  unfolding startsWith
+  starts-short l = rw (drop-of-length-le line, drop-cons word i 0)
+
+pub starts-whole : (word line : List ℕ) (i : ℕ) → length word ≤ i → startsWith (drop i word) (drop i line) ≡ true
+unfolding startsWith
+starts-whole word line i h = rw (drop-of-length-le word)
+
+module _ (line : List ℕ) (i : ℕ) (h : i < length line) where
+  pub number-starts : numberIn (drop i line) ≡ digitsOnto 0 (drop i line)
+  number-starts = rw (drop-cons line i 0)
+
+  pub digits-step : (n : ℕ) → digitsOnto n (drop i line) ≡ digitsOnto (digitOnto n (getD line i 0)) (drop (i + 1) line)
+  digits-step n = rw (add-one i, drop-cons line i 0)

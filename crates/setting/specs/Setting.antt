@@ -1,0 +1,87 @@
+-- Settings by name: the registers that a line asks to write, or what its value may be.
+use mathlib.Core.Bool.{cond}
+use mathlib.Core.List.{List}
+use Prim.Native.Nat.{ℕ, _/_, _%_}
+use lib.Dec.{eqb, ltb}
+use lib.ListN.{drop}
+use Rattle.text.specs.Text.{ascii}
+use Rattle.profile.specs.declared.Profile.{Profile}
+use Rattle.profile.specs.declared.Profile.the-variants.{VV5404, VV5300}
+use Rattle.two_wire.specs.RegisterNames.{setup0, setup1, setup2, setup3, setup4, setup5, fineHigh, fineLow, coarseHigh, coarseLow, gain, clockDivisor}
+use Rattle.setting.specs.declared.Setting.{Setting}
+use Rattle.setting.specs.declared.Setting.the-variants.{Single, Double, Beyond, NoGain, Unknown}
+use Rattle.setting.specs.Number.{startsWith, numberIn}
+
+-- ---- limits
+
+-- fine exposure: 438 at 25 frames a second, 360 at 30 (004, Table 24), where the sensor clips what is above
+abbrev pub fineLimit : ℕ
+fineLimit = 438
+
+abbrev pub coarseLimit : ℕ
+coarseLimit = 302
+
+-- the VV5300's: fine FF at 50 Hz, A8 at 60 Hz, coarse 91 (000, page 32); all eight gain codes (page 33)
+abbrev pub fineLimitVV5300 : ℕ
+fineLimitVV5300 = 0xFF
+
+abbrev pub coarseLimitVV5300 : ℕ
+coarseLimitVV5300 = 0x91
+
+abbrev pub gainLimitVV5300 : ℕ
+gainLimitVV5300 = 7
+
+abbrev pub divisorLimit : ℕ
+divisorLimit = 3
+
+abbrev pub byteLimit : ℕ
+byteLimit = 255
+
+-- ---- values
+
+-- a value of one byte, and one of two, that stands at a place of its line; what is no number is above every limit
+unfoldable pub single : ℕ → ℕ → ℕ → ℕ → Setting
+single at i limit n = cond (ltb limit n) (Beyond at limit) (Single i n)
+
+unfoldable pub double : ℕ → ℕ → ℕ → ℕ → ℕ → Setting
+double at high low limit n = cond (ltb limit n) (Beyond at limit) (Double high (n / 256) low (n % 256))
+
+-- a gain code of the VV5404, for a gain of 1, 2, 4 or 8
+unfoldable pub gainCode : ℕ → Setting
+gainCode n =
+    cond (eqb n 0) (Single gain 0) (cond (eqb n 1) (Single gain 1) (cond (eqb n 3) (Single gain 3) (cond (eqb n 7) (Single gain 7) NoGain)))
+
+-- ---- names
+
+-- a name and a space, then a value
+abbrev pub one : List ℕ → ℕ → ℕ → ℕ → Setting
+one line at i limit = single at i limit (numberIn (drop at line))
+
+abbrev pub two : List ℕ → ℕ → ℕ → ℕ → ℕ → Setting
+two line at high low limit = double at high low limit (numberIn (drop at line))
+
+unfoldable pub sharedSetting : List ℕ → Setting
+sharedSetting line =
+    cond (startsWith (ascii "divisor ") line) (one line 8 clockDivisor divisorLimit)
+    (cond (startsWith (ascii "setup0 ") line) (one line 7 setup0 byteLimit)
+    (cond (startsWith (ascii "setup1 ") line) (one line 7 setup1 byteLimit)
+    (cond (startsWith (ascii "setup2 ") line) (one line 7 setup2 byteLimit)
+    (cond (startsWith (ascii "setup4 ") line) (one line 7 setup4 byteLimit) Unknown))))
+
+unfoldable pub settingVV5404 : List ℕ → Setting
+settingVV5404 line =
+    cond (startsWith (ascii "fine ") line) (two line 5 fineHigh fineLow fineLimit)
+    (cond (startsWith (ascii "coarse ") line) (two line 7 coarseHigh coarseLow coarseLimit)
+    (cond (startsWith (ascii "gain ") line) (gainCode (numberIn (drop 5 line)))
+    (cond (startsWith (ascii "setup5 ") line) (one line 7 setup5 byteLimit) (sharedSetting line))))
+
+unfoldable pub settingVV5300 : List ℕ → Setting
+settingVV5300 line =
+    cond (startsWith (ascii "fine ") line) (one line 5 fineLow fineLimitVV5300)
+    (cond (startsWith (ascii "coarse ") line) (one line 7 coarseLow coarseLimitVV5300)
+    (cond (startsWith (ascii "gain ") line) (one line 5 gain gainLimitVV5300)
+    (cond (startsWith (ascii "setup3 ") line) (one line 7 setup3 byteLimit) (sharedSetting line))))
+
+abbrev pub settingOf : Profile → List ℕ → Setting
+settingOf VV5404 line = settingVV5404 line
+settingOf VV5300 line = settingVV5300 line

@@ -1,0 +1,221 @@
+// Settings of a sensor as a person writes them, a name, a space and a value in decimal: `fine 120`.
+//
+// In: the sensor, and a line. Out: the registers to write, with their values, or what the value may be, or that the line names no setting of
+// that sensor. What the sensors have: 004, Tables 8 and 24, and 000, 'The programmers model'. Cost: linear in the line.
+//
+// | name | VV5404 | VV5300 |
+// | fine | 0 to 438, of two bytes | 0 to 255, of one byte |
+// | coarse | 0 to 302, of two bytes | 0 to 145, of one byte |
+// | gain | 0, 1, 3 or 7 | 0 to 7 |
+// | divisor | 0 to 3 | 0 to 3 |
+// | setup0, setup1, setup2, setup4 | 0 to 255 | 0 to 255 |
+// | setup3 | | 0 to 255 |
+// | setup5 | 0 to 255 | |
+ghost use mathlib.Core.Path.{_≡_};
+ghost use lib.ListN.{drop};
+ghost use Rattle.setting.specs.Number.{startsWith, digitOnto, numberIn};
+ghost use Rattle.setting.specs.Setting.{single, double, gainCode, sharedSetting, settingVV5404, settingVV5300, settingOf};
+use profile::Profile;
+use two_wire::register;
+
+// What a line asks for.
+pub enum Setting {
+    // A register's index and value.
+    Single(u8, u8),
+    // Two registers' indices and values, high byte first.
+    Double(u8, u8, u8, u8),
+    // No number, or one above the limit: where the value stands in the line, and the limit.
+    Beyond(usize, u16),
+    // No gain code of the VV5404.
+    NoGain,
+    // No setting.
+    Unknown,
+}
+
+// The greatest fine exposure, at 25 frames a second, and coarse exposure (004, Table 24).
+const FINE_LIMIT: u16 = 438;
+
+const COARSE_LIMIT: u16 = 302;
+
+// The VV5300's, at 50 Hz (000, page 32), and its greatest gain code (page 33).
+const FINE_LIMIT_VV5300: u8 = 255;
+
+const COARSE_LIMIT_VV5300: u8 = 145;
+
+const GAIN_LIMIT_VV5300: u8 = 7;
+
+const DIVISOR_LIMIT: u8 = 3;
+
+const BYTE_LIMIT: u8 = 255;
+
+// What stands for a number that is missing, or above 65,535.
+const NO_NUMBER: u32 = 65536;
+
+// The setting that a line is: `settingOf`.
+pub fn read(profile: Profile, line: &[u8]) -> Setting
+    ensures { λ r. ⌜ r ≡ settingOf profile (now (line .entry)) ⌝ }
+{
+    match profile {
+        Profile::VV5404 => read_vv5404(line),
+        Profile::VV5300 => read_vv5300(line),
+    }
+}
+
+fn read_vv5404(line: &[u8]) -> Setting
+    ensures { λ r. ⌜ r ≡ settingVV5404 (now (line .entry)) ⌝ }
+{
+    if begins(line, b"fine ") {
+        return double(line, 5, register::FINE_HIGH, register::FINE_LOW, FINE_LIMIT);
+    }
+    if begins(line, b"coarse ") {
+        return double(
+            line,
+            7,
+            register::COARSE_HIGH,
+            register::COARSE_LOW,
+            COARSE_LIMIT,
+        );
+    }
+    if begins(line, b"gain ") {
+        return gain_code(number(line, 5));
+    }
+    if begins(line, b"setup5 ") {
+        return single(line, 7, register::SETUP5, BYTE_LIMIT);
+    }
+    read_shared(line)
+}
+
+fn read_vv5300(line: &[u8]) -> Setting
+    ensures { λ r. ⌜ r ≡ settingVV5300 (now (line .entry)) ⌝ }
+{
+    if begins(line, b"fine ") {
+        return single(line, 5, register::FINE_LOW, FINE_LIMIT_VV5300);
+    }
+    if begins(line, b"coarse ") {
+        return single(line, 7, register::COARSE_LOW, COARSE_LIMIT_VV5300);
+    }
+    if begins(line, b"gain ") {
+        return single(line, 5, register::GAIN, GAIN_LIMIT_VV5300);
+    }
+    if begins(line, b"setup3 ") {
+        return single(line, 7, register::SETUP3, BYTE_LIMIT);
+    }
+    read_shared(line)
+}
+
+// The settings that both sensors have.
+fn read_shared(line: &[u8]) -> Setting
+    ensures { λ r. ⌜ r ≡ sharedSetting (now (line .entry)) ⌝ }
+{
+    if begins(line, b"divisor ") {
+        return single(line, 8, register::CLOCK_DIVISOR, DIVISOR_LIMIT);
+    }
+    if begins(line, b"setup0 ") {
+        return single(line, 7, register::SETUP0, BYTE_LIMIT);
+    }
+    if begins(line, b"setup1 ") {
+        return single(line, 7, register::SETUP1, BYTE_LIMIT);
+    }
+    if begins(line, b"setup2 ") {
+        return single(line, 7, register::SETUP2, BYTE_LIMIT);
+    }
+    if begins(line, b"setup4 ") {
+        return single(line, 7, register::SETUP4, BYTE_LIMIT);
+    }
+    Setting::Unknown
+}
+
+// A value of one byte, which stands at a place of the line.
+fn single(line: &[u8], at: usize, index: u8, limit: u8) -> Setting
+    ensures { λ r. ⌜ r ≡ single at index limit (numberIn (drop at (now (line .entry)))) ⌝ }
+{
+    let value = number(line, at);
+    if (limit as u32) < value {
+        return Setting::Beyond(at, limit as u16);
+    }
+    Setting::Single(index, value as u8)
+}
+
+// A value of two bytes.
+fn double(line: &[u8], at: usize, high: u8, low: u8, limit: u16) -> Setting
+    ensures { λ r. ⌜ r ≡ double at high low limit (numberIn (drop at (now (line .entry)))) ⌝ }
+{
+    let value = number(line, at);
+    if (limit as u32) < value {
+        return Setting::Beyond(at, limit);
+    }
+    Setting::Double(high, (value / 256) as u8, low, (value % 256) as u8)
+}
+
+// A gain code of the VV5404.
+fn gain_code(value: u32) -> Setting
+    ensures { λ r. ⌜ r ≡ gainCode value ⌝ }
+{
+    if value == 0 {
+        return Setting::Single(register::GAIN, 0);
+    }
+    if value == 1 {
+        return Setting::Single(register::GAIN, 1);
+    }
+    if value == 3 {
+        return Setting::Single(register::GAIN, 3);
+    }
+    if value == 7 {
+        return Setting::Single(register::GAIN, 7);
+    }
+    Setting::NoGain
+}
+
+// Whether a line begins with a word.
+fn begins(line: &[u8], word: &[u8]) -> bool
+    ensures { λ r. ⌜ r ≡ startsWith (now (word .entry)) (now (line .entry)) ⌝ }
+{
+    let mut i: usize = 0;
+    while i < word.len() {
+        if line.len() <= i {
+            return false;
+        }
+        if line[i] == word[i] {
+            i += 1;
+        } else {
+            return false;
+        }
+    }
+    true
+}
+
+// The number that a line is from a place on, up to 65,535.
+fn number(line: &[u8], at: usize) -> u32
+    ensures { λ r. ⌜ r ≡ numberIn (drop at (now (line .entry))) ⌝ }
+{
+    if line.len() <= at {
+        return NO_NUMBER;
+    }
+    let mut n: u32 = 0;
+    let mut i = at;
+    while i < line.len() {
+        n = digit_onto(n, line[i]);
+        i += 1;
+    }
+    n
+}
+
+// A number with one decimal digit more.
+fn digit_onto(n: u32, c: u8) -> u32
+    ensures { λ r. ⌜ r ≡ digitOnto n c ⌝ }
+{
+    if c < b'0' {
+        return NO_NUMBER;
+    }
+    if b'9' < c {
+        return NO_NUMBER;
+    }
+    if 6553 < n {
+        return NO_NUMBER;
+    }
+    let more = 10 * n + (c - b'0') as u32;
+    if 65535 < more {
+        return NO_NUMBER;
+    }
+    more
+}
