@@ -22,9 +22,9 @@ use Rattle.script.specs.Bare.{bareLength, bare}
 unfoldable pub lineWords : ℕ → List ℕ
 lineWords n = ascii "line " ++ (decimal n ++ ascii ": ")
 
--- a value above its limit, or none: the name with its space, and the limit
+-- a value above its limit, or none: the name, and the limit
 unfoldable pub beyondText : ℕ → ℕ → ℕ → List ℕ → List ℕ
-beyondText n at limit line = lineWords n ++ (take at line ++ (ascii "takes 0 to " ++ (decimal limit ++ (newline ∷ []))))
+beyondText n at limit line = lineWords n ++ (take at line ++ (ascii " takes 0 to " ++ (decimal limit ++ (newline ∷ []))))
 
 unfoldable pub noGainText : ℕ → List ℕ
 noGainText n = lineWords n ++ ascii "gain takes 0, 1, 3 or 7\n"

@@ -12,7 +12,7 @@ use Rattle.two_wire.specs.declared.Sensor.{Sensor}
 use Rattle.setting.specs.declared.Setting.{Setting}
 use Rattle.setting.specs.declared.Setting.the-variants.{Single, Double, Beyond, NoGain, Unknown}
 use Rattle.setting.specs.Setting.{settingOf}
-use Rattle.setting.specs.SettingLaws.{valuePlace, value-place}
+use Rattle.setting.specs.SettingLaws.{nameLength, value-name}
 use Rattle.two_wire_text.specs.Hex.{isMessage}
 use Rattle.two_wire_text.specs.ExplainedLaws.{message-short}
 use Rattle.script.specs.Bare.{bareLength, bare}
@@ -43,7 +43,7 @@ pub too-long-short : (n room : ℕ) → length (tooLongText n room) ≤ 128
 unfolding tooLongText
 too-long-short n room = simp (length-append) (omega (arith, words-short n, decimal-short room))
 
-by-short : (asked : Setting) (p : Profile) (s : Sensor) (n : ℕ) (line : List ℕ) → valuePlace asked ≤ 8 → length (textBy asked p s n line) ≤ 128
+by-short : (asked : Setting) (p : Profile) (s : Sensor) (n : ℕ) (line : List ℕ) → nameLength asked ≤ 8 → length (textBy asked p s n line) ≤ 128
 unfolding textBy
 by-short (Single i v) p s n line h = omega arith
 by-short (Double i v j w) p s n line h = omega arith
@@ -54,4 +54,4 @@ by-short Unknown p s n line h = shorter (isMessage line) _ _ (omega (arith, mess
 pub text-short : (p : Profile) (s : Sensor) (n : ℕ) (line : List ℕ) → length (textOf p s n line) ≤ 128
 unfolding textOf
 text-short p s n line =
-    shorter (eqb (bareLength line) 0) _ _ (omega arith) (by-short (settingOf p (bare line)) p s n (bare line) (value-place p (bare line)))
+    shorter (eqb (bareLength line) 0) _ _ (omega arith) (by-short (settingOf p (bare line)) p s n (bare line) (value-name p (bare line)))

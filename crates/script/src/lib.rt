@@ -231,7 +231,7 @@ fn put_beyond(number: u64, line: &[u8], at: usize, limit: u16, out: &mut [u8]) -
 {
     let a = put_line(number, out);
     let b = put_name(line, at, out, a);
-    let c = put(b"takes 0 to ", out, b);
+    let c = put(b" takes 0 to ", out, b);
     let d = put_decimal(limit as u64, out, c);
     put(b"\n", out, d)
 }

@@ -3,6 +3,7 @@ use mathlib.Core.Bool.{Bool, true, false, _&&_, cond}
 use mathlib.Core.List.{List, [], _∷_}
 use Prim.Native.Nat.{ℕ, _+_, _-_, _*_}
 use lib.Dec.{eqb, ltb}
+use Rattle.text.specs.Text.{space}
 
 unfoldable pub startsWith : List ℕ → List ℕ → Bool
 startsWith [] line = true
@@ -27,3 +28,8 @@ digitsOnto n (c ∷ line) = digitsOnto (digitOnto n c) line
 abbrev pub numberIn : List ℕ → ℕ
 numberIn [] = noNumber
 numberIn (c ∷ line) = digitsOnto 0 (c ∷ line)
+
+-- the value after a name: a space and a number
+abbrev pub valueIn : List ℕ → ℕ
+valueIn [] = noNumber
+valueIn (c ∷ line) = cond (eqb c space) (numberIn line) noNumber

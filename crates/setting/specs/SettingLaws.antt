@@ -1,4 +1,4 @@
--- A value that is refused stands within the first eight places of its line.
+-- The name of a value that is refused has at most eight characters.
 use mathlib.Core.Bool.{Bool, true, false, cond}
 use mathlib.Core.List.{List}
 use Prim.Native.Nat.{ℕ, _≤_}
@@ -11,49 +11,49 @@ use Rattle.setting.specs.declared.Setting.the-variants.{Single, Double, 
 use Rattle.setting.specs.Number.{startsWith, numberIn}
 use Rattle.setting.specs.Setting.{single, double, gainCode, sharedSetting, settingVV5404, settingVV5300, settingOf}
 
--- the place of a value that is refused
-abbrev pub valuePlace : Setting → ℕ
-valuePlace (Single i v) = 0
-valuePlace (Double i v j w) = 0
-valuePlace (Beyond at limit) = at
-valuePlace NoGain = 0
-valuePlace Unknown = 0
+-- the length of that name
+abbrev pub nameLength : Setting → ℕ
+nameLength (Single i v) = 0
+nameLength (Double i v j w) = 0
+nameLength (Beyond at limit) = at
+nameLength NoGain = 0
+nameLength Unknown = 0
 
-either : (t : Bool) (a b : Setting) → valuePlace a ≤ 8 → valuePlace b ≤ 8 → valuePlace (cond t a b) ≤ 8
+either : (t : Bool) (a b : Setting) → nameLength a ≤ 8 → nameLength b ≤ 8 → nameLength (cond t a b) ≤ 8
 either true a b h g = h
 either false a b h g = g
 
-single-place : (at i limit n : ℕ) → at ≤ 8 → valuePlace (single at i limit n) ≤ 8
+single-name : (at i limit n : ℕ) → at ≤ 8 → nameLength (single at i limit n) ≤ 8
 unfolding single
-single-place at i limit n h = either (ltb limit n) _ _ h (omega arith)
+single-name at i limit n h = either (ltb limit n) _ _ h (omega arith)
 
-double-place : (at high low limit n : ℕ) → at ≤ 8 → valuePlace (double at high low limit n) ≤ 8
+double-name : (at high low limit n : ℕ) → at ≤ 8 → nameLength (double at high low limit n) ≤ 8
 unfolding double
-double-place at high low limit n h = either (ltb limit n) _ _ h (omega arith)
+double-name at high low limit n h = either (ltb limit n) _ _ h (omega arith)
 
-gain-place : (n : ℕ) → valuePlace (gainCode n) ≤ 8
+gain-name : (n : ℕ) → nameLength (gainCode n) ≤ 8
 unfolding gainCode
-gain-place n =
+gain-name n =
     either (eqb n 0) _ _ (omega arith) (either (eqb n 1) _ _ (omega arith) (either (eqb n 3) _ _ (omega arith) (either (eqb n 7) _ _ (omega arith) (omega arith))))
 
-shared-place : (line : List ℕ) → valuePlace (sharedSetting line) ≤ 8
+shared-name : (line : List ℕ) → nameLength (sharedSetting line) ≤ 8
 unfolding sharedSetting
-shared-place line =
-    either (startsWith _ line) _ _ (single-place 8 _ _ _ (omega arith))
-    (either (startsWith _ line) _ _ (single-place 7 _ _ _ (omega arith))
-    (either (startsWith _ line) _ _ (single-place 7 _ _ _ (omega arith))
-    (either (startsWith _ line) _ _ (single-place 7 _ _ _ (omega arith))
-    (either (startsWith _ line) _ _ (single-place 7 _ _ _ (omega arith)) (omega arith)))))
+shared-name line =
+    either (startsWith _ line) _ _ (single-name 7 _ _ _ (omega arith))
+    (either (startsWith _ line) _ _ (single-name 6 _ _ _ (omega arith))
+    (either (startsWith _ line) _ _ (single-name 6 _ _ _ (omega arith))
+    (either (startsWith _ line) _ _ (single-name 6 _ _ _ (omega arith))
+    (either (startsWith _ line) _ _ (single-name 6 _ _ _ (omega arith)) (omega arith)))))
 
-pub value-place : (p : Profile) (line : List ℕ) → valuePlace (settingOf p line) ≤ 8
+pub value-name : (p : Profile) (line : List ℕ) → nameLength (settingOf p line) ≤ 8
 unfolding settingVV5404 settingVV5300
-value-place VV5404 line =
-    either (startsWith _ line) _ _ (double-place 5 _ _ _ _ (omega arith))
-    (either (startsWith _ line) _ _ (double-place 7 _ _ _ _ (omega arith))
-    (either (startsWith _ line) _ _ (gain-place _)
-    (either (startsWith _ line) _ _ (single-place 7 _ _ _ (omega arith)) (shared-place line))))
-value-place VV5300 line =
-    either (startsWith _ line) _ _ (single-place 5 _ _ _ (omega arith))
-    (either (startsWith _ line) _ _ (single-place 7 _ _ _ (omega arith))
-    (either (startsWith _ line) _ _ (single-place 5 _ _ _ (omega arith))
-    (either (startsWith _ line) _ _ (single-place 7 _ _ _ (omega arith)) (shared-place line))))
+value-name VV5404 line =
+    either (startsWith _ line) _ _ (double-name 4 _ _ _ _ (omega arith))
+    (either (startsWith _ line) _ _ (double-name 6 _ _ _ _ (omega arith))
+    (either (startsWith _ line) _ _ (gain-name _)
+    (either (startsWith _ line) _ _ (single-name 6 _ _ _ (omega arith)) (shared-name line))))
+value-name VV5300 line =
+    either (startsWith _ line) _ _ (single-name 4 _ _ _ (omega arith))
+    (either (startsWith _ line) _ _ (single-name 6 _ _ _ (omega arith))
+    (either (startsWith _ line) _ _ (single-name 4 _ _ _ (omega arith))
+    (either (startsWith _ line) _ _ (single-name 6 _ _ _ (omega arith)) (shared-name line))))

@@ -13,7 +13,7 @@
 // | setup5 | 0 to 255 | |
 ghost use mathlib.Core.Path.{_≡_};
 ghost use lib.ListN.{drop};
-ghost use Rattle.setting.specs.Number.{startsWith, digitOnto, numberIn};
+ghost use Rattle.setting.specs.Number.{startsWith, digitOnto, numberIn, valueIn};
 ghost use Rattle.setting.specs.Setting.{single, double, gainCode, sharedSetting, settingVV5404, settingVV5300, settingOf};
 use profile::Profile;
 use two_wire::register;
@@ -24,7 +24,7 @@ pub enum Setting {
     Single(u8, u8),
     // Two registers' indices and values, high byte first.
     Double(u8, u8, u8, u8),
-    // No number, or one above the limit: where the value stands in the line, and the limit.
+    // No number, or one above the limit: the length of the name before it, and the limit.
     Beyond(usize, u16),
     // No gain code of the VV5404.
     NoGain,
@@ -64,23 +64,23 @@ pub fn read(profile: Profile, line: &[u8]) -> Setting
 fn read_vv5404(line: &[u8]) -> Setting
     ensures { λ r. ⌜ r ≡ settingVV5404 (now (line .entry)) ⌝ }
 {
-    if begins(line, b"fine ") {
-        return double(line, 5, register::FINE_HIGH, register::FINE_LOW, FINE_LIMIT);
+    if begins(line, b"fine") {
+        return double(line, 4, register::FINE_HIGH, register::FINE_LOW, FINE_LIMIT);
     }
-    if begins(line, b"coarse ") {
+    if begins(line, b"coarse") {
         return double(
             line,
-            7,
+            6,
             register::COARSE_HIGH,
             register::COARSE_LOW,
             COARSE_LIMIT,
         );
     }
-    if begins(line, b"gain ") {
-        return gain_code(number(line, 5));
+    if begins(line, b"gain") {
+        return gain_code(value(line, 4));
     }
-    if begins(line, b"setup5 ") {
-        return single(line, 7, register::SETUP5, BYTE_LIMIT);
+    if begins(line, b"setup5") {
+        return single(line, 6, register::SETUP5, BYTE_LIMIT);
     }
     read_shared(line)
 }
@@ -88,17 +88,17 @@ fn read_vv5404(line: &[u8]) -> Setting
 fn read_vv5300(line: &[u8]) -> Setting
     ensures { λ r. ⌜ r ≡ settingVV5300 (now (line .entry)) ⌝ }
 {
-    if begins(line, b"fine ") {
-        return single(line, 5, register::FINE_LOW, FINE_LIMIT_VV5300);
+    if begins(line, b"fine") {
+        return single(line, 4, register::FINE_LOW, FINE_LIMIT_VV5300);
     }
-    if begins(line, b"coarse ") {
-        return single(line, 7, register::COARSE_LOW, COARSE_LIMIT_VV5300);
+    if begins(line, b"coarse") {
+        return single(line, 6, register::COARSE_LOW, COARSE_LIMIT_VV5300);
     }
-    if begins(line, b"gain ") {
-        return single(line, 5, register::GAIN, GAIN_LIMIT_VV5300);
+    if begins(line, b"gain") {
+        return single(line, 4, register::GAIN, GAIN_LIMIT_VV5300);
     }
-    if begins(line, b"setup3 ") {
-        return single(line, 7, register::SETUP3, BYTE_LIMIT);
+    if begins(line, b"setup3") {
+        return single(line, 6, register::SETUP3, BYTE_LIMIT);
     }
     read_shared(line)
 }
@@ -107,29 +107,29 @@ fn read_vv5300(line: &[u8]) -> Setting
 fn read_shared(line: &[u8]) -> Setting
     ensures { λ r. ⌜ r ≡ sharedSetting (now (line .entry)) ⌝ }
 {
-    if begins(line, b"divisor ") {
-        return single(line, 8, register::CLOCK_DIVISOR, DIVISOR_LIMIT);
+    if begins(line, b"divisor") {
+        return single(line, 7, register::CLOCK_DIVISOR, DIVISOR_LIMIT);
     }
-    if begins(line, b"setup0 ") {
-        return single(line, 7, register::SETUP0, BYTE_LIMIT);
+    if begins(line, b"setup0") {
+        return single(line, 6, register::SETUP0, BYTE_LIMIT);
     }
-    if begins(line, b"setup1 ") {
-        return single(line, 7, register::SETUP1, BYTE_LIMIT);
+    if begins(line, b"setup1") {
+        return single(line, 6, register::SETUP1, BYTE_LIMIT);
     }
-    if begins(line, b"setup2 ") {
-        return single(line, 7, register::SETUP2, BYTE_LIMIT);
+    if begins(line, b"setup2") {
+        return single(line, 6, register::SETUP2, BYTE_LIMIT);
     }
-    if begins(line, b"setup4 ") {
-        return single(line, 7, register::SETUP4, BYTE_LIMIT);
+    if begins(line, b"setup4") {
+        return single(line, 6, register::SETUP4, BYTE_LIMIT);
     }
     Setting::Unknown
 }
 
-// A value of one byte, which stands at a place of the line.
+// A value of one byte, after a name of a length.
 fn single(line: &[u8], at: usize, index: u8, limit: u8) -> Setting
-    ensures { λ r. ⌜ r ≡ single at index limit (numberIn (drop at (now (line .entry)))) ⌝ }
+    ensures { λ r. ⌜ r ≡ single at index limit (valueIn (drop at (now (line .entry)))) ⌝ }
 {
-    let value = number(line, at);
+    let value = value(line, at);
     if (limit as u32) < value {
         return Setting::Beyond(at, limit as u16);
     }
@@ -138,9 +138,9 @@ fn single(line: &[u8], at: usize, index: u8, limit: u8) -> Setting
 
 // A value of two bytes.
 fn double(line: &[u8], at: usize, high: u8, low: u8, limit: u16) -> Setting
-    ensures { λ r. ⌜ r ≡ double at high low limit (numberIn (drop at (now (line .entry)))) ⌝ }
+    ensures { λ r. ⌜ r ≡ double at high low limit (valueIn (drop at (now (line .entry)))) ⌝ }
 {
-    let value = number(line, at);
+    let value = value(line, at);
     if (limit as u32) < value {
         return Setting::Beyond(at, limit);
     }
@@ -182,6 +182,19 @@ fn begins(line: &[u8], word: &[u8]) -> bool
         }
     }
     true
+}
+
+// The value that stands in a line after a name of a length, and a space.
+fn value(line: &[u8], at: usize) -> u32
+    ensures { λ r. ⌜ r ≡ valueIn (drop at (now (line .entry))) ⌝ }
+{
+    if line.len() <= at {
+        return NO_NUMBER;
+    }
+    if line[at] == b' ' {
+        return number(line, at + 1);
+    }
+    NO_NUMBER
 }
 
 // The number that a line is from a place on, up to 65,535.

@@ -7,11 +7,11 @@ use Rattle.setting.proofs.double.Tie as tie
 
 returns : tie.Need-returns
 unfolding double
-returns c = simp (← c .before .number .ensures, lt-ltb _ _ (c .if1 .taken))
+returns c = simp (← c .before .value .ensures, lt-ltb _ _ (c .if1 .taken))
 
 returns-2 : tie.Need-returns-2
 unfolding double
-returns-2 c = simp (← c .before .number .ensures, le-ltb _ _ (c .if1 .left))
+returns-2 c = simp (← c .before .value .ensures, le-ltb _ _ (c .if1 .left))
 
 pub double-spec : {M : Type 1} → statement M
 double-spec = tie.close (tie.spec (λ c κs. search needs) returns (λ c. search needs) (λ c. search needs) returns-2)

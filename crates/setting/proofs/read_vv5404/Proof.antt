@@ -23,7 +23,7 @@ returns-3 c =
     let t3 = c .before .before in
     let t2 = t3 .before .before .before in
     let t1 = t2 .before .before .before in
-    simp (← t1 .before .begins .ensures, t1 .if1 .left, ← t2 .before .begins2 .ensures, t2 .if2 .left, ← t3 .before .begins3 .ensures, t3 .if3 .taken, c .gain-code .ensures, c .before .number .ensures)
+    simp (← t1 .before .begins .ensures, t1 .if1 .left, ← t2 .before .begins2 .ensures, t2 .if2 .left, ← t3 .before .begins3 .ensures, t3 .if3 .taken, c .gain-code .ensures, c .before .value .ensures)
 
 returns-4 : tie.Need-returns-4
 unfolding settingVV5404

@@ -7,11 +7,11 @@ use Rattle.setting.proofs.single.Tie as tie
 
 returns : tie.Need-returns
 unfolding single
-returns c = simp (← c .before .number .ensures, lt-ltb _ _ (c .if1 .taken))
+returns c = simp (← c .before .value .ensures, lt-ltb _ _ (c .if1 .taken))
 
 returns-2 : tie.Need-returns-2
 unfolding single
-returns-2 c = simp (← c .before .number .ensures, le-ltb _ _ (c .if1 .left))
+returns-2 c = simp (← c .before .value .ensures, le-ltb _ _ (c .if1 .left))
 
 pub single-spec : {M : Type 1} → statement M
 single-spec = tie.close (tie.spec (λ c κs. search needs) returns (λ c. search needs) returns-2)
