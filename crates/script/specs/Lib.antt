@@ -4,3 +4,4 @@ pub mod Line
 pub mod LineLaws
 pub mod Script
 pub mod ScriptLaws
+pub mod Worked

@@ -72,6 +72,15 @@ abbrev pub scriptText : Place → List ℕ → List ℕ
 scriptText p [] = lineText p
 scriptText p (c ∷ script) = textOn p c ++ scriptText (placeAfter p c) script
 
+-- the text for a piece of a script that goes on, and where it stands then
+abbrev pub pieceText : Place → List ℕ → List ℕ
+pieceText p [] = []
+pieceText p (c ∷ piece) = textOn p c ++ pieceText (placeAfter p c) piece
+
+abbrev pub afterPiece : Place → List ℕ → Place
+afterPiece p [] = p
+afterPiece p (c ∷ piece) = afterPiece (placeAfter p c) piece
+
 -- ---- calls
 
 -- the text for a line at the front of a buffer, as far as it has room, and the state after it

@@ -1,7 +1,7 @@
 -- A character is kept at the end of what a buffer keeps; and 128 bytes have room for the text of a line, of whatever length.
 use mathlib.Core.Path.{_≡_, refl, sym, ap, _∙_}
 use mathlib.Core.Bool.{Bool, true, false, cond}
-use mathlib.Core.List.{List, [], _∷_, _++_}
+use mathlib.Core.List.{List, [], _∷_, _++_, append-assoc}
 use Prim.Native.Nat.{ℕ, _+_, _<_, _≤_}
 use native.Mathlib.Numerals.{add-one}
 use native.Mathlib.Omega.{arith}
@@ -12,7 +12,7 @@ use lib.Seq.{take-all, take-append-le, take-suc-set, take-length}
 use Rattle.text.specs.Put.{AtFront}
 use Rattle.script.specs.Line.{tooLongText, textOf}
 use Rattle.script.specs.LineLaws.{too-long-short, text-short}
-use Rattle.script.specs.Script.{Place, lineText, keptAfter, Keeps}
+use Rattle.script.specs.Script.{Place, lineText, placeAfter, textOn, scriptText, pieceText, afterPiece, Keeps}
 
 -- a line that fills its buffer, and one that does not
 pub fills : (line : List ℕ) (n : ℕ) → length line ≤ n → leb (length line) (length (take n line)) ≡ true
@@ -48,3 +48,10 @@ line-short p = shorter (leb (p .room) (length (p .kept)))
     shorter : (t : Bool) → length (cond t (tooLongText (p .number) (p .room)) (textOf (p .profile) (p .sensor) (p .number) (p .kept))) ≤ 128
     shorter true = too-long-short (p .number) (p .room)
     shorter false = text-short (p .profile) (p .sensor) (p .number) (p .kept)
+
+-- the pieces in which a script comes do not change its text
+pub in-pieces : (p : Place) (piece script : List ℕ) → scriptText p (piece ++ script) ≡ pieceText p piece ++ scriptText (afterPiece p piece) script
+in-pieces p [] script = refl
+in-pieces p (c ∷ piece) script =
+    ap (λ (t : List ℕ). textOn p c ++ t) (in-pieces (placeAfter p c) piece script)
+    ∙ sym (append-assoc (textOn p c) (pieceText (placeAfter p c) piece) (scriptText (afterPiece (placeAfter p c) piece) script))
