@@ -4,15 +4,11 @@ use mathlib.Core.List.{List, [], _∷_}
 use Prim.Native.Nat.{ℕ, zero, suc}
 use lib.Dec.{eqb}
 use lib.ListN.{take}
-use Rattle.text.specs.Text.{space}
+use Rattle.setting.specs.Number.{isBlank}
 
 -- the character that starts a comment
 abbrev pub hash : ℕ
 hash = 0x23
-
--- a space, a tab or a carriage return
-unfoldable pub isBlank : ℕ → Bool
-isBlank c = cond (eqb c space) true (cond (eqb c 0x09) true (eqb c 0x0D))
 
 -- a blank counts where something follows that counts
 abbrev pub counted : Bool → ℕ → ℕ

@@ -8,7 +8,8 @@ use native.Mathlib.Omega.{arith}
 use lib.Dec.{eqb}
 use lib.ListN.{length, drop, getD}
 use lib.Seq.{drop-cons}
-use Rattle.script.specs.Bare.{hash, isBlank, counted, bareLength}
+use Rattle.setting.specs.Number.{isBlank}
+use Rattle.script.specs.Bare.{hash, counted, bareLength}
 
 -- where a line ends of which some characters are read, up to an end, and some that count are left
 abbrev pub reach : ℕ → ℕ → ℕ → ℕ

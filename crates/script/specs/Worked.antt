@@ -6,10 +6,9 @@ use lib.ListN.{replicate}
 use Rattle.text.specs.Text.{ascii, decimal, hexDigit}
 use Rattle.profile.specs.declared.Profile.{Profile}
 use Rattle.profile.specs.declared.Profile.the-variants.{VV5404, VV5300}
-use Rattle.setting.specs.Number.{startsWith, digitOnto}
+use Rattle.setting.specs.Number.{isBlank, startsWith, digitOnto}
 use Rattle.setting.specs.Setting.{single, double, gainCode, sharedSetting, settingVV5404, settingVV5300}
 use Rattle.two_wire_text.specs.Hex.{isMessage}
-use Rattle.script.specs.Bare.{isBlank}
 use Rattle.script.specs.Line.{lineWords, beyondText, noGainText, unknownText, tooLongText, textBy, textOf}
 use Rattle.script.specs.Script.{start, placeOf, lineText, lineAfter, placeAfter, textOn, scriptText}
 
@@ -24,7 +23,7 @@ unfolding decimal hexDigit startsWith digitOnto single settingVV5300 isBlank lin
 on-the-VV5300 = refl
 
 -- two bytes for fine, four gain codes, and no setup3
-pub on-the-VV5404 : worked VV5404 (ascii "# night\nfine 255\r\n\ngain 6\nsetup3 15\nfine 120 for the night scene")
+pub on-the-VV5404 : worked VV5404 (ascii "# night\nfine \t 255\r\n\ngain 6\nsetup3 15\nfine 120 for the night scene")
     ≡ ascii "20 20 00\n20 21 ff\nline 4: gain takes 0, 1, 3 or 7\nline 5: no setting of the VV5404, and no message\nline 6: 24 characters or more\n"
 unfolding decimal hexDigit startsWith digitOnto double gainCode sharedSetting settingVV5404 isMessage isBlank lineWords noGainText unknownText tooLongText textBy textOf lineText lineAfter placeAfter textOn
 on-the-VV5404 = refl

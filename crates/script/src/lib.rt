@@ -14,7 +14,8 @@ ghost use Rattle.text.specs.Put.{Puts, AtFront};
 ghost use Rattle.two_wire_text.specs.Explained.{TellsIn};
 ghost use Rattle.setting.specs.declared.Setting.the-variants.{Unknown};
 ghost use Rattle.setting.specs.Setting.{settingOf};
-ghost use Rattle.script.specs.Bare.{isBlank, bareLength};
+ghost use Rattle.setting.specs.Number.{isBlank};
+ghost use Rattle.script.specs.Bare.{bareLength};
 ghost use Rattle.script.specs.Line.{lineWords, beyondText, noGainText, unknownText, tooLongText, textOf, sensorOf, TellsBy};
 ghost use Rattle.script.specs.Script.{start, placeOf, lineText, lineAfter, TellsLine, Keeps, Feeds};
 use profile::Profile;
@@ -197,23 +198,10 @@ fn bare_length(line: &[u8]) -> usize
 fn end_after(c: u8, end: usize, place: usize) -> usize
     ensures { λ r. ⌜ r ≡ cond (isBlank c) end place ⌝ }
 {
-    if is_blank(c) {
+    if setting::is_blank(c) {
         return end;
     }
     place
-}
-
-// Whether a character is a space, a tab or a carriage return.
-fn is_blank(c: u8) -> bool
-    ensures { λ r. ⌜ r ≡ isBlank c ⌝ }
-{
-    if c == b' ' {
-        return true;
-    }
-    if c == b'\t' {
-        return true;
-    }
-    c == b'\r'
 }
 
 // Why a line is refused: its number, and what it may be.

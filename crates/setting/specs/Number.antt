@@ -1,9 +1,18 @@
--- A line's word, and its number in decimal.
+-- A line's blanks, its word, and its number in decimal.
 use mathlib.Core.Bool.{Bool, true, false, _&&_, cond}
 use mathlib.Core.List.{List, [], _∷_}
 use Prim.Native.Nat.{ℕ, _+_, _-_, _*_}
 use lib.Dec.{eqb, ltb}
 use Rattle.text.specs.Text.{space}
+
+-- a space, a tab or a carriage return
+unfoldable pub isBlank : ℕ → Bool
+isBlank c = cond (eqb c space) true (cond (eqb c 0x09) true (eqb c 0x0D))
+
+-- a text without the blanks that it starts with
+abbrev pub pastBlanks : List ℕ → List ℕ
+pastBlanks [] = []
+pastBlanks (c ∷ line) = cond (isBlank c) (pastBlanks line) (c ∷ line)
 
 unfoldable pub startsWith : List ℕ → List ℕ → Bool
 startsWith [] line = true
@@ -29,7 +38,7 @@ abbrev pub numberIn : List ℕ → ℕ
 numberIn [] = noNumber
 numberIn (c ∷ line) = digitsOnto 0 (c ∷ line)
 
--- the value after a name: a space and a number
+-- the value after a name: blanks and a number
 abbrev pub valueIn : List ℕ → ℕ
 valueIn [] = noNumber
-valueIn (c ∷ line) = cond (eqb c space) (numberIn line) noNumber
+valueIn (c ∷ line) = cond (isBlank c) (numberIn (pastBlanks line)) noNumber

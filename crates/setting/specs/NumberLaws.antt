@@ -1,4 +1,4 @@
--- A word and a number, one character after another.
+-- Blanks, a word and a number, one character after another.
 use mathlib.Core.Path.{_≡_}
 use mathlib.Core.Bool.{true, false, _&&_, cond}
 use mathlib.Core.List.{List}
@@ -7,8 +7,7 @@ use native.Mathlib.Numerals.{add-one}
 use lib.Dec.{eqb}
 use lib.ListN.{length, drop, getD, drop-of-length-le}
 use lib.Seq.{drop-cons}
-use Rattle.text.specs.Text.{space}
-use Rattle.setting.specs.Number.{startsWith, noNumber, digitOnto, digitsOnto, numberIn, valueIn}
+use Rattle.setting.specs.Number.{isBlank, pastBlanks, startsWith, noNumber, digitOnto, digitsOnto, numberIn, valueIn}
 
 module _ (word line : List ℕ) (i : ℕ) (h : i < length word) where
   pub starts-step : i < length line
@@ -31,5 +30,8 @@ module _ (line : List ℕ) (i : ℕ) (h : i < length line) where
   pub digits-step : (n : ℕ) → digitsOnto n (drop i line) ≡ digitsOnto (digitOnto n (getD line i 0)) (drop (i + 1) line)
   digits-step n = rw (add-one i, drop-cons line i 0)
 
-  pub value-step : valueIn (drop i line) ≡ cond (eqb (getD line i 0) space) (numberIn (drop (i + 1) line)) noNumber
+  pub blanks-step : pastBlanks (drop i line) ≡ cond (isBlank (getD line i 0)) (pastBlanks (drop (i + 1) line)) (drop i line)
+  blanks-step = rw (add-one i, drop-cons line i 0)
+
+  pub value-step : valueIn (drop i line) ≡ cond (isBlank (getD line i 0)) (numberIn (pastBlanks (drop (i + 1) line))) noNumber
   value-step = rw (add-one i, drop-cons line i 0)

@@ -1,4 +1,4 @@
-// Settings of a sensor as a person writes them, a name, a space and a value in decimal: `fine 120`.
+// Settings of a sensor as a person writes them, a name, blanks and a value in decimal: `fine 120`.
 //
 // In: the sensor, and a line. Out: the registers to write, with their values, or what the value may be, or that the line names no setting of
 // that sensor. What the sensors have: 004, Tables 8 and 24, and 000, 'The programmers model'. Cost: linear in the line.
@@ -13,7 +13,7 @@
 // | setup5 | 0 to 255 | |
 ghost use mathlib.Core.Path.{_≡_};
 ghost use lib.ListN.{drop};
-ghost use Rattle.setting.specs.Number.{startsWith, digitOnto, numberIn, valueIn};
+ghost use Rattle.setting.specs.Number.{isBlank, pastBlanks, startsWith, digitOnto, numberIn, valueIn};
 ghost use Rattle.setting.specs.Setting.{single, double, gainCode, sharedSetting, settingVV5404, settingVV5300, settingOf};
 use profile::Profile;
 use two_wire::register;
@@ -59,6 +59,19 @@ pub fn read(profile: Profile, line: &[u8]) -> Setting
         Profile::VV5404 => read_vv5404(line),
         Profile::VV5300 => read_vv5300(line),
     }
+}
+
+// Whether a character is a space, a tab or a carriage return.
+pub fn is_blank(c: u8) -> bool
+    ensures { λ r. ⌜ r ≡ isBlank c ⌝ }
+{
+    if c == b' ' {
+        return true;
+    }
+    if c == b'\t' {
+        return true;
+    }
+    c == b'\r'
 }
 
 fn read_vv5404(line: &[u8]) -> Setting
@@ -184,17 +197,32 @@ fn begins(line: &[u8], word: &[u8]) -> bool
     true
 }
 
-// The value that stands in a line after a name of a length, and a space.
+// The value that stands in a line after a name of a length, and blanks.
 fn value(line: &[u8], at: usize) -> u32
     ensures { λ r. ⌜ r ≡ valueIn (drop at (now (line .entry))) ⌝ }
 {
     if line.len() <= at {
         return NO_NUMBER;
     }
-    if line[at] == b' ' {
-        return number(line, at + 1);
+    if is_blank(line[at]) {
+        return number(line, past_blanks(line, at + 1));
     }
     NO_NUMBER
+}
+
+// The first place of a line from a place on where no blank stands.
+fn past_blanks(line: &[u8], at: usize) -> usize
+    ensures { λ r. ⌜ drop r (now (line .entry)) ≡ pastBlanks (drop at (now (line .entry))) ⌝ }
+{
+    let mut i = at;
+    while i < line.len() {
+        if is_blank(line[i]) {
+            i += 1;
+        } else {
+            return i;
+        }
+    }
+    i
 }
 
 // The number that a line is from a place on, up to 65,535.

@@ -1,8 +1,8 @@
 -- Each blank is tried, in the order of the definition.
 use borrow.Author.Tests.{eq-eqb, ne-eqb}
-use Rattle.script.specs.Bare.{isBlank}
-use Rattle.script.proofs.is_blank.Statement.{statement}
-use Rattle.script.proofs.is_blank.Tie as tie
+use Rattle.setting.specs.Number.{isBlank}
+use Rattle.setting.proofs.is_blank.Statement.{statement}
+use Rattle.setting.proofs.is_blank.Tie as tie
 
 returns : tie.Need-returns
 unfolding isBlank
