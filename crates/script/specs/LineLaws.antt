@@ -1,6 +1,6 @@
 -- 128 bytes have room for the text of every line.
 use mathlib.Core.Bool.{Bool, true, false, cond}
-use mathlib.Core.List.{List, [], _∷_, _++_}
+use mathlib.Core.List.{List}
 use Prim.Native.Nat.{ℕ, _≤_}
 use native.Mathlib.Omega.{arith}
 use lib.Dec.{eqb}
@@ -16,7 +16,7 @@ use Rattle.setting.specs.SettingLaws.{nameLength, value-name}
 use Rattle.two_wire_text.specs.Hex.{isMessage}
 use Rattle.two_wire_text.specs.ExplainedLaws.{message-short}
 use Rattle.script.specs.Bare.{bareLength, bare}
-use Rattle.script.specs.Line.{lineWords, beyondText, noGainText, unknownWords, unknownText, tooLongText, textBy, textOf}
+use Rattle.script.specs.Line.{lineWords, beyondText, noGainText, unknownText, tooLongText, textBy, textOf}
 
 shorter : (t : Bool) (v w : List ℕ) → length v ≤ 128 → length w ≤ 128 → length (cond t v w) ≤ 128
 shorter true v w h g = h

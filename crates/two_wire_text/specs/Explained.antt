@@ -54,3 +54,7 @@ messageSensor s line = cond (leb longest (length line / 3)) s (sensorAfter (mess
 -- what a call tells: the state after, and a text, put at the front of a buffer as far as it has room
 abbrev pub TellsIn : Sensor → List ℕ → List ℕ → List ℕ → Told → Type 0
 TellsIn s text before after told = (told .sensor ≡ s) × Puts before 0 text (told .length) after
+
+-- of a message with an outcome
+abbrev pub TellsOutcome : Outcome → Sensor → List ℕ → List ℕ → List ℕ → Told → Type 0
+TellsOutcome o s bytes = TellsIn (sensorAfter o s) (outcomeText o bytes)

@@ -8,10 +8,10 @@ ghost use Prim.Native.Nat.{_/_, _<_};
 ghost use lib.ListN.{length};
 ghost use lib.Seq.{sets};
 ghost use Rattle.text.specs.Put.{Puts};
-ghost use Rattle.two_wire.specs.Messages.{sensorAfter, messageOn};
+ghost use Rattle.two_wire.specs.Messages.{messageOn};
 ghost use Rattle.two_wire.specs.Writing.{message};
 ghost use Rattle.two_wire_text.specs.Hex.{hexText, digitOf, charFits, isMessage, byteOf, bytesOf};
-ghost use Rattle.two_wire_text.specs.Explained.{directionWord, acceptedText, refusalWords, refusedText, outcomeText, messageText, messageSensor, TellsIn};
+ghost use Rattle.two_wire_text.specs.Explained.{directionWord, acceptedText, refusalWords, refusedText, messageText, messageSensor, TellsIn, TellsOutcome};
 use text::put;
 use text::put_decimal;
 use text::put_hex;
@@ -41,7 +41,7 @@ pub fn explain(sensor: Sensor, line: &[u8], out: &mut [u8]) -> Told
 }
 
 fn read_message(sensor: Sensor, bytes: &[u8], out: &mut [u8]) -> Told
-    ensures { λ r. ⌜ TellsIn (sensorAfter (messageOn sensor (now (bytes .entry))) sensor) (outcomeText (messageOn sensor (now (bytes .entry))) (now (bytes .entry))) (now (out .entry)) (now (out .exit)) r ⌝ }
+    ensures { λ r. ⌜ TellsOutcome (messageOn sensor (now (bytes .entry))) sensor (now (bytes .entry)) (now (out .entry)) (now (out .exit)) r ⌝ }
 {
     let seen = sensor.read(bytes);
     let after = seen.sensor;
