@@ -6,11 +6,11 @@ use lib.Dec.{eqb, ltb}
 use lib.ListN.{length, getD, set}
 
 -- where a count stops: the greatest u64
-abbrev pub countStop : ℕ
-countStop = 18446744073709551615
+abbrev pub greatestCount : ℕ
+greatestCount = 18446744073709551615
 
 unfoldable pub oneMore : ℕ → ℕ
-oneMore n = cond (ltb n countStop) (n + 1) n
+oneMore n = cond (ltb n greatestCount) (n + 1) n
 
 -- those of a list that are so, counted on from n
 abbrev pub counting : {A : Type 0} → (A → Bool) → ℕ → List A → ℕ

@@ -9,7 +9,7 @@ use lib.Dec.{eqb, ltb}
 use lib.ListN.{length, getD, set, drop, length-set}
 use lib.Seq.{getD-set-same, getD-set-other, drop-cons}
 use borrow.Author.Tests.{lt-ltb, ltb-false, eqb-true, eqb-false}
-use Rattle.counts.specs.Counts.{countStop, oneMore, counting, oneMoreAt, allZero}
+use Rattle.counts.specs.Counts.{greatestCount, oneMore, counting, oneMoreAt, allZero}
 
 -- a list in two parts is counted one part after the other
 pub counting-append : {A : Type 0} (which : A → Bool) (n : ℕ) (v w : List A) → counting which n (v ++ w) ≡ counting which (counting which n v) w
@@ -19,11 +19,11 @@ counting-append which n (x ∷ v) w = counting-append which (cond (which x) (one
 -- one more is above 0
 pub counted : (n : ℕ) → ltb 0 (oneMore n) ≡ true
 unfolding oneMore
-counted n = either (ltb n countStop) refl
+counted n = either (ltb n greatestCount) refl
   where
-    either : (b : Bool) → ltb n countStop ≡ b → ltb 0 (cond b (n + 1) n) ≡ true
+    either : (b : Bool) → ltb n greatestCount ≡ b → ltb 0 (cond b (n + 1) n) ≡ true
     either true e = lt-ltb 0 (n + 1) (omega arith)
-    either false e = lt-ltb 0 n (omega (arith, ltb-false n countStop e))
+    either false e = lt-ltb 0 n (omega (arith, ltb-false n greatestCount e))
 
 -- one of a list is so
 abbrev pub some : {A : Type 0} → (A → Bool) → List A → Bool

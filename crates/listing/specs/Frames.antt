@@ -1,5 +1,5 @@
--- What is told of frames: news of one frame, and the last two lines.
-use mathlib.Core.Bool.{Bool, cond}
+-- What is told of frames: news of one frame.
+use mathlib.Core.Bool.{cond}
 use mathlib.Core.List.{List, [], _∷_, _++_}
 use Prim.Native.Nat.{ℕ}
 use lib.Dec.{eqb}
@@ -42,11 +42,3 @@ newsLine Nothing = []
 newsLine (Complete frame b mark) = completeLine frame b mark ++ (newline ∷ [])
 newsLine (Broken frame mark refusal own) = brokenLineOf frame mark refusal own ++ (newline ∷ [])
 newsLine (Cut frame) = frameWords frame ++ ascii " cut off by the end of the capture\n"
-
--- The last two lines: the counts; and whether all is good.
-
-abbrev pub goodWords : Bool → List ℕ
-goodWords good = cond good (ascii "GOOD\n") (ascii "NOT GOOD\n")
-
-unfoldable pub summaryLines : ℕ → ℕ → Bool → List ℕ
-summaryLines complete broken good = decimal complete ++ (ascii " complete, " ++ (decimal broken ++ (ascii " broken\n" ++ goodWords good)))

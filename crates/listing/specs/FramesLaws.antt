@@ -13,16 +13,12 @@ use Rattle.frame.specs.declared.Borders.the-variants.{Unsettled, On, Off}
 use Rattle.tally.specs.declared.News.{News}
 use Rattle.tally.specs.declared.News.the-variants.{Nothing, Complete, Broken, Cut}
 use Rattle.listing.specs.Rows.{rowRoom}
-use Rattle.listing.specs.Frames.{bordersWord, goodWords, brokenLineWords, reasonWords, completeLine, brokenLineOf, newsLine, summaryLines}
+use Rattle.listing.specs.Frames.{bordersWord, brokenLineWords, reasonWords, completeLine, brokenLineOf, newsLine}
 
 borders-short : (b : Borders) → length (bordersWord b) ≤ 9
 borders-short Unsettled = omega arith
 borders-short On = omega arith
 borders-short Off = omega arith
-
-good-short : (good : Bool) → length (goodWords good) ≤ 9
-good-short true = omega arith
-good-short false = omega arith
 
 reason-short : (refusal own : ℕ) → length (reasonWords refusal own) ≤ 50
 unfolding reasonWords
@@ -42,14 +38,10 @@ unfolding brokenLineOf
 broken-short frame mark refusal own =
     simp length-append (omega (arith, decimal-short frame, decimal-short mark, decimal-short refusal, reason-short refusal own))
 
--- no line on a frame is longer than the room that is asked for it, nor the last two lines
+-- no line on a frame is longer than the room that is asked for it
 pub news-short : (n : News) → length (newsLine n) ≤ rowRoom
 unfolding newsLine
 news-short Nothing = omega arith
 news-short (Complete frame b mark) = simp length-append (omega (arith, complete-short frame b mark))
 news-short (Broken frame mark refusal own) = simp length-append (omega (arith, broken-short frame mark refusal own))
 news-short (Cut frame) = simp length-append (omega (arith, decimal-short frame))
-
-pub summary-short : (complete broken : ℕ) (good : Bool) → length (summaryLines complete broken good) ≤ rowRoom
-unfolding summaryLines
-summary-short complete broken good = simp length-append (omega (arith, decimal-short complete, decimal-short broken, good-short good))

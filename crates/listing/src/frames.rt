@@ -1,8 +1,8 @@
-// What is told of the frames of a capture: a line for each that is complete, broken or cut off, and the last two lines.
+// What is told of the frames of a capture: a line for each that is complete, broken or cut off.
 ghost use lib.ListN.{length};
 ghost use Rattle.text.specs.Put.{Puts, AtFront};
 ghost use Rattle.listing.specs.Rows.{ifRoom};
-ghost use Rattle.listing.specs.Frames.{frameWords, bordersWord, goodWords, brokenLineWords, reasonWords, completeLine, brokenLineOf, newsLine, summaryLines};
+ghost use Rattle.listing.specs.Frames.{frameWords, bordersWord, brokenLineWords, reasonWords, completeLine, brokenLineOf, newsLine};
 use super::ROW;
 use frame::Borders;
 use tally::News;
@@ -31,20 +31,6 @@ pub fn news(news: News, out: &mut [u8]) -> usize
             put(b" cut off by the end of the capture\n", out, at)
         }
     }
-}
-
-// Puts the last two lines at the front of a buffer: the counts, and whether all is good.
-pub fn summary(complete: u64, broken: u64, good: bool, out: &mut [u8]) -> usize
-    ensures { λ r. ⌜ AtFront (ifRoom (length (now (out .entry))) (summaryLines complete broken good)) r (now (out .entry)) (now (out .exit)) ⌝ }
-{
-    if out.len() < ROW {
-        return 0;
-    }
-    let at = put_decimal(complete, out, 0);
-    let at = put(b" complete, ", out, at);
-    let at = put_decimal(broken, out, at);
-    let at = put(b" broken\n", out, at);
-    put_good(good, out, at)
 }
 
 fn put_complete(frame: u64, borders: Borders, mark: u64, out: &mut [u8]) -> usize
@@ -104,13 +90,4 @@ fn put_broken_line(own: u8, out: &mut [u8], at: usize) -> usize
     let at = put(b", a broken line (its answer: ", out, at);
     let at = put_decimal(own as u64, out, at);
     put(b")", out, at)
-}
-
-fn put_good(good: bool, out: &mut [u8], at: usize) -> usize
-    ensures { λ r. ⌜ Puts (now (out .entry)) at (goodWords good) r (now (out .exit)) ⌝ }
-{
-    if good {
-        return put(b"GOOD\n", out, at);
-    }
-    put(b"NOT GOOD\n", out, at)
 }

@@ -1,5 +1,5 @@
--- A capture's answers in a row: the tally after them, what they told, and what the judge said of them.
-use mathlib.Core.Bool.{Bool, true, false, _||_, cond}
+-- A capture's answers in a row: the tally after them, and what they told.
+use mathlib.Core.Bool.{Bool, true, false}
 use mathlib.Core.List.{List, [], _∷_, _++_}
 use Prim.Native.Nat.{ℕ}
 use Rattle.line_code.specs.LineCode.{kindNumber}
@@ -8,12 +8,12 @@ use Rattle.stream.specs.declared.GapFacts.{GapFacts}
 use Rattle.stream.specs.declared.LineFacts.{LineFacts}
 use Rattle.stream.specs.declared.Answer.{Answer}
 use Rattle.stream.specs.declared.Answer.the-variants as answer
-use Rattle.frame.specs.declared.Ruling.{Ruling}
 use Rattle.frame.specs.Calls.{Line, line}
+use Rattle.counts.specs.Counts.{oneMore}
 use Rattle.tally.specs.declared.Tally.{Tally}
 use Rattle.tally.specs.declared.News.{News}
 use Rattle.tally.specs.declared.News.the-variants.{Nothing, Complete, Broken, Cut}
-use Rattle.tally.specs.Tally.{oneMore, freshTally, takeOf, closeOf}
+use Rattle.tally.specs.Tally.{freshTally, takeOf, closeOf}
 
 -- the tally after some answers, and what they told
 abbrev pub tallied : Tally → List Answer → Tally
@@ -50,17 +50,6 @@ saysBroken Nothing = false
 saysBroken (Complete frame b mark) = false
 saysBroken (Broken frame mark refusal own) = true
 saysBroken (Cut frame) = false
-
-abbrev pub some : (News → Bool) → List News → Bool
-some says [] = false
-some says (n ∷ w) = says n || some says w
-
--- What the judge said.
-
--- the rulings of a sort, counted on from n
-abbrev pub counting : (Ruling → Bool) → ℕ → List Ruling → ℕ
-counting which n [] = n
-counting which n (v ∷ w) = counting which (cond (which v) (oneMore n) n) w
 
 -- Lines with their gaps.
 

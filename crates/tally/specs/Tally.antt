@@ -1,7 +1,7 @@
 -- The frames of a capture, from the answers of the reader's calls (01, 'Frames of profile 0').
-use mathlib.Core.Bool.{Bool, false, _&&_, cond}
-use Prim.Native.Nat.{ℕ, _+_}
-use lib.Dec.{eqb, ltb}
+use mathlib.Core.Bool.{Bool, false, cond}
+use Prim.Native.Nat.{ℕ}
+use lib.Dec.{eqb}
 use Rattle.refusal.specs.Refusal.{unfinishedLine}
 use Rattle.profile.specs.declared.Profile.{Profile}
 use Rattle.stream.specs.declared.Answer.{Answer}
@@ -16,19 +16,11 @@ use Rattle.frame.specs.declared.Ruling.{Ruling}
 use Rattle.frame.specs.declared.Ruling.the-variants as ruling
 use Rattle.frame.specs.Frame.{judgeOf, breaksFrame}
 use Rattle.frame.specs.Handing.{handedOver}
+use Rattle.counts.specs.Counts.{oneMore}
 use Rattle.tally.specs.declared.Tally.{Tally}
 use Rattle.tally.specs.declared.News.{News}
 use Rattle.tally.specs.declared.News.the-variants.{Nothing, Complete, Broken, Cut}
 use Rattle.tally.specs.declared.Told.{Told}
-
--- Counts.
-
--- where a count stops: the greatest u64
-abbrev pub countStop : ℕ
-countStop = 18446744073709551615
-
-unfoldable pub oneMore : ℕ → ℕ
-oneMore n = cond (ltb n countStop) (n + 1) n
 
 -- a fresh judge, and nothing counted
 abbrev pub freshTally : Profile → Tally
@@ -139,7 +131,3 @@ ended d (Cut frame) = d
 -- an answer 3 counts its mark, and is not handed to the judge
 unfoldable pub closeOf : Tally → Answer → Told
 closeOf t last = cond (isUnfinished last) (cutOf (marked t)) (ended (takeOf t last) (takeOf t last .news))
-
--- a frame is complete, and none is broken
-unfoldable pub isGood : Tally → Bool
-isGood t = eqb (t .broken) 0 && ltb 0 (t .complete)

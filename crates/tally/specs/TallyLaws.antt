@@ -1,12 +1,10 @@
--- Laws of the tally: it counts each mark, it judges a capture as 01 says, a whole frame is good, and a capture is good exactly when a frame
--- was told complete and none was told broken.
+-- Laws of the tally: it counts each mark, it judges a capture as 01 says, a whole frame is counted complete, and a frame is counted complete
+-- or broken exactly when one was told so.
 use mathlib.Core.Path.{_≡_, refl, sym, ap, _∙_}
-use mathlib.Core.Bool.{Bool, true, false, _&&_, _||_, not, cond, or-true, or-false, or-assoc}
+use mathlib.Core.Bool.{Bool, true, false, _||_, not, cond, or-true, or-false, or-assoc}
 use mathlib.Core.List.{List, [], _∷_, _++_}
-use Prim.Native.Nat.{ℕ, zero, suc, _+_}
-use native.Mathlib.Omega.{arith}
+use Prim.Native.Nat.{ℕ, _+_}
 use lib.Dec.{eqb, ltb}
-use borrow.Author.Tests.{lt-ltb, ltb-false, ne-eqb}
 use Rattle.refusal.specs.Refusal.{unfinishedLine}
 use Rattle.line_code.specs.LineCode.{kindNumber}
 use Rattle.profile.specs.declared.Profile.{Profile}
@@ -24,12 +22,14 @@ use Rattle.frame.specs.Frame.{lastPlace, judgeOf, breaksFrame}
 use Rattle.frame.specs.Calls.{Line, line, called, after, rulings, isComplete, isBreak, IsFrame}
 use Rattle.frame.specs.Handing.{handedOver, asLines, handedLines, allHanded}
 use Rattle.frame.specs.FrameLaws.{toComplete, frame-complete}
+use Rattle.counts.specs.Counts.{oneMore, counting}
+use Rattle.counts.specs.CountsLaws.{counted, some}
 use Rattle.tally.specs.declared.Tally.{Tally}
 use Rattle.tally.specs.declared.Told.{Told}
 use Rattle.tally.specs.declared.News.{News}
 use Rattle.tally.specs.declared.News.the-variants.{Nothing, Complete, Broken, Cut}
-use Rattle.tally.specs.Tally.{oneMore, countStop, freshTally, marked, moved, quiet, brokenBy, refusedBy, told, handed, handing, takeOf, cutWithin, cutOf, isUnfinished, ended, closeOf, isGood}
-use Rattle.tally.specs.Answered.{tallied, newsOf, withMark, captureTally, captureNews, saysComplete, saysBroken, some, counting, linesOf, withGaps, LineWithGap}
+use Rattle.tally.specs.Tally.{freshTally, marked, moved, quiet, brokenBy, refusedBy, told, handed, handing, takeOf, cutWithin, cutOf, isUnfinished, ended, closeOf}
+use Rattle.tally.specs.Answered.{tallied, newsOf, withMark, captureTally, captureNews, saysComplete, saysBroken, linesOf, withGaps, LineWithGap}
 
 -- Marks.
 
@@ -175,26 +175,17 @@ counted-once VV5404 = (refl, refl)
 counted-once VV5300 = (refl, refl)
 
 -- the lines of a frame, repaired or not, each with its own gap, from a fresh tally
-pub frame-good : (p : Profile) (b : Borders) (fs : List LineWithGap) → IsFrame p b (linesOf fs)
+pub frame-counted : (p : Profile) (b : Borders) (fs : List LineWithGap) → IsFrame p b (linesOf fs)
     → let t : Tally = tallied (freshTally p) (withGaps fs) in
-    (t .complete ≡ 1) × (t .broken ≡ 0) × (isGood t ≡ true)
-unfolding isGood oneMore
-frame-good p b fs e =
+    (t .complete ≡ 1) × (t .broken ≡ 0)
+frame-counted p b fs e =
     let q = judged-as-said (freshTally p) (withGaps fs) in
     let v : rulings p Waiting (allHanded (withGaps fs)) ≡ toComplete (lastPlace p) = ap (rulings p Waiting) (handed-lines fs) ∙ frame-complete p b (linesOf fs) e .0 in
     let c : tallied (freshTally p) (withGaps fs) .complete ≡ 1 = q .complete ∙ ap (counting isComplete 0) v ∙ counted-once p .0 in
     let d : tallied (freshTally p) (withGaps fs) .broken ≡ 0 = q .broken ∙ ap (counting isBreak 0) v ∙ counted-once p .1 in
-    (c, d, simp (c, d))
+    (c, d)
 
--- Good exactly when a frame was told complete and none was told broken.
-
-counted : (n : ℕ) → ltb 0 (oneMore n) ≡ true
-unfolding oneMore
-counted n = either (ltb n countStop) refl
-  where
-    either : (b : Bool) → ltb n countStop ≡ b → ltb 0 (cond b (n + 1) n) ≡ true
-    either true e = lt-ltb 0 (n + 1) (omega arith)
-    either false e = lt-ltb 0 n (omega (arith, ltb-false n countStop e))
+-- Counted exactly when told.
 
 -- a count is above 0 in d if it was before or the news say so
 record Says (complete₀ broken₀ : ℕ) (d : Told) : Type 0 where
@@ -266,17 +257,11 @@ says-all count says take close t (a ∷ w) last =
     ∙ ap (λ (b : Bool). b || some says (newsOf (takeOf t a .tally) w ++ (closeOf (tallied (takeOf t a .tally) w) last .news ∷ []))) (take t a)
     ∙ or-assoc (ltb 0 (count t)) (says (takeOf t a .news)) _
 
-none : (n : ℕ) → eqb n 0 ≡ not (ltb 0 n)
-none zero = refl
-none (suc n) = simp (ne-eqb (suc n) 0 (λ e. omega (arith, e)), lt-ltb 0 (suc n) (omega arith))
-
 -- of a whole capture
-pub good-exactly : (p : Profile) (w : List Answer) (last : Answer)
-    → isGood (captureTally p w last) ≡ (not (some saysBroken (captureNews p w last)) && some saysComplete (captureNews p w last))
-unfolding isGood
-good-exactly p w last =
-    simp (
-      none (captureTally p w last .broken),
-      says-all (λ t. t .broken) saysBroken (λ t a. says-take t a .broken) (λ t a. says-close t a .broken) (freshTally p) w last,
-      says-all (λ t. t .complete) saysComplete (λ t a. says-take t a .complete) (λ t a. says-close t a .complete) (freshTally p) w last,
-    )
+pub counted-exactly : (p : Profile) (w : List Answer) (last : Answer)
+    → (ltb 0 (captureTally p w last .complete) ≡ some saysComplete (captureNews p w last))
+    × (ltb 0 (captureTally p w last .broken) ≡ some saysBroken (captureNews p w last))
+counted-exactly p w last = (
+  says-all (λ t. t .complete) saysComplete (λ t a. says-take t a .complete) (λ t a. says-close t a .complete) (freshTally p) w last,
+  says-all (λ t. t .broken) saysBroken (λ t a. says-take t a .broken) (λ t a. says-close t a .broken) (freshTally p) w last,
+)

@@ -4,7 +4,8 @@
 // broken, or cut off by the capture's end. What frame::handed_over has of an answer is handed to the judge. Nothing is refused; where the
 // judge refuses 11, 13 or 14, which leave it as it was, the mark is counted. Cost: constant.
 ghost use mathlib.Core.Path.{_≡_};
-ghost use Rattle.tally.specs.Tally.{freshTally, oneMore, quiet, marked, markedBy, ownAnswer, bordersOf, opening, moved, completed, brokenBy, refusedBy, handed, takeOf, isUnfinished, cutOf, closeOf, isGood};
+ghost use Rattle.tally.specs.Tally.{freshTally, quiet, marked, markedBy, ownAnswer, bordersOf, opening, moved, completed, brokenBy, refusedBy, handed, takeOf, isUnfinished, cutOf, closeOf};
+use counts::one_more;
 use frame::Borders;
 use frame::Handed;
 use frame::Judge;
@@ -86,16 +87,6 @@ impl Tally {
             News::Broken(_, _, _, _) => told,
             News::Cut(_) => told,
         }
-    }
-
-    // Whether a frame is complete and none is broken.
-    pub fn is_good(self) -> bool
-        ensures { λ r. ⌜ r ≡ isGood self ⌝ }
-    {
-        if self.broken == 0 {
-            return 0 < self.complete;
-        }
-        false
     }
 
     // One mark more.
@@ -279,14 +270,4 @@ fn opening(before: Judge, judge: Judge, frames: u64) -> u64
         },
         Judge::Due(_, _) => frames,
     }
-}
-
-// A count and one more, held at the greatest u64, which no capture reaches.
-fn one_more(count: u64) -> u64
-    ensures { λ r. ⌜ r ≡ oneMore count ⌝ }
-{
-    if count < u64::MAX {
-        return count + 1;
-    }
-    count
 }
