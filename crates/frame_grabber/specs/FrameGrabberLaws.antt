@@ -14,7 +14,6 @@ use Rattle.profile.specs.Profile.{longest}
 use Rattle.profile.specs.Layout.{rules, fits}
 use Rattle.profile.specs.LayoutLaws.{rules-length, fits-length}
 use Rattle.stream.specs.Answers.{Outcome, answerFor, bufferAfter}
-use Rattle.stream.specs.Written.{nibbles}
 use Rattle.reader.specs.declared.Reader.{Reader}
 use Rattle.reader.specs.Reader.{Took, freshReader, taking, feedOf}
 use Rattle.mark_answer.specs.Sound.{Sound, sound-nothing, sound-line, sound-gap, sound-refused}
@@ -100,13 +99,13 @@ first-frame : (o : Order) (held capture : List ℕ) (n : ℕ) (w : List ℕ) →
     → Pictured o held capture n w
 first-frame o held capture n w e =
     let s = freshGrabber o in
-    let k = seeks (nibbles capture) (s .reader) (s .gatherer) held in
+    let k = seeks capture (s .reader) (s .gatherer) held in
     let c = complete-rows o held (givens (freshReader VV5404) (k .upTo)) n w
     (sym (ap (λ (x : rows.Outcome). x .output) (k .outcome-is)) ∙ sym (ap (λ (a : After). a .output) (grab-is s capture held (passes-test _ (fresh-ok VV5404 .test)))) ∙ e) in
     let laid = givens-laid (k .upTo) (freshReader VV5404) (start o held) refl in
     record {
       upTo = k .upTo;
-      left = seek (s .reader) (s .gatherer) held (nibbles capture) .left;
+      left = seek (s .reader) (s .gatherer) held capture .left;
       splits = k .splits;
       completes = c;
       laid = laid;

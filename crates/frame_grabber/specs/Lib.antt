@@ -1,5 +1,4 @@
 pub mod FrameGrabber
-pub mod Parts
 pub mod Pieces
 pub mod SeekLaws
 pub mod PieceLaws

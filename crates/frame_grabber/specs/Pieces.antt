@@ -1,4 +1,4 @@
--- A capture handed over in pieces, and the picture of its first complete frame.
+-- A capture's nibbles handed over in pieces, and the picture of its first complete frame.
 use mathlib.Core.Path.{_≡_}
 use mathlib.Core.Bool.{cond}
 use mathlib.Core.List.{List, [], _∷_, _++_}
@@ -6,7 +6,6 @@ use Prim.Native.Nat.{ℕ, _+_, _≤_}
 use lib.ListN.{length, take}
 use Rattle.profile.specs.declared.Profile.the-variants.{VV5404}
 use Rattle.profile.specs.Profile.{longest}
-use Rattle.stream.specs.Written.{nibbles}
 use Rattle.lent_buffer.specs.Filled.{used}
 use Rattle.reader.specs.declared.Reader.{Reader}
 use Rattle.reader.specs.Reader.{freshReader, feedOf}
@@ -15,7 +14,7 @@ use Rattle.frame_rows.specs.declared.Order.{Order}
 use Rattle.frame_rows.specs.FrameRows.{Shown, nothing, quiet}
 use Rattle.frame_rows.specs.Gathering.{Given, calls, start, taken, pictureOf, Completes, Laid, Every}
 use Rattle.frame_grabber.specs.declared.Grabber.{Grabber}
-use Rattle.frame_grabber.specs.FrameGrabber.{given, isSaid, fedAll, After, grabOf}
+use Rattle.frame_grabber.specs.FrameGrabber.{given, isSaid, After, grabOf}
 
 -- Pieces.
 
@@ -27,7 +26,7 @@ joined (p ∷ ps) = p ++ joined ps
 abbrev pub withMore : ℕ → After → After
 withMore n a = record { grabber = a .grabber; taken = n + a .taken; output = a .output; buffer = a .buffer }
 
--- call after call, up to the first that says something; the bytes taken are counted over all of them
+-- call after call, up to the first that says something; the nibbles taken are counted over all of them
 abbrev pub grabPieces : Grabber → List ℕ → List (List ℕ) → After
 grabPieces s rows [] = record { grabber = s; taken = 0; output = nothing; buffer = rows }
 grabPieces s rows (p ∷ ps) =
@@ -36,16 +35,21 @@ grabPieces s rows (p ∷ ps) =
 
 -- Every answer.
 
--- what the gatherer is given of nibbles fed one by one
+-- nibbles fed one by one, whatever is answered
+abbrev pub fedAll : Reader → List ℕ → Reader
+fedAll r [] = r
+fedAll r (n ∷ w) = fedAll (feedOf r n longest .reader) w
+
+-- what the gatherer is given of them
 abbrev pub givens : Reader → List ℕ → List Given
 givens r [] = []
 givens r (n ∷ w) = given (feedOf r n longest) ∷ givens (feedOf r n longest .reader) w
 
--- after a call: the reader has taken every nibble of the bytes that count as taken, and each answer was handed to the gatherer
-pub record Stands (s : Grabber) (input rows : List ℕ) (a : After) : Type 0 where
-  pub reader-is : a .grabber .reader ≡ fedAll (s .reader) (nibbles (take (a .taken) input))
-  pub gatherer-is : a .grabber .gatherer ≡ calls (quiet (s .gatherer) rows) (givens (s .reader) (nibbles (take (a .taken) input))) .gatherer
-  pub rows-are : a .buffer ≡ calls (quiet (s .gatherer) rows) (givens (s .reader) (nibbles (take (a .taken) input))) .buffer
+-- after a call: the reader has taken every nibble that counts as taken, and each answer was handed to the gatherer
+pub record Stands (s : Grabber) (w rows : List ℕ) (a : After) : Type 0 where
+  pub reader-is : a .grabber .reader ≡ fedAll (s .reader) (take (a .taken) w)
+  pub gatherer-is : a .grabber .gatherer ≡ calls (quiet (s .gatherer) rows) (givens (s .reader) (take (a .taken) w)) .gatherer
+  pub rows-are : a .buffer ≡ calls (quiet (s .gatherer) rows) (givens (s .reader) (take (a .taken) w)) .buffer
 
 -- The picture.
 
@@ -58,7 +62,7 @@ linesIn o rows w = taken (start o rows) (givens (freshReader VV5404) w)
 pub record Pictured (o : Order) (rows capture : List ℕ) (n : ℕ) (shown : List ℕ) : Type 0 where
   pub upTo : List ℕ
   pub left : List ℕ
-  pub splits : nibbles capture ≡ upTo ++ left
+  pub splits : capture ≡ upTo ++ left
   pub completes : Completes o (linesIn o rows upTo) n shown
   pub laid : Every Laid (linesIn o rows upTo)
   pub written : (room : ℕ) → length (imageOf (pictureOf (completes .borders)) shown) ≤ room

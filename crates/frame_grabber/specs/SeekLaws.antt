@@ -1,86 +1,36 @@
--- What is sought, nibble by nibble: it is the gatherer's calls up to the first that says something, and a mark is complete there.
-use mathlib.Core.Path.{_≡_, refl, sym, ap, subst, _∙_}
+-- What is sought, nibble by nibble: it is the gatherer's calls up to the first that says something.
+use mathlib.Core.Path.{_≡_, refl, sym, ap, _∙_}
 use mathlib.Core.Bool.{Bool, true, false, _&&_, cond, true≢false}
 use mathlib.Core.List.{List, [], _∷_, _++_}
-use mathlib.Core.Option.{some}
-use Prim.Native.Nat.{ℕ, _+_, _-_, _*_, _/_, _%_, _≤_, _<_}
+use Prim.Native.Nat.{ℕ, _+_, _≤_}
 use native.Mathlib.Omega.{arith}
 use lib.ListN.{length, take, length-append}
 use lib.Dec.{eqb, leb}
 use lib.Seq.{length-take-le}
-use borrow.Author.Tests.{ne-eqb, leb-true}
+use borrow.Author.Tests.{leb-true}
 use Rattle.refusal.specs.Refusal.{noRoom}
 use Rattle.profile.specs.declared.Profile.the-variants.{VV5404}
 use Rattle.profile.specs.Profile.{longest}
-use Rattle.stream.specs.Answers.{Outcome}
-use Rattle.stream.specs.Answers as answers
 use Rattle.reader.specs.declared.Reader.{Reader}
-use Rattle.mark_answer.specs.Judge.{judge}
-use Rattle.reader.specs.declared.Head.{Head}
-use Rattle.reader.specs.Reader.{Took, topPlace, groupNumber, isMark, slide, leaveKept, leaveBody, shifted, opened, takeHead, takeOutcome, taking, feedOf}
-use Rattle.reader_laws.specs.ByRuns.{took}
-use Rattle.reader_laws.specs.Passes.{Feeding, feed-state, feed-nibble, feed-room, feed-taken, feeding}
+use Rattle.reader.specs.Reader.{Took, feedOf}
 use Rattle.frame.specs.declared.Judge.{Judge}
 use Rattle.frame.specs.declared.Ruling.{Ruling}
 use Rattle.frame.specs.declared.Ruling.the-variants as ruling
 use Rattle.frame.specs.Calls.{called}
 use Rattle.frame.specs.Frame.{breaksFrame}
-use Rattle.frame.specs.Handing.{isBrokenLine, handedLines}
+use Rattle.frame.specs.Handing.{handedLines}
 use Rattle.frame_rows.specs.declared.Gatherer.{Gatherer}
 use Rattle.frame_rows.specs.FrameRows.{Output, Shown, nothing, complete, refused, isVisible, quiet}
 use Rattle.frame_rows.specs.FrameRows as rows
 use Rattle.frame_rows.specs.Gathering.{Given, call, calls, shown}
 use Rattle.frame_rows.specs.FrameRowsLaws.{Hands, none, one, hands}
-use Rattle.frame_grabber.specs.FrameGrabber.{given, isSaid, Sought, sought, seek, fedAll}
-use Rattle.frame_grabber.specs.Pieces.{givens}
+use Rattle.frame_grabber.specs.FrameGrabber.{given, isSaid, Sought, sought, seek}
+use Rattle.frame_grabber.specs.Pieces.{fedAll, givens}
 
-not-said : (o : Output) → isSaid o ≡ false → o ≡ nothing
+pub not-said : (o : Output) → isSaid o ≡ false → o ≡ nothing
 not-said nothing e = refl
 not-said (complete n w) e = absurd (true≢false e)
 not-said (refused n) e = absurd (true≢false e)
-
--- Where something is said a mark is complete, and the nibble after it brings no answer.
-
--- a mark is complete, and no nibble came after its code
-abbrev pub AtMark : Reader → Type 0
-AtMark r = r .head .window < 256
-
--- what is answered where a nibble completes a mark
-abbrev marked-outcome : Head → List ℕ → ℕ → Outcome
-marked-outcome h body n = judge (h .profile) (h .at) (h .count - 7) (leaveKept h) (leaveBody h body) (some (slide (h .window) n % 256))
-
-no-mark : (w n : ℕ) → w < 256 → n < 16 → isMark (slide w n) ≡ false
-unfolding isMark slide
-no-mark w n l h = ne-eqb ((w % topPlace * 16 + n) / 256) groupNumber (λ e. omega arith)
-
-pub silent : (r : Reader) (n : ℕ) (x : rows.Outcome) → AtMark r → call x (given (feedOf r n longest)) ≡ quiet (x .gatherer) (x .buffer)
-unfolding rows.takeOf takeOutcome isBrokenLine
-silent r n x l = go (feeding r n longest)
-  where
-    go : {t : Took} → Feeding r n longest t → call x (given t) ≡ quiet (x .gatherer) (x .buffer)
-    go (feed-state e) = refl
-    go (feed-nibble e) = refl
-    go (feed-room e) = refl
-    go (feed-taken h) =
-        ap (λ (b : Bool). call x (given (took (taking r n .reader) (cond b (marked-outcome (r .head) (r .body) n) answers.nothing)))) (no-mark (r .head .window) n l h)
-
-said-mark : (r : Reader) (n : ℕ) (x : rows.Outcome) → isSaid (call x (given (feedOf r n longest)) .output) ≡ true → AtMark (feedOf r n longest .reader)
-unfolding rows.takeOf takeOutcome takeHead isBrokenLine
-said-mark r n x = go (feeding r n longest)
-  where
-    w : ℕ
-    w = slide (r .head .window) n
-
-    by : (b : Bool) → isSaid (call x (given (took (taking r n .reader) (cond b (marked-outcome (r .head) (r .body) n) answers.nothing))) .output) ≡ true
-        → (handed : Bool) → cond b (opened (r .head) (w % 256) handed) (shifted (r .head) n) .window < 256
-    by true e handed = omega arith
-    by false e handed = absurd (true≢false (sym e))
-
-    go : {t : Took} → Feeding r n longest t → isSaid (call x (given t) .output) ≡ true → AtMark (t .reader)
-    go (feed-state q) e = absurd (true≢false (sym e))
-    go (feed-nibble q) e = absurd (true≢false (sym e))
-    go (feed-room q) e = absurd (true≢false (sym e))
-    go (feed-taken h) e = by (isMark w) e _
 
 -- What is sought, as the gatherer's calls.
 
@@ -94,10 +44,9 @@ pub record Seeks (r : Reader) (g : Gatherer) (held w : List ℕ) : Type 0 where
   pub splits : w ≡ upTo ++ seek r g held w .left
   pub outcome-is : seek r g held w .outcome ≡ calls (quiet g held) (givens r upTo)
   pub reader-is : seek r g held w .reader ≡ fedAll r upTo
-  pub marked : isSaid (seek r g held w .outcome .output) ≡ true → AtMark (seek r g held w .reader)
 
 pub seeks : (w : List ℕ) (r : Reader) (g : Gatherer) (held : List ℕ) → Seeks r g held w
-seeks [] r g held = record { upTo = []; splits = refl; outcome-is = refl; reader-is = refl; marked = λ e. absurd (true≢false (sym e)) }
+seeks [] r g held = record { upTo = []; splits = refl; outcome-is = refl; reader-is = refl }
 seeks (n ∷ w) r g held = by (isSaid (x .output)) refl (seeks w (t .reader) (x .gatherer) (x .buffer))
   where
     t : Took
@@ -117,7 +66,6 @@ seeks (n ∷ w) r g held = by (isSaid (x .output)) refl (seeks w (t .reader) (x 
           splits = ap (λ (s : Sought). n ∷ s .left) q;
           outcome-is = sym (ap (λ (s : Sought). s .outcome) q);
           reader-is = sym (ap (λ (s : Sought). s .reader) q);
-          marked = λ _. subst (λ (s : Sought). AtMark (s .reader)) q (said-mark r n (quiet g held) e);
         }
     by false e k =
         let q : either false ≡ seek r g held (n ∷ w) = ap either (sym e) in
@@ -129,7 +77,6 @@ seeks (n ∷ w) r g held = by (isSaid (x .output)) refl (seeks w (t .reader) (x 
           outcome-is =
               sym (ap (λ (s : Sought). s .outcome) q) ∙ k .outcome-is ∙ ap (λ (y : rows.Outcome). calls y (givens (t .reader) (k .upTo))) still;
           reader-is = sym (ap (λ (s : Sought). s .reader) q) ∙ k .reader-is;
-          marked = λ f. subst (λ (s : Sought). AtMark (s .reader)) q (k .marked (ap (λ (s : Sought). isSaid (s .outcome .output)) q ∙ f));
         }
 
 -- Nibbles, and nibbles after them.

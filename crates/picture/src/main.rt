@@ -45,8 +45,8 @@ fn show(order: Order) {
     }
 }
 
-// Reads the capture up to its first complete frame. Nothing says that an input ends, so the loop counts its turns down, from a number that no
-// run uses up.
+// Reads the capture up to its first complete frame; where nothing is said the whole piece was taken. Nothing says that an input ends, so the
+// loop counts its turns down, from a number that no run uses up.
 fn seek(order: Order, rows: &mut [u8]) -> Found {
     let mut grabber = Grabber::new(order);
     let mut turns = u64::MAX;
@@ -61,7 +61,7 @@ fn seek(order: Order, rows: &mut [u8]) -> Found {
             return Found::Nothing;
         }
         let n = io::count(got, &buf);
-        let grabbed = grabber.grab(&buf[..n], rows);
+        let grabbed = grabber.grab(&buf[..n], 0, rows);
         grabber = grabbed.grabber;
         let progress = grabbed.progress;
         match progress {

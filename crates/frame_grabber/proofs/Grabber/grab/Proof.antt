@@ -1,72 +1,70 @@
--- At each turn the bytes left bring what the whole piece does; a part that says something ends it, and any other takes some bytes.
+-- At each turn what is left brings what the whole does; a run takes some nibbles, until something is said, or none is left.
 use mathlib.Core.Path.{_≡_, refl, sym, _∙_}
-use Prim.Native.Nat.{_-_}
+use Prim.Native.Nat.{_-_, _*_}
 use native.Mathlib.Omega.{arith}
 use lib.ListN.{length}
 use borrow.Author.Needs.{needs}
 use Rattle.profile.specs.Profile.{longest}
 use Rattle.reader_laws.specs.Passes.{passed}
-use Rattle.frame_grabber.specs.Parts.{reader}
-use Rattle.frame_grabber.proofs.Steps.{Upto, upto-start, upto-next, upto-stop, upto-end, goes-some, taken-within, refused-state}
+use Rattle.frame_grabber.specs.FrameGrabber.{blank}
+use Rattle.frame_grabber.proofs.Runs.{reader, Along, along-start, taken-fits, left-less, along-next, along-end, refused-state}
 use Rattle.frame_grabber.proofs.Grabber.grab.Statement.{statement}
 use Rattle.frame_grabber.proofs.Grabber.grab.Tie as tie
 
 abbrev Inv-loop : tie.InvT-loop
-Inv-loop input rows₀ head₀ body₀ gatherer₀ i₀ rows head body gatherer i = Upto (reader head₀ body₀) gatherer₀ input rows₀ i head body gatherer rows × (length body ≡ longest) × (length rows ≡ length rows₀)
+Inv-loop input from rows₀ head₀ body₀ gatherer₀ progress₀ at₀ rows head body gatherer progress at =
+    Along (reader head₀ body₀) gatherer₀ input rows₀ from at head body gatherer progress rows × (length body ≡ longest) × (length rows ≡ length rows₀)
 
 abbrev μ-loop : tie.MeasureT-loop
-μ-loop input rows₀ head₀ body₀ gatherer₀ i₀ rows head body gatherer i = length input - i
+μ-loop input from rows₀ head₀ body₀ gatherer₀ progress₀ at₀ rows head body gatherer progress at = 2 * length input - at
 
 loop-holds : tie.Need-loop-holds Inv-loop μ-loop
 loop-holds c =
     let e = c .before .before .before .is-sound .ensures in
-    (upto-start _ _ _ _ _ (record { byte = e .1; test = passed _ (sym (e .0) ∙ c .before .before .if1 .taken) }), search needs, refl)
+    (along-start _ _ _ _ _ _ (record { byte = e .1; test = passed _ (sym (e .0) ∙ c .before .before .if1 .taken) }), search needs, refl)
 
-grab-part-requires : tie.Need-grab-part-requires Inv-loop μ-loop
-grab-part-requires c κs = (c .before .before .before .before .loop .inv .0 .sound, c .before .before .before .before .loop .inv .1)
+add-at : tie.Need-add-at Inv-loop μ-loop
+unfolding blank
+add-at c =
+    let run = c .before .before .before .before in
+    let test = run .before .before .before in
+    let turn = test .before .before in
+    let start = turn .before .before .before .before .before .before .before .before in
+    let more = sym (test .before .goes-on .ensures) ∙ test .if2 .taken in
+    omega (arith, taken-fits (turn .loop .inv .0) (λ i. start .shared-slice-known .given i .fits) more (turn .loop .inv .1) (run .run .ensures), start .before .good .1 .0 .1)
 
-add-i : tie.Need-add-i Inv-loop μ-loop
-add-i c =
-    let good = c .before .before .before .before .before .before .before .before .before .before .before .before .before .before .before .before .before .before .before .before .good in
-    let l = c .before .before .before .before .before .before .before .before .before .before .before .loop in
-    omega (arith, taken-within (l .inv .0) (c .before .before .before .before .before .before .grab-part .ensures), good .1 .0 .0)
+loop-less : tie.Need-loop-less Inv-loop μ-loop
+unfolding blank
+loop-less c =
+    let run = c .before .before .before .before .before .before .before .before .before .before in
+    let test = run .before .before .before in
+    let turn = test .before .before in
+    let start = turn .before .before .before .before .before .before .before .before in
+    let more = sym (test .before .goes-on .ensures) ∙ test .if2 .taken in
+    left-less (turn .loop .inv .0) (λ i. start .shared-slice-known .given i .fits) more (turn .loop .inv .1) (run .run .ensures)
+
+loop-again : tie.Need-loop-again Inv-loop μ-loop
+unfolding blank
+loop-again c =
+    let run = c .before .before .before .before .before .before .before .before .before .before in
+    let test = run .before .before .before in
+    let turn = test .before .before in
+    let start = turn .before .before .before .before .before .before .before .before in
+    let more = sym (test .before .goes-on .ensures) ∙ test .if2 .taken in
+    (along-next (turn .loop .inv .0) (λ i. start .shared-slice-known .given i .fits) more (turn .loop .inv .1) (run .run .ensures) (c .before .before .before .take .ensures), search needs, search needs)
+
+sub-t30 : tie.Need-sub-t30 Inv-loop μ-loop
+sub-t30 c = c .before .before .loop .inv .0 .forward
 
 same-length : tie.Need-same-length Inv-loop μ-loop
-same-length c =
-    let loop = c .before .before .before .before .before .before .before .before .before .before .before .before .before .before .loop in
-    let grab-part = c .before .before .before .before .before .before .before .before .before .grab-part in
-    grab-part .kept .1 .1 .1 .1 .0 ∙ loop .inv .2
+same-length c = c .before .before .loop .inv .2
 
 returns : tie.Need-returns Inv-loop μ-loop
 returns c =
-    let test-1 = c .before .before .before .before .before .before .before .before .before .before .before .before .before .before .before .before .before .if1 in
-    let grab-part = c .before .before .before .before .before .before .before .before .before .grab-part in
-    let l = c .before .before .before .before .before .before .before .before .before .before .before .before .before .before .loop in
-    let e = c .before .before .before .before .before .before .before .before .before .before .before .before .before .before .before .before .before .before .is-sound .ensures in
-    upto-stop (l .inv .0) (grab-part .ensures) (sym (e .0) ∙ test-1 .taken) (sym (c .before .before .tells .ensures) ∙ c .before .if2 .taken) (c .hand-back .ensures)
-
-loop-less : tie.Need-loop-less Inv-loop μ-loop
-loop-less c =
-    let loop-test = c .before .before .before .before .before .before .before .before .before .before .before .before .loop-test in
-    let grab-part = c .before .before .before .before .before .before .before .before .grab-part in
-    let l = c .before .before .before .before .before .before .before .before .before .before .before .before .before .loop in
-    let t = goes-some (l .inv .0) (grab-part .ensures) (loop-test .taken) (sym (c .before .tells .ensures) ∙ c .if2 .left) in
-    omega (arith, t, loop-test .taken)
-
-loop-again : tie.Need-loop-again Inv-loop μ-loop
-loop-again c =
-    let grab-part = c .before .before .before .before .before .before .before .before .grab-part in
-    let l = c .before .before .before .before .before .before .before .before .before .before .before .before .before .loop in
-    (upto-next (l .inv .0) (grab-part .ensures) (sym (c .before .tells .ensures) ∙ c .if2 .left), search needs, search needs)
+    along-end (c .before .before .loop .inv .0) (sym (c .before .before .before .before .before .before .is-sound .ensures .0) ∙ c .before .before .before .before .before .if1 .taken) (sym (c .before .goes-on .ensures) ∙ c .if2 .left)
 
 returns-2 : tie.Need-returns-2 Inv-loop μ-loop
-returns-2 c =
-    let l = c .before .before .loop in
-    let e = c .before .before .before .before .before .before .is-sound .ensures in
-    upto-end (l .inv .0) (sym (e .0) ∙ c .before .before .before .before .before .if1 .taken) (c .before .loop-test .left) (c .hand-back2 .ensures)
-
-returns-3 : tie.Need-returns-3 Inv-loop μ-loop
-returns-3 c = refused-state _ _ _ (sym (c .before .is-sound .ensures .0) ∙ c .if1 .left)
+returns-2 c = refused-state _ _ _ (sym (c .before .is-sound .ensures .0) ∙ c .if1 .left)
 
 pub grab-spec : {M : Type 1} → statement M
 grab-spec =
@@ -76,19 +74,16 @@ grab-spec =
     μ-loop
     (λ c κs. search needs)
     loop-holds
-    (λ c. search needs)
-    (λ c. search needs)
-    (λ c. search needs)
-    (λ c. search needs)
-    grab-part-requires
-    add-i
     (λ c κs. search needs)
+    (λ c. search needs)
+    (λ c. search needs)
     (λ c κs. search needs)
-    same-length
-    returns
+    add-at
+    (λ c. search needs)
+    (λ c κs. search needs)
     loop-less
     loop-again
-    (λ c κs. search needs)
-    (λ c. search needs)
-    returns-2
-    returns-3)
+    sub-t30
+    same-length
+    returns
+    returns-2)
