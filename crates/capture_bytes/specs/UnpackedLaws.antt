@@ -1,5 +1,5 @@
 -- Laws of bytes as nibbles: their lengths, that each is below 16, what stands at the front of the buffer, and the portion from a place on.
-use mathlib.Core.Path.{_≡_, refl, _∙_, ap, sym, subst}
+use mathlib.Core.Path.{_≡_, refl, _∙_, ap, sym}
 use mathlib.Core.Bool.{Bool, true, false}
 use mathlib.Core.List.{List, [], _∷_, _++_, append-assoc}
 use Prim.Native.Nat.{ℕ, zero, suc, _+_, _-_, _*_, _/_, _%_, _<_, _≤_, min}
@@ -32,11 +32,6 @@ module _ (bs : List ℕ) (k : ℕ) (h : k ≤ length bs) where
 
   pub front-nibbles : (d : List ℕ) → take (2 * k) (unpacked bs d k) ≡ nibbles (take k bs)
   front-nibbles d = take-at (nibbles (take k bs)) (drop (2 * k) d) (2 * k) taken-length
-
-  pub front-small : ((i : ℕ) → getD bs i 0 < 256) → Small (nibbles (take k bs))
-  front-small known =
-      small-front (nibbles (take k bs)) (nibbles (drop k bs))
-      (subst Small (ap nibbles (sym (take-append-drop k bs)) ∙ nibbles-append (take k bs) (drop k bs)) (nibbles-small bs known))
 
 -- One byte more.
 

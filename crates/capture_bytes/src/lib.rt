@@ -7,10 +7,10 @@ ghost use mathlib.Core.Path.{_≡_};
 ghost use mathlib.Core.Bool.{_&&_, not};
 ghost use Prim.Native.Nat.{_+_, _/_, _≤_, _<_, min};
 ghost use lib.Dec.{ltb};
-ghost use lib.ListN.{length, take, drop};
+ghost use lib.ListN.{length, drop};
 ghost use Rattle.stream.specs.Written.{nibbles};
 ghost use Rattle.reader.specs.Reader.{passes};
-ghost use Rattle.reader_laws.specs.Passing.{Small, Byte};
+ghost use Rattle.reader_laws.specs.Passing.{Byte};
 ghost use Rattle.run.specs.Run.{lentRunOf};
 ghost use Rattle.run.specs.Gives.{LentRunGives};
 ghost use Rattle.stream.specs.Answers.{isAnswer};
@@ -108,8 +108,8 @@ fn run_portion(
 }
 
 // Puts the nibbles of bytes at the front of a buffer, and gives how many bytes it had room for.
-pub fn unpack(bytes: &[u8], to: &mut [u8]) -> usize
-    ensures { λ r. ⌜ (r ≡ fitting (length (now (bytes .entry))) (length (now (to .entry)))) × (now (to .exit) ≡ unpacked (now (bytes .entry)) (now (to .entry)) r) × Small (nibbles (take r (now (bytes .entry)))) ⌝ }
+fn unpack(bytes: &[u8], to: &mut [u8]) -> usize
+    ensures { λ r. ⌜ (r ≡ fitting (length (now (bytes .entry))) (length (now (to .entry)))) × (now (to .exit) ≡ unpacked (now (bytes .entry)) (now (to .entry)) r) ⌝ }
 {
     let n = lesser(bytes.len(), to.len() / 2);
     let mut i: usize = 0;

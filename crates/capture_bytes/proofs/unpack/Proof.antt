@@ -8,7 +8,7 @@ use lib.Seq.{lt-length-set}
 use denote.Ref.{now}
 use borrow.Author.Needs.{needs}
 use Rattle.capture_bytes.specs.Unpacked.{unpacked}
-use Rattle.capture_bytes.specs.UnpackedLaws.{unpack-next, front-small}
+use Rattle.capture_bytes.specs.UnpackedLaws.{unpack-next}
 use Rattle.capture_bytes.proofs.unpack.Statement.{statement}
 use Rattle.capture_bytes.proofs.unpack.Tie as tie
 
@@ -46,7 +46,6 @@ returns c =
     let n = c .before .before .lesser .ensures in (
       n,
       l .inv .3 ∙ ap (unpacked (now (a .bytes)) (now (a .to))) (le-antisymm (l .inv .0) (c .loop-test .left)),
-      front-small (now (a .bytes)) _ (l .inv .1) (λ i. c .before .before .before .before .shared-slice-known .given i .fits),
     )
 
 pub unpack-spec : {M : Type 1} → statement M
