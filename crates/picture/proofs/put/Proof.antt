@@ -5,17 +5,21 @@ use borrow.Author.Needs.{needs}
 use Rattle.picture.proofs.put.Statement.{statement}
 use Rattle.picture.proofs.put.Tie as tie
 
-slice-aggregate-write-all : tie.Need-slice-aggregate-write-all
-slice-aggregate-write-all c = sym (length-take-le _ _ (c .before .if1 .left))
+slice-aggregate-send-2 : tie.Need-slice-aggregate-send-2
+slice-aggregate-send-2 c = sym (length-take-le _ _ (c .before .before .before .if1 .left))
+
+slice-aggregate-save : tie.Need-slice-aggregate-save
+slice-aggregate-save c = sym (length-take-le _ _ (c .before .before .if1 .left))
 
 pub put-spec : {M : Type 1} → statement M
 put-spec =
     tie.close
     (tie.spec
     (λ c. search needs)
-    slice-aggregate-write-all
+    (λ c. search needs)
+    slice-aggregate-send-2
     (λ c κs. search needs)
     (λ c. search needs)
-    (λ c. search needs)
+    slice-aggregate-save
     (λ c κs. search needs)
     (λ c. search needs))

@@ -6,10 +6,10 @@ use Rattle.picture.proofs.seek.Statement.{statement}
 use Rattle.picture.proofs.seek.Tie as tie
 
 abbrev Inv-loop : tie.InvT-loop
-Inv-loop rows₀ grabber₀ turns₀ t11 t12 rows grabber turns = length rows ≡ length rows₀
+Inv-loop fd name rows₀ grabber₀ turns₀ t rows grabber turns = length rows ≡ length rows₀
 
 abbrev μ-loop : tie.MeasureT-loop
-μ-loop rows₀ grabber₀ turns₀ t11 t12 rows grabber turns = turns
+μ-loop fd name rows₀ grabber₀ turns₀ t rows grabber turns = turns
 
 pub seek-spec : {M : Type 1} → statement M
 seek-spec =
@@ -22,7 +22,6 @@ seek-spec =
     (λ c κs. search needs)
     (λ c. search needs)
     (λ c κs. search needs)
-    (λ c. search needs)
     (λ c κs. search needs)
     (λ c. search needs)
     (λ c. search needs)

@@ -1,0 +1,39 @@
+-- A name that is longer than its buffer is none; else its front has it.
+use mathlib.Core.Path.{sym}
+use lib.Seq.{length-take-le}
+use borrow.Author.Needs.{needs}
+use Rattle.picture.proofs.show.Statement.{statement}
+use Rattle.picture.proofs.show.Tie as tie
+use Rattle.picture.proofs.show.Reads as reads
+use Rattle.picture.proofs.show.Lts as lts
+use Rattle.command.proofs.complain.Reads as complain-reads
+use Rattle.command.proofs.open.Reads as open-reads
+use Rattle.io.proofs.buffer.Reads as buffer-reads
+use Rattle.libc.proofs.close.Reads as close-reads
+use Rattle.libc.proofs.isatty.Reads as isatty-reads
+use Rattle.picture.proofs.grab.Reads as grab-reads
+
+array-share-prefix-name : tie.Need-array-share-prefix-name
+array-share-prefix-name c = search needs
+
+slice-aggregate-grab : tie.Need-slice-aggregate-grab
+slice-aggregate-grab c = sym (length-take-le _ _ (array-share-prefix-name (c .before)))
+
+pub show-spec : {M : Type 1} → statement M
+show-spec =
+    tie.close
+    (tie.spec
+    (λ c κs. search needs)
+    (λ c. search needs)
+    (λ c κs. search needs)
+    (λ c. search needs)
+    (λ c κs. search needs)
+    (λ c. search needs)
+    (λ c κs. search needs)
+    (λ c. search needs)
+    (λ c. search needs)
+    array-share-prefix-name
+    slice-aggregate-grab
+    (λ c κs. search needs)
+    (λ c κs. search needs)
+    (λ c. search needs))
