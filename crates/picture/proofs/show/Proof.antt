@@ -4,14 +4,6 @@ use lib.Seq.{length-take-le}
 use borrow.Author.Needs.{needs}
 use Rattle.picture.proofs.show.Statement.{statement}
 use Rattle.picture.proofs.show.Tie as tie
-use Rattle.picture.proofs.show.Reads as reads
-use Rattle.picture.proofs.show.Lts as lts
-use Rattle.command.proofs.complain.Reads as complain-reads
-use Rattle.command.proofs.open.Reads as open-reads
-use Rattle.io.proofs.buffer.Reads as buffer-reads
-use Rattle.libc.proofs.close.Reads as close-reads
-use Rattle.libc.proofs.isatty.Reads as isatty-reads
-use Rattle.picture.proofs.grab.Reads as grab-reads
 
 array-share-prefix-name : tie.Need-array-share-prefix-name
 array-share-prefix-name c = search needs
