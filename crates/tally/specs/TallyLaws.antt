@@ -5,7 +5,7 @@ use mathlib.Core.Bool.{Bool, true, false, _||_, not, cond, or-true, or-false, or
 use mathlib.Core.List.{List, [], _∷_, _++_}
 use Prim.Native.Nat.{ℕ, _+_}
 use lib.Dec.{eqb, ltb}
-use Rattle.refusal.specs.Refusal.{unfinishedLine}
+use Rattle.refusal.specs.Refusal.{unfinishedLine, badState}
 use Rattle.line_code.specs.LineCode.{kindNumber}
 use Rattle.profile.specs.declared.Profile.{Profile}
 use Rattle.profile.specs.declared.Profile.the-variants.{VV5404, VV5300}
@@ -18,9 +18,9 @@ use Rattle.frame.specs.declared.Judge.{Judge}
 use Rattle.frame.specs.declared.Judge.the-variants.{Waiting, Due}
 use Rattle.frame.specs.declared.Ruling.{Ruling}
 use Rattle.frame.specs.declared.Ruling.the-variants as ruling
-use Rattle.frame.specs.Frame.{lastPlace, judgeOf, breaksFrame}
+use Rattle.frame.specs.Frame.{lastPlace, passes, refuses, broken, judgeOf, breaksFrame}
 use Rattle.frame.specs.Calls.{Line, line, called, after, rulings, isComplete, isBreak, IsFrame}
-use Rattle.frame.specs.Handing.{handedOver, asLines, handedLines, allHanded}
+use Rattle.frame.specs.Handing.{isBrokenLine, handedOver, asLines, handedLines, allHanded}
 use Rattle.frame.specs.FrameLaws.{toComplete, frame-complete}
 use Rattle.counts.specs.Counts.{oneMore, counting}
 use Rattle.counts.specs.CountsLaws.{counted, some}
@@ -143,24 +143,35 @@ after-append : (p : Profile) (j : Judge) (ls ms : List Line) → after p j (ls +
 after-append p j [] ms = refl
 after-append p j (l ∷ ls) ms = after-append p (called p j l .judge) ls ms
 
-counting-append : (which : Ruling → Bool) (p : Profile) (j : Judge) (n : ℕ) (ls ms : List Line)
+rulings-counted : (which : Ruling → Bool) (p : Profile) (j : Judge) (n : ℕ) (ls ms : List Line)
     → counting which n (rulings p j (ls ++ ms)) ≡ counting which (counting which n (rulings p j ls)) (rulings p (after p j ls) ms)
-counting-append which p j n [] ms = refl
-counting-append which p j n (l ∷ ls) ms = counting-append which p (called p j l .judge) (cond (which (called p j l .ruling)) (oneMore n) n) ls ms
+rulings-counted which p j n [] ms = refl
+rulings-counted which p j n (l ∷ ls) ms = rulings-counted which p (called p j l .judge) (cond (which (called p j l .ruling)) (oneMore n) n) ls ms
 
 then-judged : {t d e : Tally} {ls ms : List Line} → Judges t ls d → Judges d ms e → Judges t (ls ++ ms) e
 then-judged {t} {d} {e} {ls} {ms} p q =
     record {
       profile = q .profile ∙ p .profile;
       judge = q .judge ∙ simp (p .profile, p .judge) (sym (after-append (t .profile) (t .judge) ls ms));
-      complete = q .complete ∙ simp (p .profile, p .judge, p .complete) (sym (counting-append isComplete (t .profile) (t .judge) (t .complete) ls ms));
-      broken = q .broken ∙ simp (p .profile, p .judge, p .broken) (sym (counting-append isBreak (t .profile) (t .judge) (t .broken) ls ms));
+      complete = q .complete ∙ simp (p .profile, p .judge, p .complete) (sym (rulings-counted isComplete (t .profile) (t .judge) (t .complete) ls ms));
+      broken = q .broken ∙ simp (p .profile, p .judge, p .broken) (sym (rulings-counted isBreak (t .profile) (t .judge) (t .broken) ls ms));
     }
 
 -- whatever the answers: the judge is where 01's calls leave it, and each Complete and each 18 or 19 among its rulings is counted
 pub judged-as-said : (t : Tally) (w : List Answer) → Judges t (allHanded w) (tallied t w)
 judged-as-said t [] = nothing-judged t
 judged-as-said t (a ∷ w) = then-judged (take-judged t a) (judged-as-said (takeOf t a .tally) w)
+
+-- a line that the end of the capture cut off (finish's 3) leaves the judge as handing it over does, with 19; it is told as a frame cut off
+pub cut-as-handed : (t : Tally) → passes (t .profile) (t .judge) ≡ true
+    → closeOf t (answer.Refused unfinishedLine) .tally .judge ≡ after (t .profile) (t .judge) (handedLines (answer.Refused unfinishedLine))
+unfolding closeOf cutOf judgeOf isBrokenLine
+cut-as-handed t h = go (t .judge) refl h
+  where
+    go : (j : Judge) → t .judge ≡ j → passes (t .profile) j ≡ true
+        → cutWithin (marked t) j .tally .judge ≡ cond (passes (t .profile) j) (broken j) (refuses j badState) .judge
+    go Waiting e q = e
+    go (Due place b) e q = ap (λ (x : Bool). cond x (broken (Due place b)) (refuses (Due place b) badState) .judge) (sym q)
 
 -- A whole frame.
 
@@ -175,10 +186,10 @@ counted-once VV5404 = (refl, refl)
 counted-once VV5300 = (refl, refl)
 
 -- the lines of a frame, repaired or not, each with its own gap, from a fresh tally
-pub frame-counted : (p : Profile) (b : Borders) (fs : List LineWithGap) → IsFrame p b (linesOf fs)
+pub frame-tallied : (p : Profile) (b : Borders) (fs : List LineWithGap) → IsFrame p b (linesOf fs)
     → let t : Tally = tallied (freshTally p) (withGaps fs) in
     (t .complete ≡ 1) × (t .broken ≡ 0)
-frame-counted p b fs e =
+frame-tallied p b fs e =
     let q = judged-as-said (freshTally p) (withGaps fs) in
     let v : rulings p Waiting (allHanded (withGaps fs)) ≡ toComplete (lastPlace p) = ap (rulings p Waiting) (handed-lines fs) ∙ frame-complete p b (linesOf fs) e .0 in
     let c : tallied (freshTally p) (withGaps fs) .complete ≡ 1 = q .complete ∙ ap (counting isComplete 0) v ∙ counted-once p .0 in
