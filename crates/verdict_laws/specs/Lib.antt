@@ -1,0 +1,2 @@
+pub mod CaptureVerdict
+pub mod CaptureVerdictLaws

@@ -1,0 +1,1 @@
+// Laws only (specs/): exactly when each verdict on a capture comes.
