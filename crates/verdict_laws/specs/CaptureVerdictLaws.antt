@@ -182,15 +182,15 @@ zero-all : (ns : List ℕ) → ((i : ℕ) → i < length ns → getD ns i 0 ≡ 
 zero-all [] h = refl
 zero-all (n ∷ ns) h = and-both (eqb n 0) _ (eq-eqb n 0 (h 0 (omega arith))) (zero-all ns (λ i l. h (suc i) (omega arith)))
 
-or-left : (a b : Bool) → (a || b) ≡ false → a ≡ false
+pub or-left : (a b : Bool) → (a || b) ≡ false → a ≡ false
 or-left true b h = h
 or-left false b h = refl
 
-or-right : (a b : Bool) → (a || b) ≡ false → b ≡ false
+pub or-right : (a b : Bool) → (a || b) ≡ false → b ≡ false
 or-right true b h = absurd (true≢false h)
 or-right false b h = h
 
-or-neither : (a b : Bool) → a ≡ false → b ≡ false → (a || b) ≡ false
+pub or-neither : (a b : Bool) → a ≡ false → b ≡ false → (a || b) ≡ false
 or-neither true b h g = h
 or-neither false b h g = g
 
@@ -576,7 +576,9 @@ outside-of p w =
     let r = early-on (noFindings p) w refl refl in
     let ls : List Line = beforeFirst (allHanded w) in
     record {
-      early = ap (λ (n : ℕ). leb n (lastPlace p)) (r .early ∙ held 0 ls (omega arith) ∙ ap (min counts.countStop) (zero-add (length (wholeLines ls)))) ∙ held-few (length (wholeLines ls)) (lastPlace p) (last-small p);
+      early =
+          ap (λ (n : ℕ). leb n (lastPlace p)) (r .early ∙ held 0 ls (omega arith) ∙ ap (min counts.countStop) (zero-add (length (wholeLines ls))))
+          ∙ held-few (length (wholeLines ls)) (lastPlace p) (last-small p);
       later = none (found (noFindings p) w .outside .later) ∙ ap not (r .later);
     }
 
@@ -628,7 +630,8 @@ by-tests p w last lost =
     let f : Findings = captureFindings p w last in
     let complete : eqb (f .tally .complete) 0 ≡ not (frameComplete p w last) = ap (λ (x : Tally). eqb (x .complete) 0) (capture-tally p w last) ∙ frames-of p w last .complete in
     let frames : byFrames f lost ≡ cond (frameComplete p w last) (cond (allInOrder p w last lost) Good CheckTheClip) NotGood
-    = ap₂ (λ (b c : Bool). cond b NotGood (cond c Good CheckTheClip)) complete (in-order p w last lost) ∙ other-way (frameComplete p w last) NotGood (cond (allInOrder p w last lost) Good CheckTheClip) in
+    = ap₂ (λ (b c : Bool). cond b NotGood (cond c Good CheckTheClip)) complete (in-order p w last lost)
+    ∙ other-way (frameComplete p w last) NotGood (cond (allInOrder p w last lost) Good CheckTheClip) in
     ap₂ byFirst frames (ap (λ (s : Signal). s .first) (capture-signal p w last) ∙ counts-answers w last .first)
     ∙ by-first (cond (frameComplete p w last) (cond (allInOrder p w last lost) Good CheckTheClip) NotGood) (w ++ (last ∷ []))
 
@@ -651,7 +654,8 @@ complete-marked p w last h = go (markCame w last) refl
     go : (b : Bool) → markCame w last ≡ b → b ≡ true
     go true e = refl
     go false e =
-        absurd (true≢false (sym h ∙ ap (λ (ls : List Line). some isComplete (rulings p Waiting ls)) (none-handed (w ++ cond (isUnfinished last) [] (last ∷ [])) (none-came w last (isUnfinished last) e))))
+        let v : List Answer = w ++ cond (isUnfinished last) [] (last ∷ []) in
+        absurd (true≢false (sym h ∙ ap (λ (ls : List Line). some isComplete (rulings p Waiting ls)) (none-handed v (none-came w last (isUnfinished last) e))))
 
 -- each verdict, by the three tests
 record Exactly (v : Verdict) (marks complete order : Bool) : Type 0 where

@@ -1,2 +1,5 @@
 pub mod CaptureVerdict
 pub mod CaptureVerdictLaws
+pub mod CleanCapture
+pub mod JudgedFrames
+pub mod CleanCaptureLaws

@@ -1,0 +1,49 @@
+-- A capture of a clean stream of whole frames that holds one of them whole, and the verdict on it. Definitions only.
+use mathlib.Core.Path.{_≡_}
+use mathlib.Core.List.{List, [], _∷_, _++_, map}
+use Prim.Native.Nat.{ℕ, _+_, _≤_}
+use lib.ListN.{length}
+use Rattle.line_code.specs.LineCode.{kindNumber}
+use Rattle.profile.specs.declared.Profile.{Profile}
+use Rattle.stream.specs.Answers.{answerFor}
+use Rattle.stream.specs.Stream.{State, fresh, finish, run, outcomes}
+use Rattle.stream.specs.Written.{Sent, stream}
+use Rattle.recovery.specs.Calls.{upToEnd}
+use Rattle.frame.specs.declared.Borders.{Borders}
+use Rattle.frame.specs.Calls.{Line, line, IsFrame}
+use Rattle.verdict.specs.declared.Verdict.{Verdict}
+use Rattle.verdict.specs.Verdict.{isLost}
+use Rattle.verdict_laws.specs.CaptureVerdict.{captureVerdict}
+
+-- the lines of frames, one frame straight after another
+abbrev pub allLines : List (List Sent) → List Sent
+allLines [] = []
+allLines (ss ∷ fs) = ss ++ allLines fs
+
+-- lines that are sent, as they are handed to the judge
+abbrev pub judgedLine : Sent → Line
+judgedLine s = line (kindNumber (s .kind)) (s .number)
+
+abbrev pub judgedLines : List Sent → List Line
+judgedLines ss = map judgedLine ss
+
+-- each is a whole frame, with borders on or off
+pub data AllFrames (p : Profile) : List (List Sent) → Type 0 where
+  no-frames : AllFrames p []
+  and-frame : (b : Borders) {ss : List Sent} {fs : List (List Sent)} → IsFrame p b (judgedLines ss) → AllFrames p fs → AllFrames p (ss ∷ fs)
+
+-- the n nibbles from the place i on hold one of the frames, from the start mark of its first line through the end code of its last
+pub record HoldsFrame (fs : List (List Sent)) (i n : ℕ) : Type 0 where
+  pub earlier : List (List Sent)
+  pub front : List Sent
+  pub last-line : Sent
+  pub later : List (List Sent)
+  pub one-of : fs ≡ earlier ++ ((front ++ (last-line ∷ [])) ∷ later)
+  pub starts-after : i ≤ length (stream (allLines earlier))
+  pub ends-before : length (stream (allLines earlier)) + (length (stream front) + length (upToEnd last-line)) ≤ i + n
+
+-- the verdict on a capture of these nibbles: from what each of them and finish are answered, and how much text the last mark has
+abbrev pub verdictOn : Profile → List ℕ → Verdict
+verdictOn p w =
+    let x : State = run p fresh w in
+    captureVerdict p (map answerFor (outcomes p fresh w)) (answerFor (finish p x .outcome)) (isLost p (x .at) (length (x .text)))
