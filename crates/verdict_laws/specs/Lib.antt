@@ -3,3 +3,5 @@ pub mod CaptureVerdictLaws
 pub mod CleanCapture
 pub mod JudgedFrames
 pub mod CleanCaptureLaws
+pub mod ListedVerdict
+pub mod ListedVerdictLaws

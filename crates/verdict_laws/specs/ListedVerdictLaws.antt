@@ -1,0 +1,128 @@
+-- The verdict that `frames` writes below its list is the one on the nibbles it read: its reader answers as the meaning does, and it finds what
+-- the answers bring.
+use mathlib.Core.Path.{_≡_, refl, _∙_, ap, ap₂, sym, subst}
+use mathlib.Core.Bool.{Bool, true, false}
+use mathlib.Core.List.{List, [], _++_, append-assoc, map}
+use Prim.Native.Nat.{ℕ, _<_, min}
+use native.Mathlib.Omega.{arith}
+use lib.Dec.{ltb, lit≤}
+use lib.ListN.{length}
+use borrow.Author.Tests.{lt-ltb, le-ltb, ltb-true, ltb-false}
+use Rattle.text.specs.Text.{ascii}
+use Rattle.profile.specs.declared.Profile.{Profile}
+use Rattle.profile.specs.declared.Profile.the-variants.{VV5404, VV5300}
+use Rattle.profile.specs.Profile.{longest}
+use Rattle.profile.specs.LayoutLaws.{body-small}
+use Rattle.stream.specs.declared.Answer.{Answer}
+use Rattle.stream.specs.declared.Mark.{Mark}
+use Rattle.stream.specs.declared.Mark.the-variants.{NoMark, Open}
+use Rattle.stream.specs.Answers.{Outcome, answerFor}
+use Rattle.stream.specs.Stream.{State, fresh, finish, run, step, outcomes}
+use Rattle.stream.specs.Written.{Sent, AllWritable}
+use Rattle.reader.specs.declared.Reader.{Reader}
+use Rattle.reader.specs.Reader.{countStop, freshReader, feedOf}
+use Rattle.reader_laws.specs.Passing.{Small, small-none, small-more}
+use Rattle.recovery.specs.CutStream.{cutOut}
+use Rattle.refinement.specs.Refine.{Follows, fresh-follows, feed-steps, finish-steps}
+use Rattle.verdict.specs.declared.Findings.{Findings}
+use Rattle.verdict.specs.declared.Verdict.{Verdict}
+use Rattle.verdict.specs.Findings.{noFindings, takeOf, closeOf}
+use Rattle.verdict.specs.Verdict.{mostText, isLost, verdictOf}
+use Rattle.report.specs.Report.{framesLines, refusedLines, repairedLines, periodLines, lostLine, hintLine, verdictLines, reportOf}
+use Rattle.capture_lister.specs.declared.Mode.{Mode}
+use Rattle.capture_lister.specs.declared.Mode.the-variants.{Frames}
+use Rattle.capture_lister.specs.declared.Lister.{Lister}
+use Rattle.capture_lister.specs.Listed.{freshLister, textOf, belowOf, answerTo, afterNibble, listAfter, lastAnswer, lastFound, lostAt, endText}
+use Rattle.verdict_laws.specs.CaptureVerdict.{found}
+use Rattle.verdict_laws.specs.CleanCapture.{allLines, AllFrames, HoldsFrame, verdictOn}
+use Rattle.verdict_laws.specs.CleanCaptureLaws.{clean-good}
+use Rattle.verdict_laws.specs.ListedVerdict.{EndsIn, listerVerdict}
+
+ends-on : (front : List ℕ) {text last : List ℕ} → EndsIn text last → EndsIn (front ++ text) last
+ends-on front {text} {last} (above, e) = (front ++ above, ap (λ (t : List ℕ). front ++ t) e ∙ sym (append-assoc front above last))
+
+-- The lister.
+
+-- what a lister holds after nibbles, from a reader that stands for the state s on
+record Holds (p : Profile) (m : Mode) (f : Findings) (s : State) (w : List ℕ) (l : Lister) : Type 0 where
+  mode-same : l .mode ≡ m
+  findings-same : l .findings ≡ found f (map answerFor (outcomes p s w))
+  follows : Follows p (l .reader) (run p s w)
+
+holds : (p : Profile) (m : Mode) {w : List ℕ} → Small w → (f : Findings) (r : Reader) (s : State) → Follows p r s
+    → Holds p m f s w (listAfter (record { mode = m; reader = r; findings = f }) w)
+unfolding afterNibble answerTo
+holds p m small-none f r s h = record { mode-same = refl; findings-same = refl; follows = h }
+holds p m (small-more {n} {t} l q) f r s h =
+    let x = feed-steps p r s n longest l (body-small p) h in
+    let rest = holds p m q (takeOf f (answerFor (feedOf r n longest .outcome)) .findings) (feedOf r n longest .reader) (step p s n .state) (x .follows) in
+    record {
+      mode-same = rest .mode-same;
+      findings-same = rest .findings-same ∙ ap (λ (o : Outcome). found (takeOf f (answerFor o) .findings) (map answerFor (outcomes p (step p s n .state) t))) (x .outcome-same);
+      follows = rest .follows;
+    }
+
+-- The signal is lost.
+
+text-held : (p : Profile) → mostText p < countStop
+unfolding mostText
+text-held VV5404 = lit≤ tt
+text-held VV5300 = lit≤ tt
+
+-- the reader's count of a text is held above the most of it
+lost-held : (p : Profile) (m : Mark) (n : ℕ) → isLost p m (min n countStop) ≡ isLost p m n
+unfolding isLost
+lost-held p NoMark n = refl
+lost-held p (Open before code) n = go (ltb (mostText p) n) refl
+  where
+    go : (b : Bool) → ltb (mostText p) n ≡ b → ltb (mostText p) (min n countStop) ≡ b
+    go true e = lt-ltb (mostText p) (min n countStop) (let l = ltb-true (mostText p) n e in omega (arith, text-held p))
+    go false e = le-ltb (mostText p) (min n countStop) (let l = ltb-false (mostText p) n e in omega arith)
+
+-- The verdict.
+
+by-parts : (f g : Findings) (a b : Answer) (x y : Bool) → f ≡ g → a ≡ b → x ≡ y → verdictOf (closeOf f a .findings) x ≡ verdictOf (closeOf g b .findings) y
+by-parts f g a b x y e d c = ap₂ (λ (h : Findings) (i : Answer). verdictOf (closeOf h i .findings) x) e d ∙ ap (verdictOf (closeOf g b .findings)) c
+
+-- the verdict that a lister would give at the end is the one on the nibbles it listed
+pub lister-verdict : (p : Profile) (m : Mode) {w : List ℕ} → Small w → listerVerdict (listAfter (freshLister m p) w) ≡ verdictOn p w
+lister-verdict p m {w} q =
+    let l : Lister = listAfter (freshLister m p) w in
+    let h = holds p m q (noFindings p) (freshReader p) fresh (fresh-follows p) in
+    let x : State = run p fresh w in
+    let s = h .follows .same .head-same in
+    by-parts (l .findings) (found (noFindings p) (map answerFor (outcomes p fresh w))) (lastAnswer l) (answerFor (finish p x .outcome)) (lostAt l) (isLost p (x .at) (length (x .text)))
+    (h .findings-same) (ap answerFor (finish-steps p (l .reader) x (h .follows) .outcome-same))
+    (ap (λ (k : Profile). isLost k (l .reader .head .at) (l .reader .head .count)) (s .profile-same)
+    ∙ ap₂ (λ (k : Mark) (n : ℕ). isLost p k n) (s .at-same) (s .count-same)
+    ∙ lost-held p (x .at) (length (x .text)))
+
+report-ends : (f : Findings) (lost : Bool) (v : Verdict) → EndsIn (reportOf f lost v) (verdictLines v)
+unfolding reportOf
+report-ends f lost v =
+    ends-on (framesLines f)
+    (ends-on (refusedLines (f .signal .refused))
+    (ends-on (repairedLines (f .signal .repaired))
+    (ends-on (periodLines (f .signal .spacing))
+    (ends-on (lostLine lost) (ends-on (hintLine (f .tally .profile) (f .signal .lines) (f .signal .first)) ([], refl))))))
+
+end-ends : (l : Lister) → l .mode ≡ Frames → EndsIn (endText l) (verdictLines (listerVerdict l))
+unfolding belowOf
+end-ends l e =
+    ends-on (textOf (l .mode) (lastFound l) (lastAnswer l))
+    (subst (λ (m : Mode). EndsIn (belowOf m (lastFound l .findings) (lostAt l)) (verdictLines (listerVerdict l))) (sym e)
+    (report-ends (lastFound l .findings) (lostAt l) (listerVerdict l)))
+
+-- the law: whatever the nibbles, the text of `frames` ends in the lines of the verdict on them
+pub verdict-told : (p : Profile) {w : List ℕ} → Small w → EndsIn (endText (listAfter (freshLister Frames p) w)) (verdictLines (verdictOn p w))
+verdict-told p {w} q =
+    let l : Lister = listAfter (freshLister Frames p) w in
+    subst (λ (v : Verdict). EndsIn (endText l) (verdictLines v)) (lister-verdict p Frames q)
+    (end-ends l (holds p Frames q (noFindings p) (freshReader p) fresh (fresh-follows p) .mode-same))
+
+-- and of a clean capture that holds a whole frame, in GOOD
+pub good-told : (p : Profile) {fs : List (List Sent)} → AllFrames p fs → AllWritable p (allLines fs) → (i n : ℕ) → HoldsFrame fs i n → Small (cutOut (allLines fs) i n)
+    → EndsIn (endText (listAfter (freshLister Frames p) (cutOut (allLines fs) i n))) (ascii "GOOD\n")
+good-told p {fs} h g i n c q =
+    let w : List ℕ = cutOut (allLines fs) i n in
+    subst (λ (v : Verdict). EndsIn (endText (listAfter (freshLister Frames p) w)) (verdictLines v)) (clean-good p h g i n c) (verdict-told p q)
