@@ -289,7 +289,7 @@ sent-handed : (ss : List Sent) → map outLine (map asSent ss) ≡ judgedLines s
 sent-handed [] = refl
 sent-handed (s ∷ ss) = ap {B = List Line} (λ l. judgedLine s ∷ l) (sent-handed ss)
 
-handed-append : (v w : List Answer) → allHanded (v ++ w) ≡ allHanded v ++ allHanded w
+pub handed-append : (v w : List Answer) → allHanded (v ++ w) ≡ allHanded v ++ allHanded w
 handed-append [] w = refl
 handed-append (a ∷ v) w = ap (λ (l : List Line). handedLines a ++ l) (handed-append v w) ∙ sym (append-assoc (handedLines a) (allHanded v) (allHanded w))
 

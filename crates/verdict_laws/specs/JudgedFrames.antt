@@ -57,7 +57,7 @@ pub some-append : {A : Type 0} (which : A → Bool) (v w : List A) → some whic
 some-append which [] w = refl
 some-append which (x ∷ v) w = ap (λ (b : Bool). which x || b) (some-append which v w) ∙ sym (or-assoc (which x) (some which v) (some which w))
 
-rulings-append : (p : Profile) (j : Judge) (ls ms : List Line) → rulings p j (ls ++ ms) ≡ rulings p j ls ++ rulings p (after p j ls) ms
+pub rulings-append : (p : Profile) (j : Judge) (ls ms : List Line) → rulings p j (ls ++ ms) ≡ rulings p j ls ++ rulings p (after p j ls) ms
 rulings-append p j [] ms = refl
 rulings-append p j (l ∷ ls) ms = ap {B = List Ruling} (λ vs. called p j l .ruling ∷ vs) (rulings-append p (called p j l .judge) ls ms)
 
@@ -66,7 +66,7 @@ after-append p j [] ms = refl
 after-append p j (l ∷ ls) ms = after-append p (called p j l .judge) ls ms
 
 -- of lines in two parts, by the judge between them
-some-parts : (which : Ruling → Bool) (p : Profile) (ls ms : List Line) → after p Waiting ls ≡ Waiting
+pub some-parts : (which : Ruling → Bool) (p : Profile) (ls ms : List Line) → after p Waiting ls ≡ Waiting
     → some which (rulings p Waiting (ls ++ ms)) ≡ (some which (rulings p Waiting ls) || some which (rulings p Waiting ms))
 some-parts which p ls ms e =
     ap (some which) (rulings-append p Waiting ls ms)
@@ -178,7 +178,7 @@ still-waits p l e = go (leb (l .kind) (kindNumber EOF)) (eqb (l .kind) brokenKin
     go true false false false h = (refl, refl)
     go false b c false h = (refl, refl)
 
-tail-waits : (p : Profile) (ls : List Line) → some isOpening ls ≡ false → (after p Waiting ls ≡ Waiting) × (some isBreak (rulings p Waiting ls) ≡ false)
+pub tail-waits : (p : Profile) (ls : List Line) → some isOpening ls ≡ false → (after p Waiting ls ≡ Waiting) × (some isBreak (rulings p Waiting ls) ≡ false)
 tail-waits p [] h = (refl, refl)
 tail-waits p (l ∷ ls) h =
     let s = still-waits p l (or-left (isOpening l) _ h) in

@@ -5,3 +5,5 @@ pub mod JudgedFrames
 pub mod CleanCaptureLaws
 pub mod ListedVerdict
 pub mod ListedVerdictLaws
+pub mod GoodCapture
+pub mod GoodCaptureLaws
