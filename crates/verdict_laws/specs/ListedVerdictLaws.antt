@@ -22,7 +22,9 @@ use Rattle.stream.specs.Written.{Sent, AllWritable}
 use Rattle.reader.specs.declared.Reader.{Reader}
 use Rattle.reader.specs.Reader.{countStop, freshReader, feedOf}
 use Rattle.reader_laws.specs.Passing.{Small, small-none, small-more}
+use Rattle.reader_laws.specs.SmallLaws.{small-take, small-drop}
 use Rattle.recovery.specs.CutStream.{cutOut}
+use Rattle.recovery.specs.WrittenLaws.{AllNibbles, no-nibble, and-nibble, all-changed}
 use Rattle.refinement.specs.Refine.{Follows, fresh-follows, feed-steps, finish-steps}
 use Rattle.verdict.specs.declared.Findings.{Findings}
 use Rattle.verdict.specs.declared.Verdict.{Verdict}
@@ -120,9 +122,15 @@ verdict-told p {w} q =
     subst (λ (v : Verdict). EndsIn (endText l) (verdictLines v)) (lister-verdict p Frames q)
     (end-ends l (holds p Frames q (noFindings p) (freshReader p) fresh (fresh-follows p) .mode-same))
 
+-- a clean stream's nibbles are nibbles
+nibbles-small : {w : List ℕ} → AllNibbles w → Small w
+nibbles-small no-nibble = small-none
+nibbles-small (and-nibble {n} l h) = small-more {n = n} (omega arith) (nibbles-small h)
+
 -- and of a clean capture that holds a whole frame, in GOOD
-pub good-told : (p : Profile) {fs : List (List Sent)} → AllFrames p fs → AllWritable p (allLines fs) → (i n : ℕ) → HoldsFrame fs i n → Small (cutOut (allLines fs) i n)
+pub good-told : (p : Profile) {fs : List (List Sent)} → AllFrames p fs → AllWritable p (allLines fs) → (i n : ℕ) → HoldsFrame fs i n
     → EndsIn (endText (listAfter (freshLister Frames p) (cutOut (allLines fs) i n))) (ascii "GOOD\n")
-good-told p {fs} h g i n c q =
+good-told p {fs} h g i n c =
     let w : List ℕ = cutOut (allLines fs) i n in
-    subst (λ (v : Verdict). EndsIn (endText (listAfter (freshLister Frames p) w)) (verdictLines v)) (clean-good p h g i n c) (verdict-told p q)
+    let small : Small w = small-take (small-drop (nibbles-small (all-changed p g 0 0 no-nibble)) i) n in
+    subst (λ (v : Verdict). EndsIn (endText (listAfter (freshLister Frames p) w)) (verdictLines v)) (clean-good p h g i n c) (verdict-told p small)
