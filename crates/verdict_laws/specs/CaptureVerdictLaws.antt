@@ -540,30 +540,30 @@ early-on f (a ∷ w) j z = go (handedLines a) (steps f a j z) (early-on (takeOf 
         }
 
 -- a count is held at the greatest u64
-held : (n : ℕ) (ls : List Line) → n ≤ counts.countStop → counts.counting isWhole n ls ≡ min counts.countStop (n + length (wholeLines ls))
+held : (n : ℕ) (ls : List Line) → n ≤ counts.greatestCount → counts.counting isWhole n ls ≡ min counts.greatestCount (n + length (wholeLines ls))
 unfolding counts.oneMore
 held n [] h = omega arith
 held n (l ∷ ls) h = go (isWhole l) (λ k g. held k ls g)
   where
     Held : ℕ → Type 0
-    Held k = k ≤ counts.countStop → counts.counting isWhole k ls ≡ min counts.countStop (k + length (wholeLines ls))
+    Held k = k ≤ counts.greatestCount → counts.counting isWhole k ls ≡ min counts.greatestCount (k + length (wholeLines ls))
 
-    more : (b : Bool) → ltb n counts.countStop ≡ b → ((k : ℕ) → Held k) → counts.counting isWhole (cond b (n + 1) n) ls ≡ min counts.countStop (n + suc (length (wholeLines ls)))
-    more true e rest = let l = ltb-true n counts.countStop e in rest (n + 1) (omega arith) ∙ omega arith
-    more false e rest = let l = ltb-false n counts.countStop e in rest n h ∙ omega arith
+    more : (b : Bool) → ltb n counts.greatestCount ≡ b → ((k : ℕ) → Held k) → counts.counting isWhole (cond b (n + 1) n) ls ≡ min counts.greatestCount (n + suc (length (wholeLines ls)))
+    more true e rest = let l = ltb-true n counts.greatestCount e in rest (n + 1) (omega arith) ∙ omega arith
+    more false e rest = let l = ltb-false n counts.greatestCount e in rest n h ∙ omega arith
 
-    go : (b : Bool) → ((k : ℕ) → Held k) → counts.counting isWhole (cond b (counts.oneMore n) n) ls ≡ min counts.countStop (n + length (cond b (l ∷ wholeLines ls) (wholeLines ls)))
-    go true rest = more (ltb n counts.countStop) refl rest
+    go : (b : Bool) → ((k : ℕ) → Held k) → counts.counting isWhole (cond b (counts.oneMore n) n) ls ≡ min counts.greatestCount (n + length (cond b (l ∷ wholeLines ls) (wholeLines ls)))
+    go true rest = more (ltb n counts.greatestCount) refl rest
     go false rest = rest n h
 
-held-few : (n m : ℕ) → m < counts.countStop → leb (min counts.countStop n) m ≡ leb n m
+held-few : (n m : ℕ) → m < counts.greatestCount → leb (min counts.greatestCount n) m ≡ leb n m
 held-few n m h = go (leb n m) refl
   where
-    go : (b : Bool) → leb n m ≡ b → leb (min counts.countStop n) m ≡ b
-    go true e = let l = leb-true n m e in le-leb (min counts.countStop n) m (omega arith)
-    go false e = let l = leb-false n m e in lt-leb (min counts.countStop n) m (omega arith)
+    go : (b : Bool) → leb n m ≡ b → leb (min counts.greatestCount n) m ≡ b
+    go true e = let l = leb-true n m e in le-leb (min counts.greatestCount n) m (omega arith)
+    go false e = let l = leb-false n m e in lt-leb (min counts.greatestCount n) m (omega arith)
 
-last-small : (p : Profile) → lastPlace p < counts.countStop
+last-small : (p : Profile) → lastPlace p < counts.greatestCount
 last-small VV5404 = lit≤ tt
 last-small VV5300 = lit≤ tt
 
@@ -577,7 +577,7 @@ outside-of p w =
     let ls : List Line = beforeFirst (allHanded w) in
     record {
       early =
-          ap (λ (n : ℕ). leb n (lastPlace p)) (r .early ∙ held 0 ls (omega arith) ∙ ap (min counts.countStop) (zero-add (length (wholeLines ls))))
+          ap (λ (n : ℕ). leb n (lastPlace p)) (r .early ∙ held 0 ls (omega arith) ∙ ap (min counts.greatestCount) (zero-add (length (wholeLines ls))))
           ∙ held-few (length (wholeLines ls)) (lastPlace p) (last-small p);
       later = none (found (noFindings p) w .outside .later) ∙ ap not (r .later);
     }
