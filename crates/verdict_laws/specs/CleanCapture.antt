@@ -42,6 +42,11 @@ pub record HoldsFrame (fs : List (List Sent)) (i n : ℕ) : Type 0 where
   pub starts-after : i ≤ length (stream (allLines earlier))
   pub ends-before : length (stream (allLines earlier)) + (length (stream front) + length (upToEnd last-line)) ≤ i + n
 
+-- each frame takes so many nibbles at most
+pub data FramesWithin (most : ℕ) : List (List Sent) → Type 0 where
+  none-within : FramesWithin most []
+  one-within : {ss : List Sent} {fs : List (List Sent)} → length (stream ss) ≤ most → FramesWithin most fs → FramesWithin most (ss ∷ fs)
+
 -- the verdict on a capture of these nibbles: from what each of them and finish are answered, and how much text the last mark has
 abbrev pub verdictOn : Profile → List ℕ → Verdict
 verdictOn p w =

@@ -46,13 +46,13 @@ use Rattle.verdict_laws.specs.JudgedFrames.{some-append, NoStray, front-
 
 -- Which lines lie wholly in the cut.
 
-stream-append : (ss ts : List Sent) → length (stream (ss ++ ts)) ≡ length (stream ss) + length (stream ts)
+pub stream-append : (ss ts : List Sent) → length (stream (ss ++ ts)) ≡ length (stream ss) + length (stream ts)
 stream-append [] ts = omega arith
 stream-append (s ∷ ss) ts = omega (arith, length-append (written s) (stream (ss ++ ts)), length-append (written s) (stream ss), stream-append ss ts)
 
 -- a line as written is its part up to the end code, and a tail
-long-enough : (s : Sent) → length (written s) ≡ length (upToEnd s) + length (tail s)
-long-enough s =
+pub tail-after : (s : Sent) → length (written s) ≡ length (upToEnd s) + length (tail s)
+tail-after s =
     let a = length-append (startMark s) (content s ++ (endMark ++ tail s)) in
     let b = length-append (content s) (endMark ++ tail s) in
     let c = length-append endMark (tail s) in
@@ -105,7 +105,7 @@ ended-all j o [] h = refl
 ended-all j o (s ∷ ss) h =
     let long = length-append (written s) (stream ss) in
     ap (λ (b : Bool). cond b (s ∷ endedBy j (o + length (written s)) ss) (endedBy j (o + length (written s)) ss))
-    (le-leb (o + length (upToEnd s)) j (omega (arith, h, long, long-enough s)))
+    (le-leb (o + length (upToEnd s)) j (omega (arith, h, long, tail-after s)))
     ∙ ap {B = List Sent} (λ l. s ∷ l) (ended-all j (o + length (written s)) ss (omega (arith, h, long)))
 
 ended-frame : (j o : ℕ) (ss : List Sent) (s : Sent) → o + (length (stream ss) + length (upToEnd s)) ≤ j → endedBy j o (ss ++ (s ∷ [])) ≡ ss ++ (s ∷ [])
@@ -133,7 +133,7 @@ ended-front j o (s ∷ ss) = go (leb (o + length (upToEnd s)) j) refl (ended-fro
     go : (b : Bool) → leb (o + length (upToEnd s)) j ≡ b → (m : ℕ) × (endedBy j next ss ≡ take m ss)
         → (m : ℕ) × (cond b (s ∷ endedBy j next ss) (endedBy j next ss) ≡ take m (s ∷ ss))
     go true e r = (suc (r .0), ap {B = List Sent} (λ l. s ∷ l) (r .1))
-    go false e r = (0, ended-none j next ss (let l = leb-false (o + length (upToEnd s)) j e in omega (arith, long-enough s)))
+    go false e r = (0, ended-none j next ss (let l = leb-false (o + length (upToEnd s)) j e in omega (arith, tail-after s)))
 
 -- the last of them
 from-back : (i o : ℕ) (ss : List Sent) → (m : ℕ) × (linesFrom i o ss ≡ drop m ss)

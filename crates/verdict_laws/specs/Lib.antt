@@ -3,6 +3,7 @@ pub mod CaptureVerdictLaws
 pub mod CleanCapture
 pub mod JudgedFrames
 pub mod CleanCaptureLaws
+pub mod LongEnough
 pub mod ListedVerdict
 pub mod ListedVerdictLaws
 pub mod GoodCapture
