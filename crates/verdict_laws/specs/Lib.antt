@@ -8,3 +8,4 @@ pub mod ListedVerdict
 pub mod ListedVerdictLaws
 pub mod GoodCapture
 pub mod GoodCaptureLaws
+pub mod Examples

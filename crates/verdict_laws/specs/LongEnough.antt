@@ -30,7 +30,7 @@ frame-snoc p [] fs (and-frame b f h) = absurd (let e = f .0 in omega arith)
 frame-snoc p (s ∷ ss) fs h = snoc s ss
 
 -- the first frame, where the capture begins with it
-holds-first : (p : Profile) (ss : List Sent) (fs : List (List Sent)) → AllFrames p (ss ∷ fs) → (n : ℕ) → length (stream ss) ≤ n → HoldsFrame (ss ∷ fs) 0 n
+pub holds-first : (p : Profile) (ss : List Sent) (fs : List (List Sent)) → AllFrames p (ss ∷ fs) → (n : ℕ) → length (stream ss) ≤ n → HoldsFrame (ss ∷ fs) 0 n
 holds-first p ss fs h n l =
     let s = frame-snoc p ss fs h in
     let long : length (stream ss) ≡ length (stream (s .front)) + length (stream (s .last-line ∷ []))
