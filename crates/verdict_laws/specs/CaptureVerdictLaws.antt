@@ -252,7 +252,7 @@ refused-of w last = opposite (allZero ns) (some isRefused v) none-there all-none
 -- Lines outside frames.
 
 -- what is handed of a line is whole
-whole-line : (k : Kind) (n : ℕ) → isWhole (line (kindNumber k) n) ≡ true
+pub whole-line : (k : Kind) (n : ℕ) → isWhole (line (kindNumber k) n) ≡ true
 whole-line BL n = refl
 whole-line BK n = refl
 whole-line VL n = refl
@@ -286,9 +286,10 @@ record FromWaiting (t d : Tally) (b : Bool) : Type 0 where
   judge : d .judge ≡ cond b begun Waiting
   frames : d .frames ≡ cond b (tally.oneMore (t .frames)) (t .frames)
 
-other-call : (t : Tally) (k n own : ℕ) → opens k n ≡ false → FromWaiting t (handed (withJudge t Waiting) k n own .tally) false
-unfolding handed judgeOf refusedBy
-other-call t k n own e = go (leb k (kindNumber EOF)) (eqb k brokenKind) (leb n greatest) (opens k n) e
+-- a line that opens no frame leaves a waiting judge waiting
+pub still-waits : (p : Profile) (l : Line) → isOpening l ≡ false → (called p Waiting l .judge ≡ Waiting) × (isBreak (called p Waiting l .ruling) ≡ false)
+unfolding judgeOf
+still-waits p l e = go (leb (l .kind) (kindNumber EOF)) (eqb (l .kind) brokenKind) (leb (l .number) greatest) (opens (l .kind) (l .number)) e
   where
     r : Bool → Bool → Bool → Bool → Judged
     r a b c o =
@@ -296,12 +297,32 @@ other-call t k n own e = go (leb k (kindNumber EOF)) (eqb k brokenKind) (leb n g
         (cond b (gives Waiting ruling.Waiting) (cond c (cond o (gives begun ruling.Going) (gives Waiting ruling.Waiting)) (refuses Waiting numberTooLarge)))
         (refuses Waiting badKind)
 
-    go : (a b c o : Bool) → o ≡ false → FromWaiting t (told (withJudge t Waiting) own (r a b c o .judge) (r a b c o .ruling) .tally) false
+    go : (a b c o : Bool) → o ≡ false → (r a b c o .judge ≡ Waiting) × (isBreak (r a b c o .ruling) ≡ false)
     go a b c true h = absurd (true≢false h)
-    go true true c false h = record { profile = refl; judge = refl; frames = refl }
-    go true false true false h = record { profile = refl; judge = refl; frames = refl }
-    go true false false false h = record { profile = refl; judge = refl; frames = refl }
-    go false b c false h = record { profile = refl; judge = refl; frames = refl }
+    go true true c false h = (refl, refl)
+    go true false true false h = (refl, refl)
+    go true false false false h = (refl, refl)
+    go false b c false h = (refl, refl)
+
+told-quiet : (t : Tally) (own : ℕ) (j : Judge) (v : Ruling) → j ≡ Waiting → isBreak v ≡ false → FromWaiting t (told (withJudge t Waiting) own j v .tally) false
+unfolding refusedBy
+told-quiet t own j v e h = subst (λ (i : Judge). FromWaiting t (told (withJudge t Waiting) own i v .tally) false) (sym e) (go v h)
+  where
+    go : (v : Ruling) → isBreak v ≡ false → FromWaiting t (told (withJudge t Waiting) own Waiting v .tally) false
+    go ruling.Waiting h = record { profile = refl; judge = refl; frames = refl }
+    go ruling.Going h = record { profile = refl; judge = refl; frames = refl }
+    go ruling.Complete h = record { profile = refl; judge = refl; frames = refl }
+    go (ruling.Refused refusal) h = either (breaksFrame refusal) h
+      where
+        either : (b : Bool) → b ≡ false → FromWaiting t (cond b (brokenBy (withJudge t Waiting) Waiting refusal own) (quiet (moved (withJudge t Waiting) Waiting Waiting)) .tally) false
+        either true e = absurd (true≢false e)
+        either false e = record { profile = refl; judge = refl; frames = refl }
+
+other-call : (t : Tally) (k n own : ℕ) → opens k n ≡ false → FromWaiting t (handed (withJudge t Waiting) k n own .tally) false
+unfolding handed
+other-call t k n own e =
+    let s = still-waits (t .profile) (line k n) e in
+    told-quiet t own (judgeOf (t .profile) Waiting k n .judge) (judgeOf (t .profile) Waiting k n .ruling) (s .0) (s .1)
 
 opening-call : (t : Tally) (own : ℕ) → FromWaiting t (handed (withJudge t Waiting) (kindNumber SOF) 0 own .tally) true
 unfolding handed judgeOf refusedBy

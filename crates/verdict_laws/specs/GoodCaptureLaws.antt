@@ -11,8 +11,7 @@ use borrow.Author.Tests.{not-true, not-false, ltb-false, eqb-true, lt-leb}
 use Rattle.bits.specs.Every.{and-left, and-right, and-both}
 use Rattle.refusal.specs.Refusal.{badState, endWithoutLine, damagedCode, noEndOfLine, badKind, numberTooLarge, notTheLineDue, brokenLine}
 use Rattle.counts.specs.CountsLaws.{some}
-use Rattle.line_code.specs.declared.Kind.{Kind}
-use Rattle.line_code.specs.declared.Kind.the-variants.{BL, BK, VL, SOF, EOF}
+use Rattle.line_code.specs.declared.Kind.the-variants.{EOF}
 use Rattle.line_code.specs.LineCode.{kindNumber}
 use Rattle.line_number.specs.LineNumber.{greatest}
 use Rattle.profile.specs.declared.Profile.{Profile}
@@ -28,13 +27,13 @@ use Rattle.frame.specs.declared.Ruling.{Ruling}
 use Rattle.frame.specs.declared.Ruling.the-variants as ruling
 use Rattle.frame.specs.declared.Judged.{Judged}
 use Rattle.frame.specs.Frame.{lastPlace, lineDue, settled, passes, gives, refuses, opens, begun, brokenKind, judgeOf}
-use Rattle.frame.specs.Calls.{Line, called, after, rulings, isBreak, accepts, accepted, IsFrame}
+use Rattle.frame.specs.Calls.{Line, line, called, after, rulings, isBreak, accepts, accepted, IsFrame}
 use Rattle.frame.specs.Handing.{isBrokenLine, asLines, allHanded}
 use Rattle.frame.specs.FrameLaws.{passes-high, after-snoc, accepted-snoc, Effect, wrongKind, wrongNumber, waits, breaks, strays, starts, restarts, goes, ends, effect, reached-passes, complete-frame}
 use Rattle.tally.specs.Tally.{isUnfinished}
 use Rattle.verdict.specs.declared.Verdict.the-variants.{Good}
 use Rattle.verdict_laws.specs.CaptureVerdict.{captureVerdict, frameBroken, isOpening, beforeFirst, fromFirst, isWhole, isWaiting, someOutside, fewBefore, lineOutside, isRefused, markRefused}
-use Rattle.verdict_laws.specs.CaptureVerdictLaws.{or-left, or-right, or-neither, verdicts}
+use Rattle.verdict_laws.specs.CaptureVerdictLaws.{or-left, or-right, or-neither, whole-line, verdicts}
 use Rattle.verdict_laws.specs.JudgedFrames.{some-append, rulings-append, some-parts, tail-waits}
 use Rattle.verdict_laws.specs.CleanCaptureLaws.{handed-append}
 use Rattle.verdict_laws.specs.GoodCapture.{isGoing, allGoing, FrameByFrame, unfinished, frame-first}
@@ -220,13 +219,6 @@ from-whole ls h =
 
 -- Where no refused mark counts, no broken line is handed over.
 
-line-whole : (k : Kind) → not (not (eqb (kindNumber k) brokenKind)) ≡ false
-line-whole BL = refl
-line-whole BK = refl
-line-whole VL = refl
-line-whole SOF = refl
-line-whole EOF = refl
-
 not-handed : (n : ℕ) → isBrokenLine n ≡ false → (ls : List Line) → some isBroken ls ≡ false → some isBroken (asLines (cond (isBrokenLine n) (hand.Line brokenKind 0) hand.Nothing) ++ ls) ≡ false
 not-handed n e ls h = ap (λ (b : Bool). some isBroken (asLines (cond b (hand.Line brokenKind 0) hand.Nothing) ++ ls)) e ∙ h
 
@@ -238,7 +230,8 @@ high-not-broken n h =
 none-broken : (w v : List Answer) → some isRefused (w ++ v) ≡ false → some isBroken (allHanded w) ≡ false
 none-broken [] v h = refl
 none-broken (answer.Nothing ∷ w) v h = none-broken w v h
-none-broken (answer.Line f ∷ w) v h = or-neither (not (not (eqb (kindNumber (f .kind)) brokenKind))) _ (line-whole (f .kind)) (none-broken w v h)
+none-broken (answer.Line f ∷ w) v h =
+    or-neither (isBroken (line (kindNumber (f .kind)) (f .number))) _ (ap not (whole-line (f .kind) (f .number))) (none-broken w v h)
 none-broken (answer.Gap g ∷ w) v h = none-broken w v h
 none-broken (answer.Refused n ∷ w) v h =
     not-handed n (high-not-broken n (or-left (isRefused (answer.Refused n)) _ h)) (allHanded w) (none-broken w v (or-right (isRefused (answer.Refused n)) _ h))

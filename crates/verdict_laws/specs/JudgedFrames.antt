@@ -10,11 +10,9 @@ use lib.ListN.{length}
 use borrow.Author.Tests.{eqb-true, le-leb}
 use Rattle.bits.specs.Every.{and-left, and-right}
 use Rattle.bits.specs.Agree.{agree}
-use Rattle.refusal.specs.Refusal.{badKind, numberTooLarge}
 use Rattle.counts.specs.CountsLaws.{some}
-use Rattle.line_code.specs.declared.Kind.the-variants.{SOF, EOF}
+use Rattle.line_code.specs.declared.Kind.the-variants.{SOF}
 use Rattle.line_code.specs.LineCode.{kindNumber}
-use Rattle.line_number.specs.LineNumber.{greatest}
 use Rattle.profile.specs.declared.Profile.{Profile}
 use Rattle.profile.specs.declared.Profile.the-variants.{VV5404, VV5300}
 use Rattle.frame.specs.declared.Borders.{Borders}
@@ -24,11 +22,11 @@ use Rattle.frame.specs.declared.Judge.the-variants.{Waiting}
 use Rattle.frame.specs.declared.Ruling.{Ruling}
 use Rattle.frame.specs.declared.Ruling.the-variants as ruling
 use Rattle.frame.specs.declared.Judged.{Judged}
-use Rattle.frame.specs.Frame.{lastPlace, kindAt, standsAt, gives, refuses, opens, begun, brokenKind, judgeOf}
+use Rattle.frame.specs.Frame.{lastPlace, kindAt, standsAt}
 use Rattle.frame.specs.Calls.{Line, called, after, rulings, isComplete, isBreak, fits, laidFrom, IsFrame}
 use Rattle.frame.specs.FrameLaws.{toComplete, frame-complete, first-is, Effect, wrongKind, wrongNumber, waits, breaks, strays, starts, restarts, goes, ends, effect, reached-passes, after-snoc}
 use Rattle.verdict_laws.specs.CaptureVerdict.{isOpening, beforeFirst, fromFirst, isWhole, wholeLines, isWaiting, someOutside}
-use Rattle.verdict_laws.specs.CaptureVerdictLaws.{or-left, or-right, or-neither}
+use Rattle.verdict_laws.specs.CaptureVerdictLaws.{or-left, or-right, or-neither, still-waits}
 
 -- Rulings.
 
@@ -159,24 +157,6 @@ tail-opens-none p b k [] h e = refl
 tail-opens-none p b k (l ∷ ls) h e =
     or-neither (isOpening l) _ (opens-none p b k l (omega (arith, e)) (and-left (fits p b (suc k) l) _ h))
     (tail-opens-none p b (suc k) ls (and-right (fits p b (suc k) l) _ h) (omega (arith, e)))
-
--- a line that opens no frame leaves a waiting judge waiting
-still-waits : (p : Profile) (l : Line) → isOpening l ≡ false → (called p Waiting l .judge ≡ Waiting) × (isBreak (called p Waiting l .ruling) ≡ false)
-unfolding judgeOf
-still-waits p l e = go (leb (l .kind) (kindNumber EOF)) (eqb (l .kind) brokenKind) (leb (l .number) greatest) (opens (l .kind) (l .number)) e
-  where
-    r : Bool → Bool → Bool → Bool → Judged
-    r a b c o =
-        cond a
-        (cond b (gives Waiting ruling.Waiting) (cond c (cond o (gives begun ruling.Going) (gives Waiting ruling.Waiting)) (refuses Waiting numberTooLarge)))
-        (refuses Waiting badKind)
-
-    go : (a b c o : Bool) → o ≡ false → (r a b c o .judge ≡ Waiting) × (isBreak (r a b c o .ruling) ≡ false)
-    go a b c true h = absurd (true≢false h)
-    go true true c false h = (refl, refl)
-    go true false true false h = (refl, refl)
-    go true false false false h = (refl, refl)
-    go false b c false h = (refl, refl)
 
 pub tail-waits : (p : Profile) (ls : List Line) → some isOpening ls ≡ false → (after p Waiting ls ≡ Waiting) × (some isBreak (rulings p Waiting ls) ≡ false)
 tail-waits p [] h = (refl, refl)
