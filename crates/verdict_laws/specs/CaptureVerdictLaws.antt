@@ -48,7 +48,6 @@ use Rattle.tally.specs.declared.News.the-variants.{Nothing, Complete, Broken, C
 use Rattle.tally.specs.Tally.{freshTally, marked, opening, moved, quiet, brokenBy, refusedBy, told, handed, handing, cutWithin, cutOf, isUnfinished, ended}
 use Rattle.tally.specs.Tally as tally
 use Rattle.tally.specs.Answered.{tallied, captureTally}
-use Rattle.tally.specs.Answered as answered
 use Rattle.tally.specs.TallyLaws.{judged-as-said}
 use Rattle.verdict.specs.declared.Outside.{Outside}
 use Rattle.verdict.specs.declared.Findings.{Findings}
@@ -65,14 +64,9 @@ none : (n : ℕ) → eqb n 0 ≡ not (ltb 0 n)
 none zero = refl
 none (suc n) = simp (ne-eqb (suc n) 0 (λ e. omega (arith, e)), lt-ltb 0 (suc n) (omega arith))
 
--- the tally's counts are counts
-same-count : (which : Ruling → Bool) (n : ℕ) (vs : List Ruling) → answered.counting which n vs ≡ counts.counting which n vs
-unfolding tally.oneMore counts.oneMore
-same-count which n [] = refl
-same-count which n (v ∷ vs) = same-count which (cond (which v) (tally.oneMore n) n) vs
-
-none-so : (which : Ruling → Bool) (n : ℕ) (vs : List Ruling) → n ≡ answered.counting which 0 vs → eqb n 0 ≡ not (some which vs)
-none-so which n vs e = none n ∙ ap not (ap (ltb 0) (e ∙ same-count which 0 vs) ∙ counting-some which 0 vs)
+-- of a sort counted from 0 on, none exactly if none of a list is so
+none-so : (which : Ruling → Bool) (n : ℕ) (vs : List Ruling) → n ≡ counts.counting which 0 vs → eqb n 0 ≡ not (some which vs)
+none-so which n vs e = none n ∙ ap not (ap (ltb 0) e ∙ counting-some which 0 vs)
 
 -- The tally's counts, at the end of the capture.
 
@@ -284,7 +278,7 @@ withJudge t j = record { profile = t .profile; judge = j; marks = t .marks; fram
 record FromWaiting (t d : Tally) (b : Bool) : Type 0 where
   profile : d .profile ≡ t .profile
   judge : d .judge ≡ cond b begun Waiting
-  frames : d .frames ≡ cond b (tally.oneMore (t .frames)) (t .frames)
+  frames : d .frames ≡ cond b (counts.oneMore (t .frames)) (t .frames)
 
 -- a line that opens no frame leaves a waiting judge waiting
 pub still-waits : (p : Profile) (l : Line) → isOpening l ≡ false → (called p Waiting l .judge ≡ Waiting) × (isBreak (called p Waiting l .ruling) ≡ false)
@@ -335,14 +329,10 @@ from-waiting t k n own w = subst (λ (j : Judge). FromWaiting t (handed (withJud
     go true e = subst (λ (l : Line). FromWaiting t (handed (withJudge t Waiting) (l .kind) (l .number) own .tally) true) (sym (opens-is (line k n) e)) (opening-call t own)
     go false e = other-call t k n own e
 
-opened-count : (n : ℕ) → ltb 0 (tally.oneMore n) ≡ true
-unfolding tally.oneMore counts.oneMore
-opened-count n = counted n
-
 -- frames once opened stay counted
 opening-stays : (i j : Judge) (n : ℕ) → ltb 0 n ≡ true → ltb 0 (opening i j n) ≡ true
 opening-stays Waiting Waiting n h = h
-opening-stays Waiting (Due place b) n h = opened-count n
+opening-stays Waiting (Due place b) n h = counted n
 opening-stays (Due place b) j n h = h
 
 told-stays : (t : Tally) (own : ℕ) (j : Judge) (v : Ruling) → ltb 0 (t .frames) ≡ true → ltb 0 (told t own j v .tally .frames) ≡ true
