@@ -468,7 +468,7 @@ steps f (answer.Line l) j z = go (opens k n) refl (from-waiting (marked t) k n 0
     go : (b : Bool) → opens k n ≡ b → FromWaiting (marked t) d (opens k n) → Steps f (takeOf f (answer.Line l) .findings) (line k n ∷ [])
     go true e w =
         let r = subst (FromWaiting (marked t) d) e w in
-        first-line (line k n) e (r .profile) (r .judge) (ap (ltb 0) (r .frames) ∙ opened-count (t .frames)) (outside true (r .judge))
+        first-line (line k n) e (r .profile) (r .judge) (ap (ltb 0) (r .frames) ∙ counted (t .frames)) (outside true (r .judge))
     go false e w =
         let r = subst (FromWaiting (marked t) d) e w in
         other-line (line k n) e (r .profile) (r .judge) (r .frames ∙ z)
