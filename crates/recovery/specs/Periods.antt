@@ -87,7 +87,7 @@ line-reading : (p : Profile) (before : Before) (c : Reading) (t : List ℕ) (nex
 line-reading p before (Says m r) t next h = line-meaning p before m r t next h
 line-reading p before Damaged t next h = absurd (true≢false (sym h))
 
-line-length : (p : Profile) (before : Before) (code : ℕ) (t : List ℕ) (next : ℕ)
+pub line-length : (p : Profile) (before : Before) (code : ℕ) (t : List ℕ) (next : ℕ)
     → isLine (answerOf p before code t (some next)) ≡ true → length t ≡ lineNibbles p
 unfolding answerOf
 line-length p before code t next h = line-reading p before (readingOf code) t next h

@@ -1,0 +1,1 @@
+// Laws only (specs/): a slipped clip costs one line, and one frame (02, A14).
