@@ -71,7 +71,7 @@ end-place VV5300 On = refl
 end-place VV5300 Off = refl
 
 -- an SOF is due at no place but the first
-sof-not-due : (p : Profile) (b : Borders) (place : ℕ) → place < lastPlace p → kindDue p b (suc place) (kindNumber SOF) ≡ false
+pub sof-not-due : (p : Profile) (b : Borders) (place : ℕ) → place < lastPlace p → kindDue p b (suc place) (kindNumber SOF) ≡ false
 unfolding kindAt
 sof-not-due VV5404 Unsettled = agree (λ (n : ℕ). kindDue VV5404 Unsettled (suc n) (kindNumber SOF)) (λ (n : ℕ). false) (lastPlace VV5404) refl
 sof-not-due VV5404 On = agree (λ (n : ℕ). kindDue VV5404 On (suc n) (kindNumber SOF)) (λ (n : ℕ). false) (lastPlace VV5404) refl
@@ -393,7 +393,7 @@ passes-effect p j l _ (restarts o) h = passes-begun p
 passes-effect p j l _ (goes place b e d g) h = passes-next p place b (l .kind) (subst (λ (s : Judge). passes p s ≡ true) e h) g
 passes-effect p j l _ (ends place b e d g) h = refl
 
-passes-after : (p : Profile) (j : Judge) (ls : List Line) → passes p j ≡ true → passes p (after p j ls) ≡ true
+pub passes-after : (p : Profile) (j : Judge) (ls : List Line) → passes p j ≡ true → passes p (after p j ls) ≡ true
 passes-after p j [] h = h
 passes-after p j (l ∷ ls) h = passes-after p (called p j l .judge) ls (passes-effect p j l (called p j l) (effect p j l h) h)
 

@@ -23,7 +23,7 @@ use Rattle.refinement.specs.RunAnswersLaws.{runs-said}
 abbrev pub ofEach : {A : Type 0} → (Outcome → List A) → Collector A
 ofEach brings = record { fed = brings; finished = brings }
 
-of-each : {A : Type 0} (brings : Outcome → List A) (c : RunCall) (o : Outcome) → runCollects (ofEach brings) c o ≡ brings o
+pub of-each : {A : Type 0} (brings : Outcome → List A) (c : RunCall) (o : Outcome) → runCollects (ofEach brings) c o ≡ brings o
 of-each brings (run w buffer) o = refl
 of-each brings (one (feed n buffer)) o = refl
 of-each brings (one done) o = refl

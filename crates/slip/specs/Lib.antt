@@ -2,3 +2,8 @@ pub mod Slip
 pub mod Brought
 pub mod ShortTexts
 pub mod SlipLaws
+pub mod SlipFrames
+pub mod Handed
+pub mod LeftHanded
+pub mod LostRulings
+pub mod SlipFramesLaws

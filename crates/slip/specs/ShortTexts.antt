@@ -1,6 +1,6 @@
 -- Whatever marks stand in a stretch shorter than a line, none of them comes out as a line: a mark's text there is shorter than a line's. And
 -- nibbles that are all F bring out no line: the code of a mark that one of them completes ends in F, and is no end of line.
-use mathlib.Core.Path.{_≡_, refl, _∙_, ap, sym}
+use mathlib.Core.Path.{_≡_, refl, _∙_, ap}
 use mathlib.Core.Bool.{Bool, true, false, true≢false}
 use mathlib.Core.List.{List, [], _∷_, _++_}
 use mathlib.Core.Option.{some}

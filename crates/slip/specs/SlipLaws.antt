@@ -66,13 +66,13 @@ abbrev pub withContent : Sent → List ℕ → List ℕ
 withContent s w = startMark s ++ (w ++ (endMark ++ tail s))
 
 -- number and body without the dropped nibbles
-abbrev pub left : Sent → ℕ → ℕ → List ℕ
-left s i k = nibbles (numberByte (s .number / 64) ∷ numberByte (s .number % 64) ∷ []) ++ (take i (nibbles (s .body)) ++ drop (i + k) (nibbles (s .body)))
+abbrev pub leftOf : Sent → ℕ → ℕ → List ℕ
+leftOf s i k = nibbles (numberByte (s .number / 64) ∷ numberByte (s .number % 64) ∷ []) ++ (take i (nibbles (s .body)) ++ drop (i + k) (nibbles (s .body)))
 
-cut : (pre head b post : List ℕ) (i j : ℕ) → i ≤ length b → j ≤ length b
+cut-inside : (pre head b post : List ℕ) (i j : ℕ) → i ≤ length b → j ≤ length b
     → take (length pre + length head + i) (pre ++ (head ++ (b ++ post))) ++ drop (length pre + length head + j) (pre ++ (head ++ (b ++ post)))
     ≡ pre ++ (head ++ ((take i b ++ drop j b) ++ post))
-cut pre head b post i j hi hj =
+cut-inside pre head b post i j hi hj =
     let w : List ℕ = head ++ (b ++ post) in
     let ei : length pre + length head + i ≡ length pre + (length head + i) = omega arith in
     let ej : length pre + length head + j ≡ length pre + (length head + j) = omega arith in
@@ -85,7 +85,7 @@ cut pre head b post i j hi hj =
 
 -- the slipped stream is that of the lines before and after, with what is left of the line between
 pub slipped-is : (before : List Sent) (s : Sent) (after : List Sent) (i k : ℕ) → Inside s i k
-    → slipped before s after i k ≡ stream before ++ (withContent s (left s i k) ++ stream after)
+    → slipped before s after i k ≡ stream before ++ (withContent s (leftOf s i k) ++ stream after)
 slipped-is before s after i k h =
     let b : List ℕ = nibbles (s .body) in
     let rest : List ℕ = (endMark ++ tail s) ++ stream after in
@@ -93,11 +93,11 @@ slipped-is before s after i k h =
     let whole : stream (before ++ (s ∷ after)) ≡ stream before ++ (beforeBody s ++ (b ++ rest))
     = stream-append before (s ∷ after) ∙ ap (λ (w : List ℕ). stream before ++ (beforeBody s ++ w)) (append-assoc b (endMark ++ tail s) (stream after)) in
     ap (λ (w : List ℕ). take (o + i) w ++ drop (o + (i + k)) w) whole
-    ∙ cut (stream before) (beforeBody s) b rest i (i + k) (omega (arith, h .all-inside)) (h .all-inside)
+    ∙ cut-inside (stream before) (beforeBody s) b rest i (i + k) (omega (arith, h .all-inside)) (h .all-inside)
     ∙ ap (λ (w : List ℕ). stream before ++ (beforeBody s ++ w)) (sym (append-assoc (take i b ++ drop (i + k) b) (endMark ++ tail s) (stream after)))
 
 -- with the code before it, it is too short for a line's text
-pub left-short : (p : Profile) (s : Sent) → Writable p s → (i k : ℕ) → Inside s i k → 2 + length (left s i k) < lineNibbles p
+pub left-short : (p : Profile) (s : Sent) → Writable p s → (i k : ℕ) → Inside s i k → 2 + length (leftOf s i k) < lineNibbles p
 left-short p s g i k h =
     let b : List ℕ = nibbles (s .body) in
     omega (
@@ -150,13 +150,13 @@ slipped-lines : (before : List Sent) (s : Sent) (after : List Sent) → AllWrita
 slipped-lines before s after h i k n x =
     let p = VV5404 in
     let q = parted p before s after h in
-    let w = withContent s (left s i k) in
+    let w = withContent s (leftOf s i k) in
     let y = run p x (stream before) in
     ap (lines p x) (slipped-is before s after i k n)
     ∙ lines-append p x (stream before) (w ++ stream after)
     ∙ ap₂ _++_ (clean-lines p (q .earlier) x)
     (lines-append p y w (stream after)
-    ∙ ap₂ _++_ (left-lines s (q .one) (left s i k) (left-short p s (q .one) i k n) y) (clean-lines p (q .later) (run p y w)))
+    ∙ ap₂ _++_ (left-lines s (q .one) (leftOf s i k) (left-short p s (q .one) i k n) y) (clean-lines p (q .later) (run p y w)))
     ∙ sym (as-sent-append before after)
 
 -- finish brings out no line
