@@ -7,3 +7,4 @@ pub mod Handed
 pub mod LeftHanded
 pub mod LostRulings
 pub mod SlipFramesLaws
+pub mod Examples
