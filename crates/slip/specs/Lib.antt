@@ -7,4 +7,5 @@ pub mod Handed
 pub mod LeftHanded
 pub mod LostRulings
 pub mod SlipFramesLaws
+pub mod SlipTally
 pub mod Examples

@@ -1,7 +1,7 @@
 -- What the judge answers to whole frames with broken lines in the stead of one line: the frame with them ends at the first of them or is never opened,
 -- and none of its lines after that opens one, so the judge waits for the next frame.
 use mathlib.Core.Path.{_≡_, refl, _∙_, ap, ap₂, sym, subst}
-use mathlib.Core.Bool.{Bool, true, false, true≢false}
+use mathlib.Core.Bool.{Bool, true, false, true≢false, _||_}
 use mathlib.Core.List.{List, [], _∷_, _++_, append-assoc, map}
 use Prim.Native.Nat.{ℕ, zero, suc, _+_, _≤_, _<_}
 use native.Mathlib.Nat.{not-suc-le-zero, le-of-suc-le-suc}
@@ -11,6 +11,7 @@ use lib.ListN.{length, take, replicate, length-append, length-map, replicate-app
 use lib.Seq.{take-at}
 use Rattle.bits.specs.Every.{and-left, and-right}
 use Rattle.refusal.specs.Refusal.{brokenLine}
+use Rattle.counts.specs.CountsLaws.{some}
 use Rattle.line_code.specs.declared.Kind.{Kind}
 use Rattle.line_code.specs.declared.Kind.the-variants.{BL, BK, VL, SOF, EOF}
 use Rattle.line_code.specs.LineCode.{kindNumber}
@@ -25,7 +26,7 @@ use Rattle.frame.specs.declared.Ruling.{Ruling}
 use Rattle.frame.specs.declared.Ruling.the-variants as ruling
 use Rattle.frame.specs.declared.Judged.{Judged}
 use Rattle.frame.specs.Frame.{lastPlace, kindAt, standsAt, numberDue, passes, gives, refuses, judgeOf}
-use Rattle.frame.specs.Calls.{Line, line, called, after, rulings, fits, laidFrom, IsFrame}
+use Rattle.frame.specs.Calls.{Line, line, called, after, rulings, isComplete, fits, laidFrom, IsFrame}
 use Rattle.frame.specs.FrameLaws.{sof-not-due, frame-complete, toComplete, Effect, wrongKind, wrongNumber, waits, breaks, strays, starts, restarts, goes, ends, effect, passes-after}
 use Rattle.slip.specs.SlipFrames.{handedAs, WholeFrames, no-frame, and-frame, allLines, allComplete, atSlip, lost}
 use Rattle.slip.specs.LeftHanded.{brokenOne}
@@ -187,6 +188,33 @@ frame-lost b front s back f more =
           ∙ ap (λ (vs : List Ruling). replicate (length front) ruling.Going ++ (atSlip front ∷ vs)) (replicate-append-replicate more (length back) ruling.Waiting);
       leads = says .leads;
     }
+
+-- where neither of two lists has one that is so, nor has the whole
+pub some-append : (which : Ruling → Bool) (u v : List Ruling) → some which u ≡ false → some which v ≡ false → some which (u ++ v) ≡ false
+some-append which [] v h k = k
+some-append which (x ∷ u) v h k = go (which x) h (some-append which u v)
+  where
+    go : (b : Bool) → (b || some which u) ≡ false → (some which u ≡ false → some which v ≡ false → some which (u ++ v) ≡ false) → (b || some which (u ++ v)) ≡ false
+    go true e more = absurd (true≢false e)
+    go false e more = more e k
+
+pub none-all : (which : Ruling → Bool) (v : Ruling) → which v ≡ false → (n : ℕ) → some which (replicate n v) ≡ false
+none-all which v e zero = refl
+none-all which v e (suc n) = ap₂ _||_ e (none-all which v e n)
+
+slip-incomplete : (front : List Sent) → isComplete (atSlip front) ≡ false
+slip-incomplete [] = refl
+slip-incomplete (s ∷ ss) = refl
+
+-- none of its rulings is Complete
+pub lost-incomplete : (front back : List Sent) (more : ℕ) → some isComplete (lost front back more) ≡ false
+lost-incomplete front back more =
+    some-append isComplete (replicate (length front) ruling.Going) _ (none-all isComplete ruling.Going refl (length front))
+    (ap₂ _||_ (slip-incomplete front) (none-all isComplete ruling.Waiting refl (more + length back)))
+
+-- where line 0 slipped, all of them are Waiting: neither 18 nor 19 comes
+pub first-waits : (back : List Sent) (more : ℕ) → lost [] back more ≡ replicate (suc (more + length back)) ruling.Waiting
+first-waits back more = refl
 
 -- Frames with a slip in one of them.
 

@@ -1,10 +1,13 @@
 -- A slipped clip in a stream of whole frames (02, A14), as a statement: the frame that it fell in isn't Complete, and every other frame is.
 -- Definitions only; SlipFramesLaws.antt proves it of the reader that runs.
 use mathlib.Core.Path.{_≡_}
+use mathlib.Core.Bool.{true, false}
 use mathlib.Core.List.{List, [], _∷_, _++_, map}
 use Prim.Native.Nat.{ℕ, _+_}
 use lib.ListN.{length, replicate}
 use Rattle.refusal.specs.Refusal.{brokenLine}
+use Rattle.counts.specs.Counts.{counting}
+use Rattle.counts.specs.CountsLaws.{some}
 use Rattle.line_code.specs.LineCode.{kindNumber}
 use Rattle.profile.specs.declared.Profile.the-variants.{VV5404}
 use Rattle.stream.specs.declared.Answer.{Answer}
@@ -16,9 +19,10 @@ use Rattle.frame.specs.declared.Judge.the-variants as judge
 use Rattle.frame.specs.declared.Ruling.{Ruling}
 use Rattle.frame.specs.declared.Ruling.the-variants.{Waiting, Going, Refused}
 use Rattle.frame.specs.Frame.{lastPlace}
-use Rattle.frame.specs.Calls.{Line, line, rulings, IsFrame}
+use Rattle.frame.specs.Calls.{Line, line, rulings, isComplete, IsFrame}
 use Rattle.frame.specs.Handing.{allHanded}
 use Rattle.frame.specs.FrameLaws.{toComplete}
+use Rattle.tally.specs.declared.Tally.{Tally}
 use Rattle.slip.specs.Slip.{slipped, Inside}
 
 -- a line as sent, as it is handed to the judge
@@ -60,6 +64,8 @@ pub record OneFrameLost (fs : List (List Sent)) (front back : List Sent) (gs : L
   -- how many broken lines are handed over besides the first, for marks that the join makes
   pub more : ℕ
   pub rulings-are : told ≡ allComplete fs ++ (lost front back more ++ allComplete gs)
+  -- which in the lost frame are not Complete
+  pub none-complete : some isComplete (lost front back more) ≡ false
 
 -- of the fresh reader r: for every clean profile 0 stream of whole frames, every slip inside the body of one of its lines, and every list of calls
 -- that take what is left, the judge, handed every answer as 01 says, finish's too, finds every frame Complete but the one that the slip fell in
@@ -74,3 +80,15 @@ CostsOneFrame r =
     → FinishLastRun cs
     → runsTaken r cs ≡ slipped (allLines fs ++ front) s (back ++ allLines gs) i k
     → OneFrameLost fs front back gs (rulings VV5404 judge.Waiting (allHanded (runsAnswers r cs)))
+
+-- What the tally counts.
+
+-- how many frames the slip breaks, where these lines stand before it in its frame: one, or none where no line has opened the frame
+abbrev pub brokenAfter : List Sent → ℕ
+brokenAfter [] = 0
+brokenAfter (s ∷ ss) = 1
+
+-- the frames fs and gs are counted complete, and the one between them broken, if it was opened
+pub record OneFrameUncounted (fs : List (List Sent)) (front : List Sent) (gs : List (List Sent)) (t : Tally) : Type 0 where
+  pub others-complete : t .complete ≡ counting (λ (f : List Sent). true) 0 (fs ++ gs)
+  pub one-broken : t .broken ≡ brokenAfter front

@@ -28,7 +28,7 @@ use Rattle.slip.specs.SlipLaws.{parted, withContent, leftOf, left-short,
 use Rattle.slip.specs.SlipFrames.{handedAs, allLines, runsAnswers, CostsOneFrame}
 use Rattle.slip.specs.Handed.{handedBy, linesHanded, call-unhanded, hands-over-then, fresh-at-rest, HandsToRest, lines-handed}
 use Rattle.slip.specs.LeftHanded.{brokenOne, left-handed}
-use Rattle.slip.specs.LostRulings.{one-lost}
+use Rattle.slip.specs.LostRulings.{lost-incomplete, one-lost}
 
 -- The calls.
 
@@ -98,4 +98,5 @@ slip-costs-one-frame fs front s back gs whole h i k n cs last taken =
           ∙ ap (λ (w : List ℕ). collected handedBy (broughtBy VV5404 fresh w (runsFinish cs))) taken
           ∙ finished-handed (q .all) (runsFinish cs))
           ∙ one-lost fs front s back gs whole (q .more);
+      none-complete = lost-incomplete front back (q .more);
     }
