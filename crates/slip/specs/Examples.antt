@@ -1,25 +1,35 @@
 -- The join may well look like a mark: each kind of mark that it can make, in a line that may be written, and what is answered then. No line comes out,
--- and the judge is handed one broken line, or two where that mark is no end of line.
-use mathlib.Core.Path.{_≡_, refl}
+-- and the judge is handed one broken line, or two where that mark is no end of line. And whole frames with a slip in one: such streams there are.
+use mathlib.Core.Path.{_≡_, refl, ap, sym, subst}
 use mathlib.Core.Bool.{true, false}
 use mathlib.Core.List.{List, [], _∷_, _++_, map}
-use Prim.Native.Nat.{ℕ, _+_, _-_, _*_, _/_, _%_}
-use lib.ListN.{replicate}
+use Prim.Native.Nat.{ℕ, _+_, _-_, _*_, _/_, _%_, _≤_}
+use native.Mathlib.Omega.{arith}
+use lib.Dec.{lit≤}
+use lib.ListN.{length, drop, replicate}
 use lib.Count.{ones, onesIn}
 use Rattle.refusal.specs.Refusal.{damagedCode, reservedCode, wrongLength, endWithoutLine, badGap}
 use Rattle.line_code.specs.declared.Kind.{Kind}
 use Rattle.line_code.specs.declared.Kind.the-variants.{BL, BK, VL, SOF, EOF}
 use Rattle.line_code.specs.declared.Meaning.the-variants.{Line, ReservedEC}
-use Rattle.line_code.specs.LineCode.{kindNumbered, reservedOf, meaningOf, cleanByte, readingOf}
-use Rattle.line_number.specs.LineNumber.{numberByte}
+use Rattle.line_code.specs.LineCode.{kindNumber, kindNumbered, reservedOf, meaningOf, cleanByte, readingOf}
+use Rattle.line_number.specs.LineNumber.{greatest, numberByte}
 use Rattle.profile.specs.declared.Profile.the-variants.{VV5404}
 use Rattle.profile.specs.Layout.{rules, fits}
 use Rattle.stream.specs.Answers.{Outcome, refused, answerFor, require, goodGap, periodOf, answerOf}
 use Rattle.stream.specs.Stream.{fresh}
-use Rattle.stream.specs.Written.{Sent}
+use Rattle.stream.specs.Written.{Sent, AllWritable, no-lines, and-line}
+use Rattle.recovery.specs.Examples.{sample, sample-writable}
 use Rattle.recovery.specs.CleanAnswers.{said, outcomesFinished, gapRead}
+use Rattle.frame.specs.declared.Borders.{Borders}
+use Rattle.frame.specs.declared.Borders.the-variants.{On, Off}
+use Rattle.frame.specs.Frame.{layout, kindsOf}
+use Rattle.frame.specs.Calls.{IsFrame, numberedFrom}
+use Rattle.frame.specs.Calls as judged
+use Rattle.frame.specs.FrameLaws.{frame-length, frame-counted}
 use Rattle.frame.specs.Handing.{isBrokenLine, allHanded}
-use Rattle.slip.specs.Slip.{slipped}
+use Rattle.slip.specs.Slip.{slipped, Inside}
+use Rattle.slip.specs.SlipFrames.{handedAs, WholeFrames, no-frame, and-frame, allLines}
 use Rattle.slip.specs.LeftHanded.{brokenOne}
 
 -- a visible line that has, after so many bytes of its body, the nibbles 1 F F 1 1 F F 0 0, a code and one nibble more
@@ -76,3 +86,43 @@ damaged-made = record { body-fits = refl; answered = refl; handed-over = refl }
 -- hold one
 pub zero-not-made : fits (rules VV5404 VL) (visible 0 0x00 1 .body) ≡ false
 zero-not-made = refl
+
+-- Whole frames: no hypothesis of the frame's law is empty.
+
+-- lines of these kinds, numbered on from n
+abbrev pub samplesFrom : ℕ → List Kind → List Sent
+samplesFrom n [] = []
+samplesFrom n (k ∷ ks) = sample VV5404 k n ∷ samplesFrom (n + 1) ks
+
+samples-handed : (n : ℕ) (ks : List Kind) → map handedAs (samplesFrom n ks) ≡ numberedFrom n ks
+samples-handed n [] = refl
+samples-handed n (k ∷ ks) = ap (λ (ls : List judged.Line). judged.line (kindNumber k) n ∷ ls) (samples-handed (n + 1) ks)
+
+samples-writable : (n : ℕ) (ks : List Kind) → n + length ks ≤ greatest + 1 → AllWritable VV5404 (samplesFrom n ks)
+samples-writable n [] h = no-lines
+samples-writable n (k ∷ ks) h = and-line (sample-writable VV5404 k n (omega arith)) (samples-writable (n + 1) ks (omega arith))
+
+-- a frame with borders so
+abbrev pub sampleFrame : Borders → List Sent
+sampleFrame b = samplesFrom 0 (kindsOf (layout VV5404 b))
+
+frame-whole : (b : Borders) → IsFrame VV5404 b (map handedAs (sampleFrame b))
+frame-whole b = subst (IsFrame VV5404 b) (sym (samples-handed 0 (kindsOf (layout VV5404 b)))) (frame-counted VV5404 b)
+
+frame-writable : (b : Borders) → AllWritable VV5404 (sampleFrame b)
+frame-writable b = samples-writable 0 (kindsOf (layout VV5404 b)) (omega (arith, frame-length VV5404 b))
+
+writable-both : {ss ts : List Sent} → AllWritable VV5404 ss → AllWritable VV5404 ts → AllWritable VV5404 (ss ++ ts)
+writable-both no-lines k = k
+writable-both (and-line g h) k = and-line g (writable-both h k)
+
+-- a frame with borders, and one without them in whose second line the clip slips over three nibbles
+abbrev pub twoFrames : List (List Sent)
+twoFrames = (sampleFrame On ∷ []) ++ (((sample VV5404 SOF 0 ∷ []) ++ (sample VV5404 BK 1 ∷ samplesFrom 2 (drop 2 (kindsOf (layout VV5404 Off))))) ∷ [])
+
+pub frames-slip : WholeFrames twoFrames × AllWritable VV5404 (allLines twoFrames) × Inside (sample VV5404 BK 1) 10 3
+frames-slip = (
+  and-frame On (frame-whole On) (and-frame Off (frame-whole Off) no-frame),
+  writable-both (frame-writable On) (writable-both (frame-writable Off) no-lines),
+  record { some-dropped = lit≤ tt; all-inside = lit≤ tt },
+)

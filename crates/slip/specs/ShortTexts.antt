@@ -48,7 +48,8 @@ short-lines p s (n ∷ w) h = go (detect (n ∷ s .text)) refl (λ x. short-line
     go (mark x y before) e more =
         let l = text-before n (s .text) x y before e in
         let z : State = advance p (s .at) (n ∷ s .text) (mark x y before) .state in
-        ap (λ (ls : List LineOut). ls ++ lines p z w) (none-brought (answerAt p (s .at) before (some (16 * x + y))) (other-length p (s .at) before (16 * x + y) (λ q. omega arith))) ∙ more z (omega arith)
+        let o : Outcome = answerAt p (s .at) before (some (16 * x + y)) in
+        ap (λ (ls : List LineOut). ls ++ lines p z w) (none-brought o (other-length p (s .at) before (16 * x + y) (λ q. omega arith))) ∙ more z (omega arith)
 
 -- nibbles that are all F bring out no line
 pub f-lines : (p : Profile) (s : State) (n : ℕ) → lines p s (replicate n 15) ≡ []

@@ -49,7 +49,8 @@ finished-handed : {w : List ℕ} {ls : List Line} → HandsToRest fresh w ls →
 finished-handed h false = h .hands .over
 finished-handed {w} h true =
     let y = run VV5404 fresh w in
-    let none-over : handedBy (finish VV5404 y .outcome) ≡ [] = ap (λ (z : State). handedBy (finish VV5404 z .outcome)) (h .hands .leads) ∙ h .at-rest .hands-nothing (h .to .text) none in
+    let none-over : handedBy (finish VV5404 y .outcome) ≡ []
+    = ap (λ (z : State). handedBy (finish VV5404 z .outcome)) (h .hands .leads) ∙ h .at-rest .hands-nothing (h .to .text) none in
     collected-append handedBy (outcomes VV5404 fresh w) (finish VV5404 y .outcome ∷ [])
     ∙ ap (λ (ls : List Line). linesHanded VV5404 fresh w ++ (ls ++ [])) none-over
     ∙ append-nil (linesHanded VV5404 fresh w)
