@@ -49,8 +49,8 @@ abbrev pub atSlip : List Sent → Ruling
 atSlip [] = Waiting
 atSlip (s ∷ ss) = Refused brokenLine
 
--- what it answers in the frame that the slip fell in: Going to the lines before it, and Waiting from the first broken line on, to so many more of
--- them and to the lines after it. None of it is Complete; and where line 0 slipped, all of it is Waiting
+-- what it answers in the frame that the slip fell in: Going to the lines before it, then this to the first broken line, and Waiting to so many more
+-- broken lines and to the lines after it. Where line 0 slipped, all of it is Waiting (LostRulings.antt)
 abbrev pub lost : List Sent → List Sent → ℕ → List Ruling
 lost front back more = replicate (length front) Going ++ (atSlip front ∷ replicate (more + length back) Waiting)
 
@@ -64,7 +64,7 @@ pub record OneFrameLost (fs : List (List Sent)) (front back : List Sent) (gs : L
   -- how many broken lines are handed over besides the first, for marks that the join makes
   pub more : ℕ
   pub rulings-are : told ≡ allComplete fs ++ (lost front back more ++ allComplete gs)
-  -- which in the lost frame are not Complete
+  -- none of those in the lost frame is Complete
   pub none-complete : some isComplete (lost front back more) ≡ false
 
 -- of the fresh reader r: for every clean profile 0 stream of whole frames, every slip inside the body of one of its lines, and every list of calls

@@ -117,7 +117,7 @@ nulls-F : (k : ℕ) → (n : ℕ) × (nibbles (replicate k nullByte) ≡ replica
 nulls-F zero = (0, refl)
 nulls-F (suc k) = let q = nulls-F k in (suc (suc (q .0)), ap (λ (w : List ℕ). 15 ∷ 15 ∷ w) (q .1))
 
-pub tail-F : (s : Sent) → Writable VV5404 s → (n : ℕ) × (tail s ≡ replicate n 15)
+tail-F : (s : Sent) → Writable VV5404 s → (n : ℕ) × (tail s ≡ replicate n 15)
 tail-F s g =
     let a = eqb-true (s .gap-one) nullByte (and-left (eqb (s .gap-one) nullByte) (eqb (s .gap-two) nullByte) (g .gap-fits)) in
     let b = eqb-true (s .gap-two) nullByte (and-right (eqb (s .gap-one) nullByte) (eqb (s .gap-two) nullByte) (g .gap-fits)) in
