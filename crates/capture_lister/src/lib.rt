@@ -12,7 +12,7 @@ ghost use lib.ListN.{length, drop};
 ghost use Rattle.stream.specs.Written.{nibbles};
 ghost use Rattle.verdict.specs.Verdict.{verdictOf};
 ghost use Rattle.report.specs.Report.{reportRoom, reportOf};
-ghost use Rattle.listing.specs.Rows.{rowOf, rowRoom, ifRoom};
+ghost use Rattle.listing.specs.Rows.{rowOf, rowRoom, rowIfRoom};
 ghost use Rattle.listing.specs.Frames.{newsLine};
 ghost use Rattle.text.specs.Put.{Put, AtFront};
 ghost use Rattle.capture_lister.specs.Listed.{ListGives, freshLister, headText, textOf, belowOf, listedOf, finishedOf};
@@ -59,7 +59,7 @@ impl Lister {
 
     // Puts what stands above the list: the names of the rows' columns.
     pub fn head(self, out: &mut [u8]) -> usize
-        ensures { λ r. ⌜ AtFront (ifRoom (length (now (out .entry))) (headText (self .mode))) r (now (out .entry)) (now (out .exit)) ⌝ }
+        ensures { λ r. ⌜ AtFront (rowIfRoom (length (now (out .entry))) (headText (self .mode))) r (now (out .entry)) (now (out .exit)) ⌝ }
     {
         let mode = self.mode;
         match mode {

@@ -7,12 +7,12 @@ use Rattle.profile.specs.declared.Profile.{Profile}
 use Rattle.stream.specs.declared.Before.{Before}
 use Rattle.stream.specs.declared.Mark.the-variants.{Open}
 use Rattle.stream.specs.Answers.{Outcome}
-use Rattle.stream.specs.Written.{Sent}
+use Rattle.stream.specs.Written.{Sent, mostText}
 use Rattle.reader.specs.Reader.{freshReader}
 use Rattle.recovery.specs.Calls.{lineIn, asSent, gapIn, gapAsSent}
 use Rattle.recovery.specs.Collected.{collected}
 use Rattle.recovery.specs.CleanAnswers.{saidIn}
-use Rattle.recovery.specs.CutStream.{wholeBetween, closedBetween, Orderly, LastAnswer, mostText}
+use Rattle.recovery.specs.CutStream.{wholeBetween, closedBetween, Orderly, LastAnswer}
 use Rattle.refinement.specs.Runs.{RunCall, onRuns}
 use Rattle.refinement.specs.RunAnswers.{runsFinish}
 use Rattle.demands.specs.DemandTwo.{answersTo}

@@ -23,7 +23,7 @@ use Rattle.reader.specs.declared.Reader.{Reader}
 use Rattle.reader.specs.Reader.{passes}
 use Rattle.run.specs.declared.RunStepped.{RunStepped}
 use Rattle.run.specs.Run.{Ran, lentRunOf, onward}
-use Rattle.run.specs.Gives.{LentRunGives}
+use Rattle.run.specs.Grabs.{LentRunGives}
 use Rattle.reader_laws.specs.Passing.{Ok}
 use Rattle.reader_laws.specs.SmallLaws.{small-drop}
 use Rattle.reader_laws.specs.ByRuns.{ByNibbles, RunOn, run-on, lent-onward}
@@ -32,11 +32,11 @@ use Rattle.frame_rows.specs.declared.Gatherer.{Gatherer}
 use Rattle.frame_rows.specs.declared.Gathered.{Gathered}
 use Rattle.frame_rows.specs.declared.Progress.{Progress}
 use Rattle.frame_rows.specs.declared.Progress.the-variants as progress
-use Rattle.frame_rows.specs.FrameRows.{Outcome, Output, outputOf, quiet, takeOf}
+use Rattle.frame_rows.specs.FrameRows.{AfterCall, Output, outputOf, quiet, takeOf}
 use Rattle.frame_rows.specs.FrameRows as rows
 use Rattle.frame_rows.specs.Gathering.{call}
 use Rattle.frame_grabber.specs.declared.Grabber.{Grabber}
-use Rattle.frame_grabber.specs.FrameGrabber.{blank, given, isSaid, Sought, sought, seek, After, leaving, grabOf, Gives}
+use Rattle.frame_grabber.specs.FrameGrabber.{blank, given, isSaid, Sought, sought, seek, After, leaving, grabOf, Grabs}
 use Rattle.frame_grabber.specs.SeekLaws.{not-said}
 use Rattle.frame_grabber.specs.PieceLaws.{grab-is, grab-fails}
 
@@ -44,7 +44,7 @@ abbrev pub reader : Head → List ℕ → Reader
 reader h body = record { head = h; body = body }
 
 -- a gatherer, what it says, and the rows' buffer
-abbrev outcome : Gatherer → Progress → List ℕ → Outcome
+abbrev outcome : Gatherer → Progress → List ℕ → AfterCall
 outcome g p held = record { gatherer = g; output = outputOf p held; buffer = held }
 
 -- whether something is said does not depend on the rows
@@ -54,7 +54,7 @@ said-alike (progress.Complete n) held = refl
 said-alike (progress.Refused n) held = refl
 
 -- where an answer was handed to the gatherer, with the nibbles still to come: it stops, or goes on
-abbrev onAnswer : Reader → Outcome → List ℕ → Sought
+abbrev onAnswer : Reader → AfterCall → List ℕ → Sought
 onAnswer r x w = cond (isSaid (x .output)) (sought r x w) (seek r (x .gatherer) (x .buffer) w)
 
 -- What is sought, worked out from nibbles one by one; one that is not answered changes none of it.
@@ -123,7 +123,7 @@ module _ {r : Reader} {g : Gatherer} {bytes held : List ℕ} {from at : ℕ} {h 
       let q = ran-on .some (omega (arith, length-drop at s, there)) in
       omega (arith, taken-is, there, nibbles-length bytes)
 
-  pub along-next : {y : Gathered} {held″ : List ℕ} → rows.Gives (takeOf m (t .answer) line held′) y held″
+  pub along-next : {y : Gathered} {held″ : List ℕ} → rows.Grabs (takeOf m (t .answer) line held′) y held″
       → Along r g bytes held from (at + t .taken) (t .head) body′ (y .gatherer) (y .progress) held″
   along-next {y} {held″} gives =
       let f = a .forward in
@@ -131,7 +131,7 @@ module _ {r : Reader} {g : Gatherer} {bytes held : List ℕ} {from at : ℕ} {h 
       let silent = goes-there (isSaid (outputOf p [])) at (length bytes) more .0 in
       let head-is : t .head ≡ x .reader .head = e .next ∙ ap (λ (u : Ran). u .reader .head) goes in
       let reader-is : reader (t .head) body′ ≡ x .reader = ap₂ reader head-is (e .keeps ∙ ap (λ (u : Ran). u .reader .body) goes) in
-      let here : Outcome = takeOf m (t .answer) line held′ in
+      let here : AfterCall = takeOf m (t .answer) line held′ in
       let same-call : here ≡ takeOf m (answerFor (x .outcome)) (bufferAfter (x .outcome) blank) held′ =
       ap₂ (λ (b : Answer) (l : List ℕ). takeOf m b l held′) (answer-of _ _ _ _ (e .says)) (e .leaves)
       ∙ ap (λ (u : Ran). takeOf m (answerFor (u .outcome)) (bufferAfter (u .outcome) blank) held′) goes in
@@ -146,7 +146,7 @@ module _ {r : Reader} {g : Gatherer} {bytes held : List ℕ} {from at : ℕ} {h 
             a .same
             ∙ ap (λ (b : Bool). cond b (sought (reader h body) (outcome m p held′) (drop at s)) (seek (reader h body) m held′ (drop at s))) (said-alike p held′ ∙ silent)
             ∙ ran-on .same
-            ∙ ap₂ (λ (u : Reader) (o : Outcome). onAnswer u o (drop (ran-on .count) (drop at s))) (sym reader-is) (sym said)
+            ∙ ap₂ (λ (u : Reader) (o : AfterCall). onAnswer u o (drop (ran-on .count) (drop at s))) (sym reader-is) (sym said)
             ∙ ap (onAnswer (reader (t .head) body′) (outcome (y .gatherer) (y .progress) held″))
             (drop-drop (ran-on .count) at s ∙ ap (λ (i : ℕ). drop (at + i) s) (sym taken-is));
         sound = subst Ok (sym head-is) (ran-on .sound);
@@ -158,7 +158,7 @@ module _ {r : Reader} {g : Gatherer} {bytes held : List ℕ} {from at : ℕ} {h 
 pub along-end : {q : Grabber} {bytes held : List ℕ} {from at : ℕ} {h : Head} {body : List ℕ} {m : Gatherer} {p : Progress} {held′ : List ℕ}
     → Along (q .reader) (q .gatherer) bytes held from at h body m p held′ → passes (q .reader .head) ≡ true
     → (not (isSaid (outputOf p [])) && ltb (at / 2) (length bytes)) ≡ false
-    → Gives (grabOf q (drop from (nibbles bytes)) held) (record { grabber = record { reader = reader h body; gatherer = m }; taken = at - from; progress = p }) held′
+    → Grabs (grabOf q (drop from (nibbles bytes)) held) (record { grabber = record { reader = reader h body; gatherer = m }; taken = at - from; progress = p }) held′
 along-end {q} {bytes} {held} {from} {at} {h} {body} {m} {p} {held′} a ok e =
     let z : grabOf q (drop from s) held ≡ leaving (length (drop from s)) (sought (reader h body) (outcome m p held′) (drop at s)) =
     grab-is q (drop from s) held ok ∙ ap (leaving (length (drop from s))) (a .same ∙ by (isSaid (outputOf p [])) refl e) in
@@ -186,7 +186,7 @@ along-end {q} {bytes} {held} {from} {at} {h} {body} {m} {p} {held′} a ok e =
 
 -- a reader that fails its own test: nothing is taken
 pub refused-state : (q : Grabber) (w held : List ℕ) → passes (q .reader .head) ≡ false
-    → Gives (grabOf q w held) (record { grabber = q; taken = 0; progress = progress.Refused badState }) held
+    → Grabs (grabOf q w held) (record { grabber = q; taken = 0; progress = progress.Refused badState }) held
 refused-state q w held e =
     let z = grab-fails q w held e in
     record {

@@ -12,7 +12,7 @@ use Rattle.reader.specs.declared.Reader.{Reader}
 use Rattle.reader.specs.Reader.{Took, passes, freshReader, feedOf}
 use Rattle.frame_rows.specs.declared.Order.{Order}
 use Rattle.frame_rows.specs.declared.Gatherer.{Gatherer}
-use Rattle.frame_rows.specs.FrameRows.{Output, nothing, complete, refused, outputOf, Outcome, fresh, quiet}
+use Rattle.frame_rows.specs.FrameRows.{Output, nothing, complete, refused, outputOf, AfterCall, fresh, quiet}
 use Rattle.frame_rows.specs.Gathering.{Given, call}
 use Rattle.frame_grabber.specs.declared.Grabber.{Grabber}
 use Rattle.frame_grabber.specs.declared.Grabbed.{Grabbed}
@@ -42,10 +42,10 @@ isSaid (refused n) = true
 -- the reader; the gatherer with what it says and the rows' buffer; and the nibbles that are left
 pub record Sought : Type 0 where
   pub reader : Reader
-  pub outcome : Outcome
+  pub outcome : AfterCall
   pub left : List ℕ
 
-abbrev pub sought : Reader → Outcome → List ℕ → Sought
+abbrev pub sought : Reader → AfterCall → List ℕ → Sought
 sought r x w = record { reader = r; outcome = x; left = w }
 
 -- the nibbles are fed one by one, and each answer is handed to the gatherer, up to the first time that something is said
@@ -53,7 +53,7 @@ abbrev pub seek : Reader → Gatherer → List ℕ → List ℕ → Sought
 seek r g rows [] = sought r (quiet g rows) []
 seek r g rows (n ∷ w) =
     let t : Took = feedOf r n longest in
-    let x : Outcome = call (quiet g rows) (given t) in
+    let x : AfterCall = call (quiet g rows) (given t) in
     cond (isSaid (x .output)) (sought (t .reader) x w) (seek (t .reader) (x .gatherer) (x .buffer) w)
 
 -- after a call: the grabber, how many nibbles were taken, what is said, and the rows' buffer
@@ -81,7 +81,7 @@ unfoldable pub grabOf : Grabber → List ℕ → List ℕ → After
 grabOf s w rows = cond (passes (s .reader .head)) (leaving (length w) (seek (s .reader) (s .gatherer) rows w)) (failing s rows)
 
 -- a call that answers, and leaves the rows' buffer, so
-pub record Gives (a : After) (answer : Grabbed) (after : List ℕ) : Type 0 where
+pub record Grabs (a : After) (answer : Grabbed) (after : List ℕ) : Type 0 where
   pub next : answer .grabber ≡ a .grabber
   pub counts : answer .taken ≡ a .taken
   pub says : outputOf (answer .progress) after ≡ a .output

@@ -83,7 +83,7 @@ kept-laid true ls h = tt
 kept-laid false ls h = h
 
 -- so are all lines that nibbles hand over
-pub givens-laid : (w : List ℕ) (r : Reader) (x : rows.Outcome) → r .head .profile ≡ VV5404 → Every Laid (taken x (givens r w))
+pub givens-laid : (w : List ℕ) (r : Reader) (x : rows.AfterCall) → r .head .profile ≡ VV5404 → Every Laid (taken x (givens r w))
 givens-laid [] r x e = tt
 givens-laid (n ∷ w) r x e =
     let t = feedOf r n longest in
@@ -101,7 +101,7 @@ first-frame o held capture n w e =
     let s = freshGrabber o in
     let k = seeks capture (s .reader) (s .gatherer) held in
     let c = complete-rows o held (givens (freshReader VV5404) (k .upTo)) n w
-    (sym (ap (λ (x : rows.Outcome). x .output) (k .outcome-is)) ∙ sym (ap (λ (a : After). a .output) (grab-is s capture held (passes-test _ (fresh-ok VV5404 .test)))) ∙ e) in
+    (sym (ap (λ (x : rows.AfterCall). x .output) (k .outcome-is)) ∙ sym (ap (λ (a : After). a .output) (grab-is s capture held (passes-test _ (fresh-ok VV5404 .test)))) ∙ e) in
     let laid = givens-laid (k .upTo) (freshReader VV5404) (start o held) refl in
     record {
       upTo = k .upTo;

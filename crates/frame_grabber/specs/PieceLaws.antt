@@ -19,7 +19,7 @@ use Rattle.frame_rows.specs.FrameRows as rows
 use Rattle.frame_rows.specs.Gathering.{calls}
 use Rattle.frame_grabber.specs.declared.Grabber.{Grabber}
 use Rattle.frame_grabber.specs.declared.Grabbed.{Grabbed}
-use Rattle.frame_grabber.specs.FrameGrabber.{isSaid, Sought, sought, seek, After, leaving, failing, grabOf, Gives}
+use Rattle.frame_grabber.specs.FrameGrabber.{isSaid, Sought, sought, seek, After, leaving, failing, grabOf, Grabs}
 use Rattle.frame_grabber.specs.Pieces.{joined, withMore, grabPieces, fedAll, givens, Stands}
 use Rattle.frame_grabber.specs.SeekLaws.{seeks, andThen, seek-append, left-none, left-few, Sized, seek-sized}
 
@@ -128,8 +128,8 @@ grab-stands s w held = by (passes (s .reader .head)) refl
         k .outcome-is ∙ ap (λ (v : List ℕ). calls (quiet (s .gatherer) held) (givens (s .reader) v)) (sym t) in
         record {
           reader-is = k .reader-is ∙ ap (fedAll (s .reader)) (sym t);
-          gatherer-is = ap (λ (x : rows.Outcome). x .gatherer) c;
-          rows-are = ap (λ (x : rows.Outcome). x .buffer) c;
+          gatherer-is = ap (λ (x : rows.AfterCall). x .gatherer) c;
+          rows-are = ap (λ (x : rows.AfterCall). x .buffer) c;
         }
 
     none : Stands s w held (failing s held)
@@ -149,7 +149,7 @@ grab-sized s w held = by (passes (s .reader .head))
     by true = seek-sized w (s .reader) (s .gatherer) held
     by false = tt
 
-pub rows-within : (s : Grabber) (w held : List ℕ) (y : Grabbed) (after : List ℕ) (n : ℕ) → Gives (grabOf s w held) y after
+pub rows-within : (s : Grabber) (w held : List ℕ) (y : Grabbed) (after : List ℕ) (n : ℕ) → Grabs (grabOf s w held) y after
     → y .progress ≡ progress.Complete n → n ≤ length after
 rows-within s w held y after n g e =
     let q = subst Sized (sym (g .says) ∙ ap (λ (p : Progress). outputOf p after) e) (grab-sized s w held) in

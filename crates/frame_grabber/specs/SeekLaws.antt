@@ -10,7 +10,7 @@ use lib.Seq.{length-take-le}
 use borrow.Author.Tests.{leb-true}
 use Rattle.refusal.specs.Refusal.{noRoom}
 use Rattle.profile.specs.declared.Profile.the-variants.{VV5404}
-use Rattle.profile.specs.Profile.{longest}
+use Rattle.profile.specs.Profile.{width, longest}
 use Rattle.reader.specs.declared.Reader.{Reader}
 use Rattle.reader.specs.Reader.{Took, feedOf}
 use Rattle.frame.specs.declared.Judge.{Judge}
@@ -35,7 +35,7 @@ not-said (refused n) e = absurd (true≢false e)
 -- What is sought, as the gatherer's calls.
 
 -- where an answer was handed over: it stops, or goes on
-abbrev stopIf : Bool → Reader → rows.Outcome → List ℕ → Sought
+abbrev stopIf : Bool → Reader → rows.AfterCall → List ℕ → Sought
 stopIf b r x w = cond b (sought r x w) (seek r (x .gatherer) (x .buffer) w)
 
 -- the nibbles taken, and those left; what is said with the last one taken, and the reader then
@@ -52,7 +52,7 @@ seeks (n ∷ w) r g held = by (isSaid (x .output)) refl (seeks w (t .reader) (x 
     t : Took
     t = feedOf r n longest
 
-    x : rows.Outcome
+    x : rows.AfterCall
     x = call (quiet g held) (given t)
 
     either : Bool → Sought
@@ -75,7 +75,7 @@ seeks (n ∷ w) r g held = by (isSaid (x .output)) refl (seeks w (t .reader) (x 
           upTo = n ∷ k .upTo;
           splits = ap (λ (v : List ℕ). n ∷ v) (k .splits) ∙ ap (λ (s : Sought). n ∷ (k .upTo ++ s .left)) q;
           outcome-is =
-              sym (ap (λ (s : Sought). s .outcome) q) ∙ k .outcome-is ∙ ap (λ (y : rows.Outcome). calls y (givens (t .reader) (k .upTo))) still;
+              sym (ap (λ (s : Sought). s .outcome) q) ∙ k .outcome-is ∙ ap (λ (y : rows.AfterCall). calls y (givens (t .reader) (k .upTo))) still;
           reader-is = sym (ap (λ (s : Sought). s .reader) q) ∙ k .reader-is;
         }
 
@@ -92,7 +92,7 @@ seek-append (n ∷ v) r g held w = by (isSaid (x .output)) refl (seek-append v (
     t : Took
     t = feedOf r n longest
 
-    x : rows.Outcome
+    x : rows.AfterCall
     x = call (quiet g held) (given t)
 
     by : (b : Bool) → isSaid (x .output) ≡ b → seek (t .reader) (x .gatherer) (x .buffer) (v ++ w) ≡ andThen (seek (t .reader) (x .gatherer) (x .buffer) v) w
@@ -107,7 +107,7 @@ left-none (n ∷ w) r g held f = by (isSaid (x .output)) refl (left-none w (t .r
     t : Took
     t = feedOf r n longest
 
-    x : rows.Outcome
+    x : rows.AfterCall
     x = call (quiet g held) (given t)
 
     either : Bool → Sought
@@ -129,7 +129,7 @@ Sized nothing = Unit {0}
 Sized (complete n w) = length w ≡ n
 Sized (refused n) = Unit {0}
 
-either-sized : (b : Bool) (x y : rows.Outcome) → (b ≡ true → Sized (x .output)) → Sized (y .output) → Sized (cond b x y .output)
+either-sized : (b : Bool) (x y : rows.AfterCall) → (b ≡ true → Sized (x .output)) → Sized (y .output) → Sized (cond b x y .output)
 either-sized true x y h g = h refl
 either-sized false x y h g = g
 
@@ -144,16 +144,16 @@ handed-sized g l held = by (called VV5404 (g .judge) (l .given) .ruling)
     by ruling.Waiting = tt
     by ruling.Going =
         either-sized (isVisible (l .given .kind)) (rows.keepRow g j (l .body) held) (quiet (rows.moved g j (g .kept)) held)
-        (λ _. either-sized (eqb (length (l .body)) longest && leb (g .kept + longest) (length held)) _ (rows.refuses g noRoom held) (λ _. tt) tt) tt
+        (λ _. either-sized (eqb (length (l .body)) width && leb (g .kept + width) (length held)) _ (rows.refuses g noRoom held) (λ _. tt) tt) tt
     by ruling.Complete =
         either-sized (leb (g .kept) (length held)) (record { gatherer = rows.moved g j 0; output = complete (g .kept) (take (g .kept) held); buffer = held }) (rows.refuses g noRoom held)
         (λ e. length-take-le (g .kept) held (leb-true _ _ e)) tt
     by (ruling.Refused n) = either-sized (breaksFrame n) (quiet (rows.moved g j 0) held) (rows.refuses g n held) (λ _. tt) tt
 
-call-sized : (x : rows.Outcome) (a : Given) → Sized (call x a .output)
+call-sized : (x : rows.AfterCall) (a : Given) → Sized (call x a .output)
 call-sized x a = by (shown (handedLines (a .answer)) (a .held)) (call x a) (hands x a)
   where
-    by : (ls : List Shown) (y : rows.Outcome) → Hands x ls y → Sized (y .output)
+    by : (ls : List Shown) (y : rows.AfterCall) → Hands x ls y → Sized (y .output)
     by _ _ none = tt
     by _ _ (one l) = handed-sized (x .gatherer) l (x .buffer)
 
@@ -164,7 +164,7 @@ seek-sized (n ∷ w) r g held = by (isSaid (x .output)) (seek-sized w (t .reader
     t : Took
     t = feedOf r n longest
 
-    x : rows.Outcome
+    x : rows.AfterCall
     x = call (quiet g held) (given t)
 
     by : (b : Bool) → Sized (seek (t .reader) (x .gatherer) (x .buffer) w .outcome .output)

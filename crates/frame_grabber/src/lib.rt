@@ -14,7 +14,7 @@ ghost use lib.Dec.{ltb};
 ghost use lib.ListN.{drop};
 ghost use Rattle.stream.specs.Written.{nibbles};
 ghost use Rattle.frame_rows.specs.FrameRows.{outputOf};
-ghost use Rattle.frame_grabber.specs.FrameGrabber.{freshGrabber, isSaid, grabOf, Gives};
+ghost use Rattle.frame_grabber.specs.FrameGrabber.{freshGrabber, isSaid, grabOf, Grabs};
 use frame_rows::Gatherer;
 use frame_rows::Order;
 use frame_rows::Progress;
@@ -46,7 +46,7 @@ impl Grabber {
 
     // Takes the nibbles of a piece's bytes from a place on, up to the first at which something is said.
     pub fn grab(self, input: &[u8], from: usize, rows: &mut [u8]) -> Grabbed
-        ensures { λ r. ⌜ Gives (grabOf self (drop from (nibbles (now (input .entry)))) (now (rows .entry))) r (now (rows .exit)) ⌝ }
+        ensures { λ r. ⌜ Grabs (grabOf self (drop from (nibbles (now (input .entry)))) (now (rows .entry))) r (now (rows .exit)) ⌝ }
     {
         let reader = self.reader;
         let mut head = reader.head;

@@ -10,15 +10,15 @@ use Rattle.frame_rows.specs.declared.Gatherer.{Gatherer}
 use Rattle.frame_rows.specs.declared.Gathered.{Gathered}
 use Rattle.frame_rows.specs.declared.Progress.{Progress}
 use Rattle.frame_rows.specs.declared.Progress.the-variants as progress
-use Rattle.frame_rows.specs.FrameRows.{Outcome, Gives, outputOf, saying}
+use Rattle.frame_rows.specs.FrameRows.{AfterCall, Gathers, outputOf, saying}
 
-pub gives : (o : Outcome) (s : Gatherer) (p : Progress) (answer : Gathered) (after : List ℕ) → answer ≡ saying s p
-    → o ≡ record { gatherer = s; output = outputOf p after; buffer = after } → Gives o answer after
+pub gives : (o : AfterCall) (s : Gatherer) (p : Progress) (answer : Gathered) (after : List ℕ) → answer ≡ saying s p
+    → o ≡ record { gatherer = s; output = outputOf p after; buffer = after } → Gathers o answer after
 gives o s p answer after e f =
     record {
-      next = ap (λ (x : Gathered). x .gatherer) e ∙ sym (ap (λ (x : Outcome). x .gatherer) f);
-      says = ap (λ (x : Gathered). outputOf (x .progress) after) e ∙ sym (ap (λ (x : Outcome). x .output) f);
-      leaves = sym (ap (λ (x : Outcome). x .buffer) f);
+      next = ap (λ (x : Gathered). x .gatherer) e ∙ sym (ap (λ (x : AfterCall). x .gatherer) f);
+      says = ap (λ (x : Gathered). outputOf (x .progress) after) e ∙ sym (ap (λ (x : AfterCall). x .output) f);
+      leaves = sym (ap (λ (x : AfterCall). x .buffer) f);
     }
 
 -- A row put at a place: `part` is what lies after the place, once bytes are at its front.

@@ -16,7 +16,7 @@ use Rattle.line_code.specs.declared.Kind.{Kind}
 use Rattle.line_code.specs.declared.Kind.the-variants.{BL, SOF}
 use Rattle.line_code.specs.LineCode.{kindNumber}
 use Rattle.profile.specs.declared.Profile.the-variants.{VV5404}
-use Rattle.profile.specs.Profile.{longest}
+use Rattle.profile.specs.Profile.{width}
 use Rattle.frame.specs.declared.Borders.{Borders}
 use Rattle.frame.specs.declared.Borders.the-variants.{Unsettled, On, Off}
 use Rattle.frame.specs.declared.Handed.{Handed}
@@ -36,7 +36,7 @@ use Rattle.pgm.specs.Pgm.{size}
 use Rattle.frame_rows.specs.declared.Order.{Order}
 use Rattle.frame_rows.specs.declared.Order.the-variants.{AsSent, OddFirst}
 use Rattle.frame_rows.specs.declared.Gatherer.{Gatherer}
-use Rattle.frame_rows.specs.FrameRows.{Shown, pixelsOf, isVisible, rowOf, rowsOf, Output, nothing, complete, refused, Outcome, moved, quiet, refuses, keepRow, onward, completed, refusedBy, byRuling, handed, shownAs, handing, takeOf}
+use Rattle.frame_rows.specs.FrameRows.{Shown, pixelsOf, isVisible, rowOf, rowsOf, Output, nothing, complete, refused, AfterCall, moved, quiet, refuses, keepRow, onward, completed, refusedBy, byRuling, handed, shownAs, handing, takeOf}
 use Rattle.frame_rows.specs.Gathering.{Given, call, calls, start, unlessRefused, shown, taken, linesOf, pictureOf, Completes, Every, Whole}
 
 -- Lists of lines.
@@ -131,7 +131,7 @@ pub every-snoc : (P : Shown → Type 0) (ls : List Shown) (l : Shown) → Every 
 every-snoc P [] l h p = (p, tt)
 every-snoc P (a ∷ ls) l h p = (h .0, every-snoc P ls l (h .1) p)
 
-pub pixels-length : (o : Order) (body : List ℕ) → length body ≡ longest → length (pixelsOf o body) ≡ longest
+pub pixels-length : (o : Order) (body : List ℕ) → length body ≡ width → length (pixelsOf o body) ≡ width
 pixels-length AsSent body h = h
 pixels-length OddFirst body h = reordered-length ToPixels body
 
@@ -142,14 +142,14 @@ abbrev visibles : List Line → ℕ
 visibles [] = 0
 visibles (l ∷ ls) = counted (isVisible (l .kind)) + visibles ls
 
-row-length : (o : Order) (l : Shown) → Whole l → length (rowOf o l) ≡ counted (isVisible (l .given .kind)) * longest
+row-length : (o : Order) (l : Shown) → Whole l → length (rowOf o l) ≡ counted (isVisible (l .given .kind)) * width
 row-length o l w = either (isVisible (l .given .kind)) w
   where
-    either : (t : Bool) → (t ≡ true → length (l .body) ≡ longest) → length (cond t (pixelsOf o (l .body)) []) ≡ counted t * longest
+    either : (t : Bool) → (t ≡ true → length (l .body) ≡ width) → length (cond t (pixelsOf o (l .body)) []) ≡ counted t * width
     either true h = pixels-length o (l .body) (h refl)
     either false h = refl
 
-rows-length : (o : Order) (ls : List Shown) → Every Whole ls → length (rowsOf o ls) ≡ visibles (linesOf ls) * longest
+rows-length : (o : Order) (ls : List Shown) → Every Whole ls → length (rowsOf o ls) ≡ visibles (linesOf ls) * width
 rows-length o [] w = refl
 rows-length o (l ∷ ls) w =
     let a = row-length o l (w .0) in
@@ -170,7 +170,7 @@ laid-visibles b place (l ∷ ls) e h =
     ∙ ap (λ (m : ℕ). counted (isVisible (kindNumber (kindAt VV5404 b place))) + m) (laid-visibles b (suc place) ls (omega arith) (and-right (fits VV5404 b place l) _ h))
     ∙ sym (ap visibleKinds (drop-cons (kindsOf (layout VV5404 b)) place BL g))
 
-frame-visibles : (b : Borders) → visibleKinds (kindsOf (layout VV5404 b)) * longest ≡ size (pictureOf b)
+frame-visibles : (b : Borders) → visibleKinds (kindsOf (layout VV5404 b)) * width ≡ size (pictureOf b)
 frame-visibles Unsettled = refl
 frame-visibles On = refl
 frame-visibles Off = refl
@@ -178,7 +178,7 @@ frame-visibles Off = refl
 -- 292 rows with borders on, 288 with borders off
 pub frame-size : (o : Order) (b : Borders) (frame : List Shown) → IsFrame VV5404 b (linesOf frame) → Every Whole frame → length (rowsOf o frame) ≡ size (pictureOf b)
 frame-size o b frame f w =
-    rows-length o frame w ∙ ap (λ (k : ℕ). k * longest) (laid-visibles b 0 (linesOf frame) (omega (arith, f .0)) (f .1)) ∙ frame-visibles b
+    rows-length o frame w ∙ ap (λ (k : ℕ). k * width) (laid-visibles b 0 (linesOf frame) (omega (arith, f .0)) (f .1)) ∙ frame-visibles b
 
 -- A row put after the bytes kept: the rows are longer by it, and the buffer is as long as it was.
 module _ (kept n : ℕ) (buffer row : List ℕ) (e : length row ≡ n) (g : kept + n ≤ length buffer) where
@@ -198,7 +198,7 @@ Rows o ls Waiting kept buffer = kept ≡ 0
 Rows o ls (Due place b) kept buffer = (take kept buffer ≡ rowsOf o (latest ls)) × (kept ≤ length buffer) × Every Whole (latest ls)
 
 -- after the calls that took these lines
-pub record Holds (o : Order) (ls : List Shown) (x : Outcome) : Type 0 where
+pub record Holds (o : Order) (ls : List Shown) (x : AfterCall) : Type 0 where
   pub order : x .gatherer .order ≡ o
   pub judge : after VV5404 Waiting (linesOf ls) ≡ x .gatherer .judge
   pub heard : accepted VV5404 Waiting (linesOf ls) ≡ linesOf ls
@@ -211,7 +211,7 @@ isComplete (complete n rows) = true
 isComplete (refused n) = false
 
 -- a call that takes no line and says nothing of rows
-still : (o : Order) (ls : List Shown) (x : Outcome) (out : Output) → isComplete out ≡ false → Holds o ls x
+still : (o : Order) (ls : List Shown) (x : AfterCall) (out : Output) → isComplete out ≡ false → Holds o ls x
     → Holds o (ls ++ []) (record { gatherer = x .gatherer; output = out; buffer = x .buffer })
 still o ls x out e h =
     simp append-nil
@@ -223,7 +223,7 @@ still o ls x out e h =
       done = λ n rows f. absurd (true≢false (sym (ap isComplete f) ∙ e));
     })
 
-module _ (o : Order) (ls : List Shown) (x : Outcome) (h : Holds o ls x) (l : Shown) where
+module _ (o : Order) (ls : List Shown) (x : AfterCall) (h : Holds o ls x) (l : Shown) where
   -- a line that the judge hears
   heard-line : (r : Judged) → called VV5404 (x .gatherer .judge) (l .given) ≡ r → accepts (r .ruling) ≡ true
       → (after VV5404 Waiting (linesOf (ls ++ (l ∷ []))) ≡ r .judge) × (accepted VV5404 Waiting (linesOf (ls ++ (l ∷ []))) ≡ linesOf (ls ++ (l ∷ [])))
@@ -304,7 +304,7 @@ module _ (o : Order) (ls : List Shown) (x : Outcome) (h : Holds o ls x) (l : Sho
 
   -- a line that was due, and not the last
   going : (place p : ℕ) (b c : Borders) → x .gatherer .judge ≡ Due place b → called VV5404 (x .gatherer .judge) (l .given) ≡ gives (Due p c) ruling.Going
-      → let y : Outcome = onward (x .gatherer) (Due p c) (l .given .kind) (l .body) (x .buffer) in Holds o (ls ++ unlessRefused (y .output) (l ∷ [])) y
+      → let y : AfterCall = onward (x .gatherer) (Due p c) (l .given .kind) (l .body) (x .buffer) in Holds o (ls ++ unlessRefused (y .output) (l ∷ [])) y
   unfolding onward keepRow
   going place p b c q e = by (isVisible (l .given .kind)) refl
     where
@@ -312,7 +312,7 @@ module _ (o : Order) (ls : List Shown) (x : Outcome) (h : Holds o ls x) (l : Sho
       s = x .gatherer
 
       n : ℕ
-      n = s .kept + longest
+      n = s .kept + width
 
       r : Judged
       r = gives (Due p c) ruling.Going
@@ -327,36 +327,36 @@ module _ (o : Order) (ls : List Shown) (x : Outcome) (h : Holds o ls x) (l : Sho
       row = pixelsOf (s .order) (l .body)
 
       -- a row that fits
-      put : isVisible (l .given .kind) ≡ true → length (l .body) ≡ longest → n ≤ length (x .buffer)
+      put : isVisible (l .given .kind) ≡ true → length (l .body) ≡ width → n ≤ length (x .buffer)
           → Rows o (ls ++ (l ∷ [])) (Due p c) n (take (s .kept) (x .buffer) ++ (row ++ drop n (x .buffer)))
       put v f g =
           let w = pixels-length (s .order) (l .body) f in (
-            put-rows (s .kept) longest (x .buffer) row w g
+            put-rows (s .kept) width (x .buffer) row w g
                 ∙ ap (λ (t : List ℕ). t ++ row) (kept .0)
                 ∙ ap (λ (t : Order). rowsOf o (latest ls) ++ pixelsOf t (l .body)) (h .order)
                 ∙ ap (λ (t : Bool). rowsOf o (latest ls) ++ cond t (pixelsOf o (l .body)) []) (sym v)
                 ∙ sym (rows-later later),
-            omega (arith, put-length (s .kept) longest (x .buffer) row w g),
+            omega (arith, put-length (s .kept) width (x .buffer) row w g),
             whole-later later (kept .2) (λ t. f),
           )
 
-      fitting : isVisible (l .given .kind) ≡ true → (t u : Bool) → eqb (length (l .body)) longest ≡ t → leb n (length (x .buffer)) ≡ u
-          → let y : Outcome = cond (t && u) (quiet (moved s (Due p c) n) (take (s .kept) (x .buffer) ++ (row ++ drop n (x .buffer)))) (refuses s noRoom (x .buffer)) in
+      fitting : isVisible (l .given .kind) ≡ true → (t u : Bool) → eqb (length (l .body)) width ≡ t → leb n (length (x .buffer)) ≡ u
+          → let y : AfterCall = cond (t && u) (quiet (moved s (Due p c) n) (take (s .kept) (x .buffer) ++ (row ++ drop n (x .buffer)))) (refuses s noRoom (x .buffer)) in
           Holds o (ls ++ unlessRefused (y .output) (l ∷ [])) y
       fitting v true true f g = takes r n _ e refl (put v (eqb-true _ _ f) (leb-true _ _ g))
       fitting v true false f g = still o ls x (refused noRoom) refl h
       fitting v false u f g = still o ls x (refused noRoom) refl h
 
       by : (t : Bool) → isVisible (l .given .kind) ≡ t
-          → let y : Outcome = cond t (keepRow s (Due p c) (l .body) (x .buffer)) (quiet (moved s (Due p c) (s .kept)) (x .buffer)) in
+          → let y : AfterCall = cond t (keepRow s (Due p c) (l .body) (x .buffer)) (quiet (moved s (Due p c) (s .kept)) (x .buffer)) in
           Holds o (ls ++ unlessRefused (y .output) (l ∷ [])) y
-      by true v = fitting v (eqb (length (l .body)) longest) (leb n (length (x .buffer))) refl refl
+      by true v = fitting v (eqb (length (l .body)) width) (leb n (length (x .buffer))) refl refl
       by false v = takes r (s .kept) (x .buffer) e refl (kept .0 ∙ sym (rows-unseen later v), kept .1, whole-later later (kept .2) (whole-unseen v))
 
   -- a frame's last line
   ending : (place : ℕ) (b : Borders) → x .gatherer .judge ≡ Due place b → IsDue VV5404 b place (l .given) → lastPlace VV5404 ≤ place
       → called VV5404 (x .gatherer .judge) (l .given) ≡ gives Waiting ruling.Complete
-      → let y : Outcome = completed (x .gatherer) Waiting (x .buffer) in Holds o (ls ++ unlessRefused (y .output) (l ∷ [])) y
+      → let y : AfterCall = completed (x .gatherer) Waiting (x .buffer) in Holds o (ls ++ unlessRefused (y .output) (l ∷ [])) y
   unfolding completed
   ending place b q d g e = by (leb (s .kept) (length (x .buffer))) refl
     where
@@ -407,18 +407,18 @@ module _ (o : Order) (ls : List Shown) (x : Outcome) (h : Holds o ls x) (l : Sho
           subst (λ (m : ℕ). Completes o (ls ++ (l ∷ [])) m rows) a (subst (λ (w : List ℕ). Completes o (ls ++ (l ∷ [])) (s .kept) w) b done)
 
       by : (t : Bool) → leb (s .kept) (length (x .buffer)) ≡ t
-          → let y : Outcome = cond t (record { gatherer = moved s Waiting 0; output = complete (s .kept) (take (s .kept) (x .buffer)); buffer = x .buffer }) (refuses s noRoom (x .buffer)) in
+          → let y : AfterCall = cond t (record { gatherer = moved s Waiting 0; output = complete (s .kept) (take (s .kept) (x .buffer)); buffer = x .buffer }) (refuses s noRoom (x .buffer)) in
           Holds o (ls ++ unlessRefused (y .output) (l ∷ [])) y
       by true g = record { order = h .order; judge = heard-line r e refl .0; heard = heard-line r e refl .1; rows = refl; done = says }
       by false g = still o ls x (refused noRoom) refl h
 
   -- any line
-  holds-line : let y : Outcome = handed (x .gatherer) l (x .buffer) in Holds o (ls ++ unlessRefused (y .output) (l ∷ [])) y
+  holds-line : let y : AfterCall = handed (x .gatherer) l (x .buffer) in Holds o (ls ++ unlessRefused (y .output) (l ∷ [])) y
   unfolding handed refusedBy onward
   holds-line = by (called VV5404 (x .gatherer .judge) (l .given)) (effect VV5404 (x .gatherer .judge) (l .given) passing) refl
     where
       by : (r : Judged) → Effect VV5404 (x .gatherer .judge) (l .given) r → called VV5404 (x .gatherer .judge) (l .given) ≡ r
-          → let y : Outcome = byRuling (x .gatherer) l (x .buffer) (r .judge) (r .ruling) in Holds o (ls ++ unlessRefused (y .output) (l ∷ [])) y
+          → let y : AfterCall = byRuling (x .gatherer) l (x .buffer) (r .judge) (r .ruling) in Holds o (ls ++ unlessRefused (y .output) (l ∷ [])) y
       by _ wrongKind e = still o ls x (refused badKind) refl h
       by _ wrongNumber e = still o ls x (refused numberTooLarge) refl h
       by _ waits e = takes _ 0 (x .buffer) e refl refl
@@ -433,11 +433,11 @@ module _ (o : Order) (ls : List Shown) (x : Outcome) (h : Holds o ls x) (l : Sho
 
 -- What a call hands to the judge: nothing, or one line.
 
-pub data Hands (x : Outcome) : List Shown → Outcome → Type 0 where
+pub data Hands (x : AfterCall) : List Shown → AfterCall → Type 0 where
   none : Hands x [] (quiet (x .gatherer) (x .buffer))
   one : (l : Shown) → Hands x (l ∷ []) (handed (x .gatherer) l (x .buffer))
 
-pub hands : (x : Outcome) (g : Given) → Hands x (shown (handedLines (g .answer)) (g .held)) (call x g)
+pub hands : (x : AfterCall) (g : Given) → Hands x (shown (handedLines (g .answer)) (g .held)) (call x g)
 unfolding takeOf
 hands x g = by (handedOver (g .answer))
   where
@@ -447,15 +447,15 @@ hands x g = by (handedOver (g .answer))
 
 -- Calls.
 
-holds-call : (o : Order) (ls : List Shown) (x : Outcome) (g : Given) → Holds o ls x
+holds-call : (o : Order) (ls : List Shown) (x : AfterCall) (g : Given) → Holds o ls x
     → Holds o (ls ++ unlessRefused (call x g .output) (shown (handedLines (g .answer)) (g .held))) (call x g)
 holds-call o ls x g h = by (shown (handedLines (g .answer)) (g .held)) (call x g) (hands x g)
   where
-    by : (ms : List Shown) (y : Outcome) → Hands x ms y → Holds o (ls ++ unlessRefused (y .output) ms) y
+    by : (ms : List Shown) (y : AfterCall) → Hands x ms y → Holds o (ls ++ unlessRefused (y .output) ms) y
     by _ _ none = still o ls x nothing refl h
     by _ _ (one l) = holds-line o ls x h l
 
-pub holds-calls : (o : Order) (ls : List Shown) (x : Outcome) (gs : List Given) → Holds o ls x → Holds o (ls ++ taken x gs) (calls x gs)
+pub holds-calls : (o : Order) (ls : List Shown) (x : AfterCall) (gs : List Given) → Holds o ls x → Holds o (ls ++ taken x gs) (calls x gs)
 holds-calls o ls x [] h = subst (λ (t : List Shown). Holds o t x) (sym (append-nil ls)) h
 holds-calls o ls x (g ∷ gs) h =
     let a : List Shown = unlessRefused (call x g .output) (shown (handedLines (g .answer)) (g .held)) in

@@ -6,7 +6,7 @@ use Prim.Native.Nat.{ℕ}
 use lib.ListN.{length}
 use Rattle.line_code.specs.declared.Kind.the-variants.{VL}
 use Rattle.profile.specs.declared.Profile.the-variants.{VV5404}
-use Rattle.profile.specs.Profile.{longest}
+use Rattle.profile.specs.Profile.{width}
 use Rattle.profile.specs.Layout.{rules, fits}
 use Rattle.stream.specs.declared.Answer.{Answer}
 use Rattle.frame.specs.declared.Borders.{Borders}
@@ -17,23 +17,23 @@ use Rattle.pgm.specs.Pgm.{size}
 use Rattle.pgm.specs.declared.Format.{Format}
 use Rattle.pgm.specs.declared.Format.the-variants.{Bordered, Plain}
 use Rattle.frame_rows.specs.declared.Order.{Order}
-use Rattle.frame_rows.specs.FrameRows.{Shown, isVisible, rowsOf, Output, nothing, complete, refused, Outcome, fresh, quiet, shownAs, takeOf}
+use Rattle.frame_rows.specs.FrameRows.{Shown, isVisible, rowsOf, Output, nothing, complete, refused, AfterCall, fresh, quiet, shownAs, takeOf}
 
 -- what a call is given: the reader's answer, and the line buffer as it is then
 pub record Given : Type 0 where
   pub answer : Answer
   pub held : List ℕ
 
-abbrev pub call : Outcome → Given → Outcome
+abbrev pub call : AfterCall → Given → AfterCall
 call x g = takeOf (x .gatherer) (g .answer) (g .held) (x .buffer)
 
 -- after some calls
-abbrev pub calls : Outcome → List Given → Outcome
+abbrev pub calls : AfterCall → List Given → AfterCall
 calls x [] = x
 calls x (g ∷ gs) = calls (call x g) gs
 
 -- before any: a fresh gatherer, and a buffer
-abbrev pub start : Order → List ℕ → Outcome
+abbrev pub start : Order → List ℕ → AfterCall
 start o buffer = quiet (fresh o) buffer
 
 -- The lines taken: those that 01 hands to the judge, of the calls that are not refused.
@@ -51,7 +51,7 @@ abbrev pub shown : List Line → List ℕ → List Shown
 shown [] held = []
 shown (l ∷ ls) held = shownAs (l .kind) (l .number) held ∷ shown ls held
 
-abbrev pub taken : Outcome → List Given → List Shown
+abbrev pub taken : AfterCall → List Given → List Shown
 taken x [] = []
 taken x (g ∷ gs) = unlessRefused (call x g .output) (shown (handedLines (g .answer)) (g .held)) ++ taken (call x g) gs
 
@@ -83,7 +83,7 @@ pub record Completes (o : Order) (ls : List Shown) (n : ℕ) (rows : List ℕ) :
 
 -- a visible line's body fills a row: the line buffer was not too short
 abbrev pub Whole : Shown → Type 0
-Whole l = isVisible (l .given .kind) ≡ true → length (l .body) ≡ longest
+Whole l = isVisible (l .given .kind) ≡ true → length (l .body) ≡ width
 
 -- a visible line's body is laid out as 01 says
 abbrev pub Laid : Shown → Type 0

@@ -6,16 +6,17 @@ use Prim.Native.Nat.{ℕ, zero, suc, _<_, _≤_}
 use native.Mathlib.Nat.{le-of-suc-le-suc, not-suc-le-zero}
 use native.Mathlib.Omega.{arith}
 use lib.ListN.{length, getD, replicate}
+use Rattle.bits.specs.Agree.{listed}
 use Rattle.bits.specs.Every.{and-left, and-right, and-both}
 use Rattle.line_code.specs.declared.Kind.the-variants.{VL}
 use Rattle.profile.specs.declared.Profile.the-variants.{VV5404}
 use Rattle.profile.specs.declared.Rule.the-variants.{Pixel}
-use Rattle.profile.specs.Profile.{longest}
+use Rattle.profile.specs.Profile.{width}
 use Rattle.profile.specs.Layout.{isPixel, rules, fits}
 use Rattle.profile.specs.LayoutLaws.{rules-length, fits-length}
 use Rattle.lent_buffer.specs.Filled.{used}
 use Rattle.pixel_order.specs.declared.Way.the-variants.{ToPixels}
-use Rattle.pixel_order.specs.PixelOrder.{sourceOf, listed, reordered}
+use Rattle.pixel_order.specs.PixelOrder.{sourceOf, reordered}
 use Rattle.pixel_order.specs.PixelOrderLaws.{source-inside}
 use Rattle.pgm.specs.Pgm.{imageOf, pixels, Picture, writeAs, writeOf}
 use Rattle.pgm.specs.PgmLaws.{size-tells, picture-written}
@@ -47,17 +48,17 @@ fits-pixels (suc n) (p ∷ body) h = and-both (isPixel p) _ (and-left (isPixel p
 
 -- The rows of lines.
 
-order-pixels : (o : Order) (body : List ℕ) → length body ≡ longest → pixels body ≡ true → pixels (pixelsOf o body) ≡ true
+order-pixels : (o : Order) (body : List ℕ) → length body ≡ width → pixels body ≡ true → pixels (pixelsOf o body) ≡ true
 unfolding reordered
 order-pixels AsSent body e h = h
 order-pixels OddFirst body e h =
-    pixels-listed (λ i. getD body (sourceOf ToPixels i) 0) longest (λ i g. pixel-at body (sourceOf ToPixels i) (omega (arith, source-inside ToPixels i g)) h)
+    pixels-listed (λ i. getD body (sourceOf ToPixels i) 0) width (λ i g. pixel-at body (sourceOf ToPixels i) (omega (arith, source-inside ToPixels i g)) h)
 
 row-pixels : (o : Order) (l : Shown) → Laid l → pixels (rowOf o l) ≡ true
 row-pixels o l h = by (isVisible (l .given .kind)) h
   where
     by : (t : Bool) → (t ≡ true → fits (rules VV5404 VL) (l .body) ≡ true) → pixels (cond t (pixelsOf o (l .body)) []) ≡ true
-    by true f = order-pixels o (l .body) (fits-length (rules VV5404 VL) (l .body) (f refl) ∙ rules-length VV5404 VL) (fits-pixels longest (l .body) (f refl))
+    by true f = order-pixels o (l .body) (fits-length (rules VV5404 VL) (l .body) (f refl) ∙ rules-length VV5404 VL) (fits-pixels width (l .body) (f refl))
     by false f = refl
 
 rows-pixels : (o : Order) (ls : List Shown) → Every Laid ls → pixels (rowsOf o ls) ≡ true

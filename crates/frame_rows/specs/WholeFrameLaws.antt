@@ -10,7 +10,7 @@ use Rattle.bits.specs.Every.{and-left, and-right}
 use Rattle.line_code.specs.declared.Kind.the-variants.{SOF}
 use Rattle.line_code.specs.LineCode.{kindNumber}
 use Rattle.profile.specs.declared.Profile.the-variants.{VV5404}
-use Rattle.profile.specs.Profile.{longest}
+use Rattle.profile.specs.Profile.{width}
 use Rattle.frame.specs.declared.Borders.{Borders}
 use Rattle.frame.specs.declared.Borders.the-variants.{Unsettled, On, Off}
 use Rattle.frame.specs.declared.Judge.{Judge}
@@ -25,16 +25,16 @@ use Rattle.frame.specs.Handing.{handedLines}
 use Rattle.pgm.specs.Pgm.{size}
 use Rattle.frame_rows.specs.declared.Order.{Order}
 use Rattle.frame_rows.specs.declared.Gatherer.{Gatherer}
-use Rattle.frame_rows.specs.FrameRows.{Shown, pixelsOf, isVisible, rowOf, rowsOf, complete, Outcome, moved, quiet, keepRow, onward, completed, refusedBy, byRuling, handed}
+use Rattle.frame_rows.specs.FrameRows.{Shown, pixelsOf, isVisible, rowOf, rowsOf, complete, AfterCall, moved, quiet, keepRow, onward, completed, refusedBy, byRuling, handed}
 use Rattle.frame_rows.specs.Gathering.{Given, call, calls, start, shown, taken, linesOf, pictureOf, Every, shownAll, Whole}
 use Rattle.frame_rows.specs.FrameRowsLaws.{rows-append, pixels-length, frame-size, stands, every-snoc, put-rows, put-length, Rows, Holds, Hands, none, one, hands, holds-calls, holds-start}
 
 -- The call that brings a line.
 
-brings : (x : Outcome) (g : Given) (l : Shown) → shown (handedLines (g .answer)) (g .held) ≡ l ∷ [] → call x g ≡ handed (x .gatherer) l (x .buffer)
+brings : (x : AfterCall) (g : Given) (l : Shown) → shown (handedLines (g .answer)) (g .held) ≡ l ∷ [] → call x g ≡ handed (x .gatherer) l (x .buffer)
 brings x g l e = by (shown (handedLines (g .answer)) (g .held)) (call x g) (hands x g) e
   where
-    by : (ls : List Shown) (y : Outcome) → Hands x ls y → ls ≡ l ∷ [] → y ≡ handed (x .gatherer) l (x .buffer)
+    by : (ls : List Shown) (y : AfterCall) → Hands x ls y → ls ≡ l ∷ [] → y ≡ handed (x .gatherer) l (x .buffer)
     by _ _ none f = absurd (let z : _≡_ {A = ℕ} 0 1 = ap length f in omega arith)
     by _ _ (one a) f = ap (λ (t : Shown). handed (x .gatherer) t (x .buffer)) (head-eq-of-cons-eq f)
 
@@ -45,9 +45,9 @@ module _ (s : Gatherer) (l : Shown) (buffer : List ℕ) where
   unfolding handed
   judged v e = ap (byRuling s l buffer (called VV5404 (s .judge) (l .given) .judge)) e
 
-  seen : (j : Judge) → isVisible (l .given .kind) ≡ true → length (l .body) ≡ longest → s .kept + longest ≤ length buffer
+  seen : (j : Judge) → isVisible (l .given .kind) ≡ true → length (l .body) ≡ width → s .kept + width ≤ length buffer
       → onward s j (l .given .kind) (l .body) buffer
-      ≡ quiet (moved s j (s .kept + longest)) (take (s .kept) buffer ++ (pixelsOf (s .order) (l .body) ++ drop (s .kept + longest) buffer))
+      ≡ quiet (moved s j (s .kept + width)) (take (s .kept) buffer ++ (pixelsOf (s .order) (l .body) ++ drop (s .kept + width) buffer))
   unfolding onward keepRow
   seen j v e g = simp (v, eq-eqb _ _ e, le-leb _ _ g)
 
@@ -57,7 +57,7 @@ module _ (s : Gatherer) (l : Shown) (buffer : List ℕ) where
 
   shows : called VV5404 (s .judge) (l .given) .ruling ≡ ruling.Complete → s .kept ≤ length buffer → handed s l buffer .output ≡ complete (s .kept) (take (s .kept) buffer)
   unfolding completed
-  shows e g = ap (λ (y : Outcome). y .output) (judged ruling.Complete e) ∙ simp (le-leb _ _ g)
+  shows e g = ap (λ (y : AfterCall). y .output) (judged ruling.Complete e) ∙ simp (le-leb _ _ g)
 
 -- The rest of a frame, up to its last line.
 
@@ -74,11 +74,11 @@ only v (suc zero) e = absurd (let z : _≡_ {A = ℕ} 1 2 = ap length e in omega
 only v (suc (suc m)) e = absurd (let z : _≡_ {A = ℕ} 1 (suc (suc (length (toComplete m)))) = ap length e in omega arith)
 
 -- what is said after these lines and a last one, the rows of the lines being put after those kept
-abbrev Said : Order → List Shown → Outcome → Outcome → Type 0
+abbrev Said : Order → List Shown → AfterCall → AfterCall → Type 0
 Said o ls x y = y .output ≡ complete (x .gatherer .kept + length (rowsOf o ls)) (take (x .gatherer .kept) (x .buffer) ++ rowsOf o ls)
 
 -- the lines are due, up to the last one, and there is room for their rows
-record Ready (o : Order) (ls : List Shown) (l : Shown) (x : Outcome) : Type 0 where
+record Ready (o : Order) (ls : List Shown) (l : Shown) (x : AfterCall) : Type 0 where
   order : x .gatherer .order ≡ o
   count : ℕ
   due : rulings VV5404 (x .gatherer .judge) (linesOf (ls ++ (l ∷ []))) ≡ toComplete count
@@ -86,8 +86,8 @@ record Ready (o : Order) (ls : List Shown) (l : Shown) (x : Outcome) : Type 0 wh
   room : x .gatherer .kept + length (rowsOf o ls) ≤ length (x .buffer)
 
 -- one line of them
-after-line : (o : Order) (a : Shown) (ls : List Shown) (l : Shown) (x : Outcome) (f : Outcome → Outcome) → Ready o (a ∷ ls) l x
-    → ((y : Outcome) → Ready o ls l y → Said o ls y (f y)) → Said o (a ∷ ls) x (f (handed (x .gatherer) a (x .buffer)))
+after-line : (o : Order) (a : Shown) (ls : List Shown) (l : Shown) (x : AfterCall) (f : AfterCall → AfterCall) → Ready o (a ∷ ls) l x
+    → ((y : AfterCall) → Ready o ls l y → Said o ls y (f y)) → Said o (a ∷ ls) x (f (handed (x .gatherer) a (x .buffer)))
 after-line o a ls l x f r rest = by (isVisible (a .given .kind)) refl
   where
     s : Gatherer
@@ -109,26 +109,26 @@ after-line o a ls l x f r rest = by (isVisible (a .given .kind)) refl
     by true v =
         let row : List ℕ = pixelsOf (s .order) (a .body) in
         let e : rowOf o a ≡ row = ap (λ (t : Bool). cond t (pixelsOf o (a .body)) []) v ∙ ap (λ (t : Order). pixelsOf t (a .body)) (sym (r .order)) in
-        let w : length row ≡ longest = pixels-length (s .order) (a .body) (r .whole .0 v) in
-        let g : s .kept + longest ≤ length (x .buffer) = omega (arith, r .room, lengths, ap length e, w) in
-        let y : Outcome = quiet (moved s j (s .kept + longest)) (take (s .kept) (x .buffer) ++ (row ++ drop (s .kept + longest) (x .buffer))) in
+        let w : length row ≡ width = pixels-length (s .order) (a .body) (r .whole .0 v) in
+        let g : s .kept + width ≤ length (x .buffer) = omega (arith, r .room, lengths, ap length e, w) in
+        let y : AfterCall = quiet (moved s j (s .kept + width)) (take (s .kept) (x .buffer) ++ (row ++ drop (s .kept + width) (x .buffer))) in
         let q : Ready o ls l y = record {
           order = r .order;
           count = d .1;
           due = d .2;
           whole = r .whole .1;
-          room = omega (arith, r .room, lengths, ap length e, w, put-length (s .kept) longest (x .buffer) row w g);
+          room = omega (arith, r .room, lengths, ap length e, w, put-length (s .kept) width (x .buffer) row w g);
         } in
-        ap (λ (z : Outcome). f z .output) (judged s a (x .buffer) ruling.Going (d .0) ∙ seen s a (x .buffer) j v (r .whole .0 v) g)
+        ap (λ (z : AfterCall). f z .output) (judged s a (x .buffer) ruling.Going (d .0) ∙ seen s a (x .buffer) j v (r .whole .0 v) g)
         ∙ rest y q
-        ∙ ap (λ (k : ℕ). complete k (take (s .kept + longest) (y .buffer) ++ rowsOf o ls)) (omega (arith, lengths, ap length e, w))
+        ∙ ap (λ (k : ℕ). complete k (take (s .kept + width) (y .buffer) ++ rowsOf o ls)) (omega (arith, lengths, ap length e, w))
         ∙ ap (complete (s .kept + length (rowsOf o (a ∷ ls))))
-        (ap (λ (t : List ℕ). t ++ rowsOf o ls) (put-rows (s .kept) longest (x .buffer) row w g)
+        (ap (λ (t : List ℕ). t ++ rowsOf o ls) (put-rows (s .kept) width (x .buffer) row w g)
         ∙ append-assoc (take (s .kept) (x .buffer)) row (rowsOf o ls)
         ∙ ap (λ (t : List ℕ). take (s .kept) (x .buffer) ++ (t ++ rowsOf o ls)) (sym e))
     by false v =
         let e : rowsOf o (a ∷ ls) ≡ rowsOf o ls = ap (λ (t : Bool). cond t (pixelsOf o (a .body)) [] ++ rowsOf o ls) v in
-        let y : Outcome = quiet (moved s j (s .kept)) (x .buffer) in
+        let y : AfterCall = quiet (moved s j (s .kept)) (x .buffer) in
         let q : Ready o ls l y = record {
           order = r .order;
           count = d .1;
@@ -136,21 +136,21 @@ after-line o a ls l x f r rest = by (isVisible (a .given .kind)) refl
           whole = r .whole .1;
           room = omega (arith, r .room, ap length e);
         } in
-        ap (λ (z : Outcome). f z .output) (judged s a (x .buffer) ruling.Going (d .0) ∙ unseen s a (x .buffer) j v)
+        ap (λ (z : AfterCall). f z .output) (judged s a (x .buffer) ruling.Going (d .0) ∙ unseen s a (x .buffer) j v)
         ∙ rest y q
         ∙ ap (λ (t : List ℕ). complete (s .kept + length t) (take (s .kept) (x .buffer) ++ t)) (sym e)
 
-rest-shown : (o : Order) (gs : List Given) (g : Given) (l : Shown) (x : Outcome) → shown (handedLines (g .answer)) (g .held) ≡ l ∷ []
+rest-shown : (o : Order) (gs : List Given) (g : Given) (l : Shown) (x : AfterCall) → shown (handedLines (g .answer)) (g .held) ≡ l ∷ []
     → Ready o (shownAll gs) l x → Said o (shownAll gs) x (calls x (gs ++ (g ∷ [])))
 rest-shown o [] g l x e r =
-    ap (λ (y : Outcome). y .output) (brings x g l e)
+    ap (λ (y : AfterCall). y .output) (brings x g l e)
     ∙ shows (x .gatherer) l (x .buffer) (only (called VV5404 (x .gatherer .judge) (l .given) .ruling) (r .count) (r .due)) (omega (arith, r .room))
     ∙ ap (λ (k : ℕ). complete k (take (x .gatherer .kept) (x .buffer))) (omega arith)
     ∙ ap (complete (x .gatherer .kept + 0)) (sym (append-nil (take (x .gatherer .kept) (x .buffer))))
 rest-shown o (a ∷ gs) g l x e r = by (shown (handedLines (a .answer)) (a .held)) (call x a) (hands x a) r (λ y. rest-shown o gs g l y e)
   where
-    by : (ls : List Shown) (y : Outcome) → Hands x ls y → Ready o (ls ++ shownAll gs) l x
-        → ((z : Outcome) → Ready o (shownAll gs) l z → Said o (shownAll gs) z (calls z (gs ++ (g ∷ []))))
+    by : (ls : List Shown) (y : AfterCall) → Hands x ls y → Ready o (ls ++ shownAll gs) l x
+        → ((z : AfterCall) → Ready o (shownAll gs) l z → Said o (shownAll gs) z (calls z (gs ++ (g ∷ []))))
         → Said o (ls ++ shownAll gs) x (calls y (gs ++ (g ∷ [])))
     by _ _ none q rest = rest (quiet (x .gatherer) (x .buffer)) (record { order = q .order; count = q .count; due = q .due; whole = q .whole; room = q .room })
     by _ _ (one b) q rest = after-line o b (shownAll gs) l x (λ z. calls z (gs ++ (g ∷ []))) q rest
@@ -166,7 +166,7 @@ opened : (s : Gatherer) (l : Shown) (buffer : List ℕ) → passes VV5404 (s .ju
 unfolding handed onward refusedBy judgeOf
 opened s l buffer p c e = by (s .judge) refl p
   where
-    at : Judge → Line → Outcome
+    at : Judge → Line → AfterCall
     at j k = byRuling s (record { given = k; body = l .body }) buffer (called VV5404 j k .judge) (called VV5404 j k .ruling)
 
     by : (j : Judge) → s .judge ≡ j → passes VV5404 j ≡ true → handed s l buffer ≡ quiet (moved s begun 0) buffer
@@ -190,7 +190,7 @@ last-unseen On l h = ap isVisible (stands On (lastPlace VV5404) (l .given) h)
 last-unseen Off l h = ap isVisible (stands Off (lastPlace VV5404) (l .given) h)
 
 -- these lines and a last one are a frame's, and there is room for its rows
-record Arrives (o : Order) (b : Borders) (ls : List Shown) (l : Shown) (x : Outcome) : Type 0 where
+record Arrives (o : Order) (b : Borders) (ls : List Shown) (l : Shown) (x : AfterCall) : Type 0 where
   order : x .gatherer .order ≡ o
   passing : passes VV5404 (x .gatherer .judge) ≡ true
   clear : Clear (x .gatherer)
@@ -198,11 +198,11 @@ record Arrives (o : Order) (b : Borders) (ls : List Shown) (l : Shown) (x : Outc
   whole : Every Whole ls
   room : size (pictureOf b) ≤ length (x .buffer)
 
-abbrev SaysAll : Order → Borders → List Shown → Shown → Outcome → Type 0
+abbrev SaysAll : Order → Borders → List Shown → Shown → AfterCall → Type 0
 SaysAll o b ls l y = y .output ≡ complete (size (pictureOf b)) (rowsOf o (ls ++ (l ∷ [])))
 
-first-line : (o : Order) (b : Borders) (a : Shown) (ls : List Shown) (l : Shown) (x : Outcome) (f : Outcome → Outcome) → Arrives o b (a ∷ ls) l x
-    → ((y : Outcome) → Ready o ls l y → Said o ls y (f y)) → SaysAll o b (a ∷ ls) l (f (handed (x .gatherer) a (x .buffer)))
+first-line : (o : Order) (b : Borders) (a : Shown) (ls : List Shown) (l : Shown) (x : AfterCall) (f : AfterCall → AfterCall) → Arrives o b (a ∷ ls) l x
+    → ((y : AfterCall) → Ready o ls l y → Said o ls y (f y)) → SaysAll o b (a ∷ ls) l (f (handed (x .gatherer) a (x .buffer)))
 unfolding judgeOf
 first-line o b a ls l x f r rest =
     let s : Gatherer = x .gatherer in
@@ -219,27 +219,27 @@ first-line o b a ls l x f r rest =
     let d : rulings VV5404 begun (linesOf (ls ++ (l ∷ []))) ≡ toComplete (lastPlace VV5404 - 1) =
     ap (λ (k : Line). rulings VV5404 (called VV5404 Waiting k .judge) (linesOf (ls ++ (l ∷ [])))) (sym i)
     ∙ tail-eq-of-cons-eq (frame-complete VV5404 b (linesOf ((a ∷ ls) ++ (l ∷ []))) (r .frame) .0) in
-    let y : Outcome = quiet (moved s begun 0) (x .buffer) in
+    let y : AfterCall = quiet (moved s begun 0) (x .buffer) in
     let q : Ready o ls l y = record { order = r .order; count = lastPlace VV5404 - 1; due = d; whole = r .whole .1; room = omega (arith, n, r .room) } in
-    ap (λ (z : Outcome). f z .output) (opened s a (x .buffer) (r .passing) (r .clear) i)
+    ap (λ (z : AfterCall). f z .output) (opened s a (x .buffer) (r .passing) (r .clear) i)
     ∙ rest y q
     ∙ ap (λ (k : ℕ). complete k (rowsOf o ls)) (omega (arith, n))
     ∙ ap (complete (size (pictureOf b))) (sym m)
 
-arrives-shown : (o : Order) (b : Borders) (gs : List Given) (g : Given) (l : Shown) (x : Outcome) → shown (handedLines (g .answer)) (g .held) ≡ l ∷ []
+arrives-shown : (o : Order) (b : Borders) (gs : List Given) (g : Given) (l : Shown) (x : AfterCall) → shown (handedLines (g .answer)) (g .held) ≡ l ∷ []
     → Arrives o b (shownAll gs) l x → SaysAll o b (shownAll gs) l (calls x (gs ++ (g ∷ [])))
 arrives-shown o b [] g l x e r = absurd (let z = r .frame .0 in omega arith)
 arrives-shown o b (a ∷ gs) g l x e r = by (shown (handedLines (a .answer)) (a .held)) (call x a) (hands x a) r (λ y. arrives-shown o b gs g l y e)
   where
-    by : (ls : List Shown) (y : Outcome) → Hands x ls y → Arrives o b (ls ++ shownAll gs) l x
-        → ((z : Outcome) → Arrives o b (shownAll gs) l z → SaysAll o b (shownAll gs) l (calls z (gs ++ (g ∷ []))))
+    by : (ls : List Shown) (y : AfterCall) → Hands x ls y → Arrives o b (ls ++ shownAll gs) l x
+        → ((z : AfterCall) → Arrives o b (shownAll gs) l z → SaysAll o b (shownAll gs) l (calls z (gs ++ (g ∷ []))))
         → SaysAll o b (ls ++ shownAll gs) l (calls y (gs ++ (g ∷ [])))
     by _ _ none q rest =
         rest (quiet (x .gatherer) (x .buffer))
         (record { order = q .order; passing = q .passing; clear = q .clear; frame = q .frame; whole = q .whole; room = q .room })
     by _ _ (one c) q rest = first-line o b c (shownAll gs) l x (λ z. calls z (gs ++ (g ∷ []))) q (λ z. rest-shown o gs g l z e)
 
-clear-rows : (o : Order) (ls : List Shown) (x : Outcome) → Holds o ls x → Clear (x .gatherer)
+clear-rows : (o : Order) (ls : List Shown) (x : AfterCall) → Holds o ls x → Clear (x .gatherer)
 clear-rows o ls x h q = subst (λ (j : Judge). Rows o ls j (x .gatherer .kept) (x .buffer)) q (h .rows)
 
 -- after any calls, `before`: where the calls from there on hand over exactly the lines of a frame, the last of them with the last call, each
@@ -249,7 +249,7 @@ pub frame-shown : (o : Order) (buffer : List ℕ) (before gs : List Given) (g : 
     → size (pictureOf b) ≤ length (calls (start o buffer) before .buffer)
     → calls (calls (start o buffer) before) (gs ++ (g ∷ [])) .output ≡ complete (size (pictureOf b)) (rowsOf o (shownAll gs ++ (l ∷ [])))
 frame-shown o buffer before gs g l b e f w room =
-    let x : Outcome = calls (start o buffer) before in
+    let x : AfterCall = calls (start o buffer) before in
     let h = holds-calls o [] (start o buffer) before (holds-start o buffer) in
     arrives-shown o b gs g l x e
     (record {

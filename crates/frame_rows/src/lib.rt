@@ -12,8 +12,8 @@ ghost use mathlib.Core.List.{_++_};
 ghost use Prim.Native.Nat.{_+_, _≤_};
 ghost use lib.Dec.{leb};
 ghost use lib.ListN.{length, take, drop};
-ghost use Rattle.profile.specs.Profile.{longest};
-ghost use Rattle.frame_rows.specs.FrameRows.{pixelsOf, fresh, moved, saying, shownAs, keepRow, onward, completed, handed, takeOf, Gives};
+ghost use Rattle.profile.specs.Profile.{width};
+ghost use Rattle.frame_rows.specs.FrameRows.{pixelsOf, fresh, moved, saying, shownAs, keepRow, onward, completed, handed, takeOf, Gathers};
 use frame::Handed;
 use frame::Judge;
 use frame::Ruling;
@@ -62,7 +62,7 @@ impl Gatherer {
 
     // Takes the answer of a call, with the line buffer as that call left it.
     pub fn take(self, answer: Answer, line: &[u8], rows: &mut [u8]) -> Gathered
-        ensures { λ r. ⌜ Gives (takeOf self answer (now (line .entry)) (now (rows .entry))) r (now (rows .exit)) ⌝ }
+        ensures { λ r. ⌜ Gathers (takeOf self answer (now (line .entry)) (now (rows .entry))) r (now (rows .exit)) ⌝ }
     {
         let handed = frame::handed_over(answer);
         match handed {
@@ -73,7 +73,7 @@ impl Gatherer {
 
     // Hands the judge a line, or kind 0.
     fn hand(self, kind: u8, number: u16, line: &[u8], rows: &mut [u8]) -> Gathered
-        ensures { λ r. ⌜ Gives (handed self (shownAs kind number (now (line .entry))) (now (rows .entry))) r (now (rows .exit)) ⌝ }
+        ensures { λ r. ⌜ Gathers (handed self (shownAs kind number (now (line .entry))) (now (rows .entry))) r (now (rows .exit)) ⌝ }
     {
         let before = self.judge;
         let judged = before.line(Profile::VV5404, kind, number);
@@ -102,7 +102,7 @@ impl Gatherer {
 
     // A line that was due: a visible one has a row.
     fn onward(self, judge: Judge, kind: u8, line: &[u8], rows: &mut [u8]) -> Gathered
-        ensures { λ r. ⌜ Gives (onward self judge kind (take longest (now (line .entry))) (now (rows .entry))) r (now (rows .exit)) ⌝ }
+        ensures { λ r. ⌜ Gathers (onward self judge kind (take width (now (line .entry))) (now (rows .entry))) r (now (rows .exit)) ⌝ }
     {
         if kind == Kind::VL.number() {
             return self.keep_row(judge, line, rows);
@@ -112,22 +112,22 @@ impl Gatherer {
 
     // Puts a row after those kept.
     fn keep_row(self, judge: Judge, line: &[u8], rows: &mut [u8]) -> Gathered
-        ensures { λ r. ⌜ Gives (keepRow self judge (take longest (now (line .entry))) (now (rows .entry))) r (now (rows .exit)) ⌝ }
+        ensures { λ r. ⌜ Gathers (keepRow self judge (take width (now (line .entry))) (now (rows .entry))) r (now (rows .exit)) ⌝ }
     {
-        if line.len() < Profile::LONGEST {
+        if line.len() < Profile::WIDTH {
             return refused(self, refusal::NO_ROOM);
         }
         if has_row(self.kept, rows.len()) {
             let order = self.order;
-            put_row(order, &line[..Profile::LONGEST], rows, self.kept);
-            return quiet(self.moved(judge, self.kept + Profile::LONGEST));
+            put_row(order, &line[..Profile::WIDTH], rows, self.kept);
+            return quiet(self.moved(judge, self.kept + Profile::WIDTH));
         }
         refused(self, refusal::NO_ROOM)
     }
 
     // The frame is complete: its rows are those kept.
     fn completed(self, judge: Judge, rows: &[u8]) -> Gathered
-        ensures { λ r. ⌜ Gives (completed self judge (now (rows .entry))) r (now (rows .entry)) ⌝ }
+        ensures { λ r. ⌜ Gathers (completed self judge (now (rows .entry))) r (now (rows .entry)) ⌝ }
     {
         if rows.len() < self.kept {
             return refused(self, refusal::NO_ROOM);
@@ -156,12 +156,12 @@ fn refused(gatherer: Gatherer, number: u8) -> Gathered
 
 // Whether there is room for a row after the bytes kept.
 fn has_row(kept: usize, room: usize) -> bool
-    ensures { λ r. ⌜ r ≡ leb (kept + longest) room ⌝ }
+    ensures { λ r. ⌜ r ≡ leb (kept + width) room ⌝ }
 {
     if room < kept {
         return false;
     }
-    if room - kept < Profile::LONGEST {
+    if room - kept < Profile::WIDTH {
         return false;
     }
     true
@@ -169,8 +169,8 @@ fn has_row(kept: usize, room: usize) -> bool
 
 // Puts a body's pixels at a place.
 fn put_row(order: Order, body: &[u8], rows: &mut [u8], at: usize)
-    requires { ⌜ (length (now body) ≡ longest) × (at + longest ≤ length (now rows)) ⌝ }
-    ensures { λ r. ⌜ now (rows .exit) ≡ take at (now (rows .entry)) ++ (pixelsOf order (now (body .entry)) ++ drop (at + longest) (now (rows .entry))) ⌝ }
+    requires { ⌜ (length (now body) ≡ width) × (at + width ≤ length (now rows)) ⌝ }
+    ensures { λ r. ⌜ now (rows .exit) ≡ take at (now (rows .entry)) ++ (pixelsOf order (now (body .entry)) ++ drop (at + width) (now (rows .entry))) ⌝ }
 {
     match order {
         Order::AsSent => {

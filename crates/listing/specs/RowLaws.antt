@@ -13,7 +13,7 @@ use Rattle.stream.specs.declared.LineFacts.{LineFacts}
 use Rattle.stream.specs.declared.Answer.{Answer}
 use Rattle.stream.specs.declared.Answer.the-variants.{Nothing, Line, Gap, Refused}
 use Rattle.stream.specs.Answers.{eitherRepaired}
-use Rattle.listing.specs.Rows.{kindWord, noteWord, lineWords, refusedWords, rowOf, rowRoom, ifRoom}
+use Rattle.listing.specs.Rows.{kindWord, noteWord, lineWords, refusedWords, rowOf, rowRoom, rowIfRoom}
 
 kind-short : (k : Kind) → length (kindWord k) ≤ 3
 kind-short BL = omega arith
@@ -39,8 +39,8 @@ row-short mark (Gap g) = simp length-append (omega (arith, decimal-short mark))
 row-short mark (Refused n) = simp length-append (omega (arith, decimal-short mark, decimal-short n))
 
 -- no row needs no room
-pub no-row : (room : ℕ) → ifRoom room [] ≡ []
-unfolding ifRoom
+pub no-row : (room : ℕ) → rowIfRoom room [] ≡ []
+unfolding rowIfRoom
 no-row room = either (ltb room rowRoom) []
   where
     either : (b : Bool) (t : List ℕ) → cond b t t ≡ t

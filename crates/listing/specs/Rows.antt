@@ -56,5 +56,5 @@ abbrev pub rowRoom : ℕ
 rowRoom = 144
 
 -- a row where a buffer of so many bytes has room for any; else nothing
-unfoldable pub ifRoom : ℕ → List ℕ → List ℕ
-ifRoom room row = cond (ltb room rowRoom) [] row
+unfoldable pub rowIfRoom : ℕ → List ℕ → List ℕ
+rowIfRoom room row = cond (ltb room rowRoom) [] row

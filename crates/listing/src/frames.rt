@@ -1,7 +1,7 @@
 // What is told of the frames of a capture: a line for each that is complete, broken or cut off.
 ghost use lib.ListN.{length};
 ghost use Rattle.text.specs.Put.{Puts, AtFront};
-ghost use Rattle.listing.specs.Rows.{ifRoom};
+ghost use Rattle.listing.specs.Rows.{rowIfRoom};
 ghost use Rattle.listing.specs.Frames.{frameWords, bordersWord, brokenLineWords, reasonWords, completeLine, brokenLineOf, newsLine};
 use super::ROW;
 use frame::Borders;
@@ -11,7 +11,7 @@ use text::put_decimal;
 
 // Puts the line of a frame at the front of a buffer: none where there is no news.
 pub fn news(news: News, out: &mut [u8]) -> usize
-    ensures { λ r. ⌜ AtFront (ifRoom (length (now (out .entry))) (newsLine news)) r (now (out .entry)) (now (out .exit)) ⌝ }
+    ensures { λ r. ⌜ AtFront (rowIfRoom (length (now (out .entry))) (newsLine news)) r (now (out .entry)) (now (out .exit)) ⌝ }
 {
     if out.len() < ROW {
         return 0;

@@ -4,7 +4,7 @@
 // a buffer of fewer than ROW bytes stays as it was, and the count is 0. Cost: linear in the row.
 ghost use lib.ListN.{length};
 ghost use Rattle.text.specs.Put.{Puts, AtFront};
-ghost use Rattle.listing.specs.Rows.{headerRow, kindWord, noteWord, gapWords, lineWords, refusedWords, rowWith, rowOf, ifRoom};
+ghost use Rattle.listing.specs.Rows.{headerRow, kindWord, noteWord, gapWords, lineWords, refusedWords, rowWith, rowOf, rowIfRoom};
 
 pub mod frames;
 
@@ -19,7 +19,7 @@ pub const ROW: usize = 144;
 
 // Puts the first row, which names the columns, at the front of a buffer.
 pub fn header(out: &mut [u8]) -> usize
-    ensures { λ r. ⌜ AtFront (ifRoom (length (now (out .entry))) headerRow) r (now (out .entry)) (now (out .exit)) ⌝ }
+    ensures { λ r. ⌜ AtFront (rowIfRoom (length (now (out .entry))) headerRow) r (now (out .entry)) (now (out .exit)) ⌝ }
 {
     if out.len() < ROW {
         return 0;
@@ -29,7 +29,7 @@ pub fn header(out: &mut [u8]) -> usize
 
 // Puts the row of a mark, counted from 1, and its answer at the front of a buffer: no row where there is no answer.
 pub fn row(mark: u64, answer: Answer, out: &mut [u8]) -> usize
-    ensures { λ r. ⌜ AtFront (ifRoom (length (now (out .entry))) (rowOf mark answer)) r (now (out .entry)) (now (out .exit)) ⌝ }
+    ensures { λ r. ⌜ AtFront (rowIfRoom (length (now (out .entry))) (rowOf mark answer)) r (now (out .entry)) (now (out .exit)) ⌝ }
 {
     if out.len() < ROW {
         return 0;

@@ -1,4 +1,4 @@
--- The answer of a mark, from its text's length and what is kept of it. It is derived: `judged` in refinement/specs/Stored.antt shows that it is
+-- The answer of a mark, from its text's length and what is kept of it. It is derived: `stored-judged` in refinement/specs/Stored.antt shows that it is
 -- the answer of stream/specs/Answers.antt from the text itself, which `table` in recovery/specs/AnswerTableLaws.antt ties to 01's table.
 use mathlib.Core.Bool.{_&&_, not}
 use mathlib.Core.List.{List}

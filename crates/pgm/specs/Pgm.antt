@@ -7,16 +7,11 @@ use lib.Dec.{eqb}
 use lib.ListN.{length, drop}
 use Rattle.text.specs.Text.{ascii, space, newline, digit, decimal}
 use Rattle.refusal.specs.Refusal.{badHeader, wrongPictureLength, badPixel}
-use Rattle.profile.specs.declared.Profile.the-variants.{VV5404}
-use Rattle.profile.specs.Profile.{bodyLength}
+use Rattle.profile.specs.Profile.{width}
 use Rattle.profile.specs.Layout.{isPixel}
 use Rattle.lent_buffer.specs.Filled.{Output, refused, require, fitted}
 use Rattle.pgm.specs.declared.Format.{Format}
 use Rattle.pgm.specs.declared.Format.the-variants.{Bordered, Plain}
-
--- the pixels of a row: a visible line's body
-abbrev pub width : ℕ
-width = bodyLength VV5404
 
 -- the rows of a picture: a frame's visible lines with borders on, or off
 abbrev pub height : Format → ℕ

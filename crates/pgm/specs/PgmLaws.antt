@@ -15,11 +15,12 @@ use Rattle.text.specs.Text.{ascii, space, newline, decimal}
 use Rattle.refusal.specs.Refusal.{badHeader, wrongPictureLength}
 use Rattle.lent_buffer.specs.declared.Filled.{Filled}
 use Rattle.lent_buffer.specs.declared.Filled.the-variants as filled
+use Rattle.profile.specs.Profile.{width}
 use Rattle.lent_buffer.specs.Filled.{Output, used, refused, outputOf, Gives, require}
 use Rattle.lent_buffer.specs.FilledLaws.{fitted-used, passed, used-fitted}
 use Rattle.pgm.specs.declared.Format.{Format}
 use Rattle.pgm.specs.declared.Format.the-variants.{Bordered, Plain}
-use Rattle.pgm.specs.Pgm.{width, height, size, maxval, threeDigits, header, headerLength, imageOf, pixels, Picture, starts, either, writeAs, writeOf, readAs, readOf}
+use Rattle.pgm.specs.Pgm.{height, size, maxval, threeDigits, header, headerLength, imageOf, pixels, Picture, starts, either, writeAs, writeOf, readAs, readOf}
 
 -- The header.
 

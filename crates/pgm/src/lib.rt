@@ -31,7 +31,7 @@ const MAXVAL: usize = 255;
 const HEADER: usize = 15;
 
 // The most pixels of a picture, and the longest file: what a caller's buffers need.
-pub const MOST_PIXELS: usize = HEIGHT_ON * Profile::LONGEST;
+pub const MOST_PIXELS: usize = HEIGHT_ON * Profile::WIDTH;
 
 pub const LONGEST_FILE: usize = HEADER + MOST_PIXELS;
 
@@ -80,14 +80,14 @@ impl Format {
     pub fn size(self) -> usize
         ensures { λ r. ⌜ r ≡ size self ⌝ }
     {
-        self.height() * Profile::LONGEST
+        self.height() * Profile::WIDTH
     }
 
     // `P5`, newline, width and height, newline, the greatest value, newline.
     fn header(self) -> [u8; HEADER]
         ensures { λ r. ⌜ r ≡ header self ⌝ }
     {
-        let width = Profile::LONGEST;
+        let width = Profile::WIDTH;
         let height = self.height();
         [
             b'P',

@@ -1,13 +1,14 @@
 -- Heads that send odd pixels first (02, A2; figure 7 of 004): where a line's body holds each pixel.
 use mathlib.Core.Bool.{cond}
-use mathlib.Core.List.{List, [], _∷_}
-use Prim.Native.Nat.{ℕ, zero, suc, _+_, _-_, _*_, _/_, _%_}
+use mathlib.Core.List.{List}
+use Prim.Native.Nat.{ℕ, _+_, _-_, _*_, _/_, _%_}
 use lib.Dec.{eqb, ltb}
 use lib.ListN.{length, getD}
+use Rattle.bits.specs.Agree.{listed}
 use Rattle.refusal.specs.Refusal.{wrongBodyLength, notVisible}
 use Rattle.line_code.specs.declared.Kind.the-variants.{VL}
 use Rattle.line_code.specs.LineCode.{kindNumber}
-use Rattle.profile.specs.Profile.{longest}
+use Rattle.profile.specs.Profile.{width}
 use Rattle.lent_buffer.specs.Filled.{Output, require, fitted}
 use Rattle.pixel_order.specs.declared.Way.{Way}
 use Rattle.pixel_order.specs.declared.Way.the-variants.{ToPixels, ToBody}
@@ -34,16 +35,11 @@ abbrev pub back : Way → Way
 back ToPixels = ToBody
 back ToBody = ToPixels
 
--- f 0, f 1, and so on: n of them
-abbrev pub listed : (ℕ → ℕ) → ℕ → List ℕ
-listed f zero = []
-listed f (suc n) = f 0 ∷ listed (λ i. f (suc i)) n
-
 -- the bytes of a line, put in the order of a way: the pixels of a body, or the body of pixels
 unfoldable pub reordered : Way → List ℕ → List ℕ
-reordered w bytes = listed (λ i. getD bytes (sourceOf w i) 0) longest
+reordered w bytes = listed (λ i. getD bytes (sourceOf w i) 0) width
 
 -- what a call answers: a kind by its number, the bytes given and the room. 23, 15, 12, or the bytes in the way's order
 unfoldable pub reorderOf : Way → ℕ → List ℕ → ℕ → Output
 reorderOf w kind bytes room =
-    require (eqb kind (kindNumber VL)) notVisible (require (eqb (length bytes) longest) wrongBodyLength (fitted (reordered w bytes) room))
+    require (eqb kind (kindNumber VL)) notVisible (require (eqb (length bytes) width) wrongBodyLength (fitted (reordered w bytes) room))

@@ -8,7 +8,7 @@ ghost use mathlib.Core.Path.{_≡_};
 ghost use mathlib.Core.List.{_++_};
 ghost use Prim.Native.Nat.{_<_, _≤_};
 ghost use lib.ListN.{length, drop};
-ghost use Rattle.profile.specs.Profile.{longest};
+ghost use Rattle.profile.specs.Profile.{width};
 ghost use Rattle.lent_buffer.specs.Filled.{Gives};
 ghost use Rattle.pixel_order.specs.PixelOrder.{placeOf, pixelAt, sourceOf, reordered, reorderOf};
 ghost use Rattle.pixel_order.specs.declared.Way.the-variants.{ToPixels, ToBody};
@@ -45,23 +45,23 @@ fn reorder(way: Way, kind: u8, from: &[u8], to: &mut [u8]) -> Filled
     if kind != Kind::VL.number() {
         return Filled::Refused(refusal::NOT_VISIBLE);
     }
-    if from.len() != Profile::LONGEST {
+    if from.len() != Profile::WIDTH {
         return Filled::Refused(refusal::WRONG_BODY_LENGTH);
     }
-    if to.len() < Profile::LONGEST {
+    if to.len() < Profile::WIDTH {
         return Filled::Refused(refusal::NO_ROOM);
     }
     put(way, from, to);
-    Filled::Length(Profile::LONGEST)
+    Filled::Length(Profile::WIDTH)
 }
 
 // Puts each byte of a line where this way has it.
 fn put(way: Way, from: &[u8], to: &mut [u8])
-    requires { ⌜ (length (now from) ≡ longest) × (longest ≤ length (now to)) ⌝ }
-    ensures { λ r. ⌜ now (to .exit) ≡ reordered way (now (from .entry)) ++ drop longest (now (to .entry)) ⌝ }
+    requires { ⌜ (length (now from) ≡ width) × (width ≤ length (now to)) ⌝ }
+    ensures { λ r. ⌜ now (to .exit) ≡ reordered way (now (from .entry)) ++ drop width (now (to .entry)) ⌝ }
 {
     let mut i: usize = 0;
-    while i < Profile::LONGEST {
+    while i < Profile::WIDTH {
         to[i] = from[way.source(i)];
         i += 1;
     }
@@ -70,7 +70,7 @@ fn put(way: Way, from: &[u8], to: &mut [u8])
 impl Way {
     // The place that the byte at place i comes from.
     fn source(self, i: usize) -> usize
-        requires { ⌜ i < longest ⌝ }
+        requires { ⌜ i < width ⌝ }
         ensures { λ r. ⌜ r ≡ sourceOf self i ⌝ }
     {
         match self {
@@ -92,7 +92,7 @@ fn place_of(i: usize) -> usize
 
 // The pixel at body place j.
 fn pixel_at(j: usize) -> usize
-    requires { ⌜ j < longest ⌝ }
+    requires { ⌜ j < width ⌝ }
     ensures { λ r. ⌜ r ≡ pixelAt j ⌝ }
 {
     if j < HALF {

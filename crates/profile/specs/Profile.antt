@@ -16,9 +16,13 @@ abbrev pub profileNumber : Profile → ℕ
 profileNumber VV5404 = 0
 profileNumber VV5300 = 1
 
+-- the pixels of a VV5404's line, which are its whole body
+abbrev pub width : ℕ
+width = 356
+
 -- the bytes of a body
 abbrev pub bodyLength : Profile → ℕ
-bodyLength VV5404 = 356
+bodyLength VV5404 = width
 bodyLength VV5300 = 168
 
 -- the place of a body's first image byte
@@ -28,12 +32,12 @@ imageStart VV5300 = 4
 
 -- the image bytes of a body
 abbrev pub imageLength : Profile → ℕ
-imageLength VV5404 = 356
+imageLength VV5404 = width
 imageLength VV5300 = 160
 
 -- the length of the longest body
 abbrev pub longest : ℕ
-longest = 356
+longest = bodyLength VV5404
 
 -- the byte that fills places without data
 abbrev pub fillerByte : ℕ

@@ -36,8 +36,10 @@ impl Profile {
     pub const FILLER: u8 = 7;
     // The null byte, which follows the gap bytes.
     pub const NULL: u8 = 255;
+    // The pixels of a VV5404's line, which are its whole body.
+    pub const WIDTH: usize = 356;
     // The length of the longest body.
-    pub const LONGEST: usize = 356;
+    pub const LONGEST: usize = Profile::WIDTH;
 
     // The profile with this number.
     pub fn numbered(n: u8) -> Numbered
@@ -57,7 +59,7 @@ impl Profile {
         ensures { λ r. ⌜ r ≡ bodyLength self ⌝ }
     {
         match self {
-            Profile::VV5404 => 356,
+            Profile::VV5404 => Profile::WIDTH,
             Profile::VV5300 => 168,
         }
     }
@@ -77,7 +79,7 @@ impl Profile {
         ensures { λ r. ⌜ r ≡ imageLength self ⌝ }
     {
         match self {
-            Profile::VV5404 => 356,
+            Profile::VV5404 => Profile::WIDTH,
             Profile::VV5300 => 160,
         }
     }

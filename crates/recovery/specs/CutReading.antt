@@ -21,14 +21,14 @@ use Rattle.stream.specs.declared.Mark.{Mark}
 use Rattle.stream.specs.declared.Mark.the-variants.{NoMark, Open}
 use Rattle.stream.specs.Answers.{Outcome, nothing, line, gap, refused, require, goodGap, gapFrom, byReading, answerOf}
 use Rattle.stream.specs.Stream.{State, Completed, answerAt, advance, step, finish, run, outcomes}
-use Rattle.stream.specs.Written.{markOf}
+use Rattle.stream.specs.Written.{mostText, markOf}
 use Rattle.recovery.specs.Marks.{onto}
 use Rattle.recovery.specs.Collected.{nothings, collected-nothings}
 use Rattle.recovery.specs.Resync.{stateWith, opened, becomes, byte-joined}
 use Rattle.recovery.specs.MarkFree.{NoGroup, no-group-more, no-group-onto, no-group-older, none-completed}
 use Rattle.recovery.specs.Gaps.{endCode}
 use Rattle.recovery.specs.CleanAnswers.{saidIn, said}
-use Rattle.recovery.specs.CutStream.{Tidy, tidy-none, tidy-line, tidy-both, Orderly, all-tidy, began-within, LastAnswer, no-mark-read, within-line, within-gap, gap-closed, end-alone, mostText, TextShort}
+use Rattle.recovery.specs.CutStream.{Tidy, tidy-none, tidy-line, tidy-both, Orderly, all-tidy, began-within, LastAnswer, no-mark-read, within-line, within-gap, gap-closed, end-alone, TextShort}
 
 -- before the first line's mark; and from there on within a line, or within a gap
 pub data Phase : Type 0 where

@@ -1,7 +1,7 @@
 -- A clean stream cut anywhere at both ends, as a capture is that starts and ends anywhere: what a fresh reader answers to it. Definitions only.
 use mathlib.Core.Path.{_≡_}
 use mathlib.Core.List.{List, [], _∷_, map}
-use Prim.Native.Nat.{ℕ, _+_, _-_, _*_, _≤_, max}
+use Prim.Native.Nat.{ℕ, _+_, _≤_}
 use lib.ListN.{length, take, drop}
 use Rattle.refusal.specs.Refusal.{unfinishedLine, endWithoutLine, badGap}
 use Rattle.profile.specs.declared.Profile.{Profile}
@@ -9,10 +9,10 @@ use Rattle.stream.specs.declared.Before.{Before}
 use Rattle.stream.specs.declared.LineFacts.{LineFacts}
 use Rattle.stream.specs.declared.GapFacts.{GapFacts}
 use Rattle.stream.specs.declared.Mark.the-variants.{Open}
-use Rattle.stream.specs.Answers.{Outcome, nothing, line, gap, refused, lineNibbles}
+use Rattle.stream.specs.Answers.{Outcome, nothing, line, gap, refused}
 use Rattle.stream.specs.Stream.{State, fresh, finish, run, outcomes}
-use Rattle.stream.specs.Written.{Sent, mostNulls, stream}
-use Rattle.recovery.specs.Calls.{asSent, endedBy, startFrom, linesFrom, gapAsSent, closedBy, markNibbles}
+use Rattle.stream.specs.Written.{Sent, mostText, stream}
+use Rattle.recovery.specs.Calls.{asSent, endedBy, startFrom, linesFrom, gapAsSent, closedBy}
 use Rattle.recovery.specs.Resync.{lines}
 use Rattle.recovery.specs.Gaps.{gaps}
 use Rattle.recovery.specs.CleanAnswers.{said}
@@ -48,11 +48,6 @@ pub data LastAnswer : List Outcome → Outcome → Type 0 where
   within-gap : {os : List Outcome} → LastAnswer os (refused badGap)
   gap-closed : {os : List Outcome} {g : GapFacts} → LastAnswer os (gap g)
   end-alone : LastAnswer [] (refused endWithoutLine)
-
--- the most nibbles from a mark's code on while the mark is open: a line's text, or an end code with its two bytes and the null bytes; and all
--- of the next mark but its last nibble. 725 in profile 0, 523 in profile 1
-abbrev pub mostText : Profile → ℕ
-mostText p = max (lineNibbles p) (2 * (1 + 2 + mostNulls)) + (markNibbles - 1)
 
 -- where a mark is open, so many nibbles at most stand in its text
 abbrev pub TextShort : Profile → State → Type 0

@@ -24,7 +24,7 @@ use Rattle.stream.specs.declared.Mark.{Mark}
 use Rattle.stream.specs.declared.Mark.the-variants.{NoMark, Open}
 use Rattle.stream.specs.Answers.{Outcome, nothing, isLine, goodGap, byReading, answerOf}
 use Rattle.stream.specs.Stream.{State, fresh, beforeBy, answerAt, finish, run, outcomes}
-use Rattle.stream.specs.Written.{Sent, Writable, AllWritable, no-lines, and-line, startMark, content, endMark, tail, written, stream}
+use Rattle.stream.specs.Written.{Sent, mostText, Writable, AllWritable, no-lines, and-line, startMark, content, endMark, tail, written, stream}
 use Rattle.recovery.specs.Calls.{lineIn, asSent, gapIn, gapAsSent, endedBy, startFrom, linesFrom, closedBy}
 use Rattle.recovery.specs.Marks.{onto}
 use Rattle.recovery.specs.Collected.{collected, collected-nothings, take-past}
@@ -35,7 +35,7 @@ use Rattle.stream.specs.NibblesLaws.{nibbles-length}
 use Rattle.recovery.specs.Damage.{outcomes-take, outcomes-length, lines-up-to, writable-from}
 use Rattle.recovery.specs.Gaps.{gaps, endCode, after, back, rest-none, gaps-up-to}
 use Rattle.recovery.specs.CleanAnswers.{said}
-use Rattle.recovery.specs.CutStream.{cutOut, Orderly, LastAnswer, mostText, TextShort, CutStream}
+use Rattle.recovery.specs.CutStream.{cutOut, Orderly, LastAnswer, TextShort, CutStream}
 use Rattle.recovery.specs.CutTexts.{no-group-cut}
 use Rattle.recovery.specs.CutReading.{Phase, starting, lining, gapping, OpenMark, no-mark-yet, end-first, in-line, in-gap, Brings, brings-nothing, brings-first, brings-eight, brings-line, brings-gap, Reads, reads-none, reads-append, reads-run, ReadsOn, reads-then, reads-front, tidy-from, starting-quiet, last-answer, last-short, reads-text, reads-mark}
 

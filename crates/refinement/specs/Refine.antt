@@ -38,7 +38,7 @@ use Rattle.profile.specs.LayoutLaws.{body-small}
 use Rattle.refinement.specs.Window.{num, oldest, slide-num, no-mark-yet, Complete, complete}
 use Rattle.mark_answer.specs.KeptLaws.{gap-start-small}
 use Rattle.reader_laws.specs.Passing.{Small, small-none, small-more, Ok}
-use Rattle.refinement.specs.Stored.{storedKept, storedBody, byte-keep, body-out, stored-length, wrong-length, judged}
+use Rattle.refinement.specs.Stored.{storedKept, storedBody, byte-keep, body-out, stored-length, wrong-length, stored-judged}
 use Rattle.reader_laws.specs.Passes.{finished, fresh-ok, take-ok, passes-test}
 
 -- The count's stop: numbers that are equal, or both past every body and every period that is told.
@@ -275,7 +275,7 @@ module _ (p : Profile) (r : Reader) (s : State) (n : ℕ) (small-n : n < 16) (sa
       ∙ judge-about p (s .at) (storedKept p text) (storedBody (same .base) text) (some (w % 256))
       (about-min (h .count) (length (s .text)) 7 (q .count-same) (omega arith))
       ∙ ap₂ (λ (a b : ℕ). judge p (s .at) a (storedKept p text) (storedBody (same .base) text) (some b)) (sym l) code
-      ∙ judged p (same .base) (same .base-length) text (s .at) (some (16 * x + y)) in
+      ∙ stored-judged p (same .base) (same .base-length) text (s .at) (some (16 * x + y)) in
       record {
         same =
             record {
@@ -352,7 +352,7 @@ finish-outcome {p} {r} {s} same =
     ∙ judge-about p (s .at) (storedKept p t) [] none (about-min (h .count) (length t) 0 (q .count-same) (omega arith))
     ∙ ap (λ (n : ℕ). judge p (s .at) n (storedKept p t) [] none) length-less
     ∙ no-body p (s .at) (length t) (storedKept p t) [] (storedBody (same .base) t)
-    ∙ judged p (same .base) (same .base-length) t (s .at) none
+    ∙ stored-judged p (same .base) (same .base-length) t (s .at) none
 
 -- The calls.
 

@@ -1,4 +1,4 @@
--- What is kept of a text is enough to answer for it: the answer that is judged from that is the answer of the text itself.
+-- What is kept of a text is enough to answer for it: the answer that is stored-judged from that is the answer of the text itself.
 use mathlib.Core.Path.{_≡_, refl, _∙_, ap, ap₂, sym}
 use mathlib.Core.Bool.{Bool, true, false, _&&_, _||_, not, cond, true≢false}
 use mathlib.Core.List.{List, [], _∷_, _++_, append-nil, append-assoc}
@@ -459,7 +459,7 @@ module _ (p : Profile) (b : List ℕ) (size : length b ≡ longest) (c : List �
   reading-judged before Damaged next = refl
 
   -- what is kept of a text is enough: the answer of the open mark, whatever body stood there at the mark
-  pub judged : (m : Mark) (next : Option ℕ) → judge p m (length c) (storedKept p c) (storedBody b c) next ≡ answerAt p m c next
+  pub stored-judged : (m : Mark) (next : Option ℕ) → judge p m (length c) (storedKept p c) (storedBody b c) next ≡ answerAt p m c next
   unfolding judge answerOf
-  judged NoMark next = refl
-  judged (Open before code) next = reading-judged before (readingOf code) next
+  stored-judged NoMark next = refl
+  stored-judged (Open before code) next = reading-judged before (readingOf code) next

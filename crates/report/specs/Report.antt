@@ -121,5 +121,5 @@ abbrev pub reportRoom : ℕ
 reportRoom = 2048
 
 -- a report where a buffer of so many bytes has room for any; else nothing
-unfoldable pub ifRoom : ℕ → List ℕ → List ℕ
-ifRoom room report = cond (ltb room reportRoom) [] report
+unfoldable pub reportIfRoom : ℕ → List ℕ → List ℕ
+reportIfRoom room report = cond (ltb room reportRoom) [] report

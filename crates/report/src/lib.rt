@@ -5,7 +5,7 @@
 // Cost: linear in the report.
 ghost use lib.ListN.{length};
 ghost use Rattle.text.specs.Put.{Puts, AtFront};
-ghost use Rattle.report.specs.Report.{countLine, frameCounts, framesLines, refusedCodes, brokenLines, refusedEnds, refusedLines, lowBits, highBits, repairedLines, rangeWords, periodLines, lostLine, otherSensor, hintLine, verdictLines, reportOf, ifRoom};
+ghost use Rattle.report.specs.Report.{countLine, frameCounts, framesLines, refusedCodes, brokenLines, refusedEnds, refusedLines, lowBits, highBits, repairedLines, rangeWords, periodLines, lostLine, otherSensor, hintLine, verdictLines, reportOf, reportIfRoom};
 use profile::Profile;
 use signal::First;
 use signal::Signal;
@@ -20,7 +20,7 @@ pub const ROOM: usize = 2048;
 
 // Puts the report at the front of a buffer.
 pub fn put_report(findings: Findings, lost: bool, verdict: Verdict, out: &mut [u8]) -> usize
-    ensures { λ r. ⌜ AtFront (ifRoom (length (now (out .entry))) (reportOf findings lost verdict)) r (now (out .entry)) (now (out .exit)) ⌝ }
+    ensures { λ r. ⌜ AtFront (reportIfRoom (length (now (out .entry))) (reportOf findings lost verdict)) r (now (out .entry)) (now (out .exit)) ⌝ }
 {
     if out.len() < ROOM {
         return 0;

@@ -19,25 +19,25 @@ use Rattle.script.specs.Bare.{bareLength, bare}
 
 -- ---- why a line is refused: its number, and what it may be
 
-unfoldable pub lineWords : ℕ → List ℕ
-lineWords n = ascii "line " ++ (decimal n ++ ascii ": ")
+unfoldable pub lineHead : ℕ → List ℕ
+lineHead n = ascii "line " ++ (decimal n ++ ascii ": ")
 
 -- a value above its limit, or none: the name, and the limit
 unfoldable pub beyondText : ℕ → ℕ → ℕ → List ℕ → List ℕ
-beyondText n at limit line = lineWords n ++ (take at line ++ (ascii " takes 0 to " ++ (decimal limit ++ (newline ∷ []))))
+beyondText n at limit line = lineHead n ++ (take at line ++ (ascii " takes 0 to " ++ (decimal limit ++ (newline ∷ []))))
 
 unfoldable pub noGainText : ℕ → List ℕ
-noGainText n = lineWords n ++ ascii "gain takes 0, 1, 3 or 7\n"
+noGainText n = lineHead n ++ ascii "gain takes 0, 1, 3 or 7\n"
 
 abbrev pub unknownWords : Profile → List ℕ
 unknownWords VV5404 = ascii "no setting of the VV5404, and no message\n"
 unknownWords VV5300 = ascii "no setting of the VV5300, and no message\n"
 
 unfoldable pub unknownText : Profile → ℕ → List ℕ
-unknownText p n = lineWords n ++ unknownWords p
+unknownText p n = lineHead n ++ unknownWords p
 
 unfoldable pub tooLongText : ℕ → ℕ → List ℕ
-tooLongText n room = lineWords n ++ (decimal room ++ ascii " characters or more\n")
+tooLongText n room = lineHead n ++ (decimal room ++ ascii " characters or more\n")
 
 -- ---- lines
 

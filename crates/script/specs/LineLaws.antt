@@ -16,14 +16,14 @@ use Rattle.setting.specs.SettingLaws.{nameLength, value-name}
 use Rattle.two_wire_text.specs.Hex.{isMessage}
 use Rattle.two_wire_text.specs.ExplainedLaws.{message-short}
 use Rattle.script.specs.Bare.{bareLength, bare}
-use Rattle.script.specs.Line.{lineWords, beyondText, noGainText, unknownText, tooLongText, textBy, textOf}
+use Rattle.script.specs.Line.{lineHead, beyondText, noGainText, unknownText, tooLongText, textBy, textOf}
 
 shorter : (t : Bool) (v w : List ℕ) → length v ≤ 128 → length w ≤ 128 → length (cond t v w) ≤ 128
 shorter true v w h g = h
 shorter false v w h g = g
 
-words-short : (n : ℕ) → length (lineWords n) ≤ 27
-unfolding lineWords
+words-short : (n : ℕ) → length (lineHead n) ≤ 27
+unfolding lineHead
 words-short n = simp (length-append) (omega (arith, decimal-short n))
 
 beyond-short : (n at limit : ℕ) (line : List ℕ) → at ≤ 8 → length (beyondText n at limit line) ≤ 128

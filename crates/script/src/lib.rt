@@ -16,7 +16,7 @@ ghost use Rattle.setting.specs.declared.Setting.the-variants.{Unknown};
 ghost use Rattle.setting.specs.Setting.{settingOf};
 ghost use Rattle.setting.specs.Number.{isBlank};
 ghost use Rattle.script.specs.Bare.{bareLength};
-ghost use Rattle.script.specs.Line.{lineWords, beyondText, noGainText, unknownText, tooLongText, textOf, sensorOf, TellsBy};
+ghost use Rattle.script.specs.Line.{lineHead, beyondText, noGainText, unknownText, tooLongText, textOf, sensorOf, TellsBy};
 ghost use Rattle.script.specs.Script.{start, placeOf, lineText, lineAfter, TellsLine, Keeps, Feeds};
 use profile::Profile;
 use setting::Setting;
@@ -207,7 +207,7 @@ fn end_after(c: u8, end: usize, place: usize) -> usize
 // Why a line is refused: its number, and what it may be.
 
 fn put_line(number: u64, out: &mut [u8]) -> usize
-    ensures { λ r. ⌜ Puts (now (out .entry)) 0 (lineWords number) r (now (out .exit)) ⌝ }
+    ensures { λ r. ⌜ Puts (now (out .entry)) 0 (lineHead number) r (now (out .exit)) ⌝ }
 {
     let a = put(b"line ", out, 0);
     let b = put_decimal(number, out, a);

@@ -18,7 +18,7 @@ use Rattle.stream.specs.Answers.{isLineAnswer}
 use Rattle.signal.specs.declared.First.{First}
 use Rattle.signal.specs.declared.First.the-variants.{Unseen, InsideLine, Other}
 use Rattle.signal.specs.declared.Signal.{Signal}
-use Rattle.signal.specs.Signal.{refusals, codeBits, freshSignal, takeOf, isCut, closeOf}
+use Rattle.signal.specs.Signal.{refusals, codeWidth, freshSignal, takeOf, isCut, closeOf}
 
 -- the signal after some answers; and of a whole capture, by its answers and finish's
 abbrev pub signalled : Signal → List Answer → Signal
@@ -99,7 +99,7 @@ pub record CountsAnswers (w : List Answer) (last : Answer) : Type 0 where
   pub first : captureSignal w last .first ≡ firstOf (w ++ (last ∷ []))
   pub lines : captureSignal w last .lines ≡ counting isLineAnswer 0 (answersOf w last)
   pub refused : (n : ℕ) → n < refusals → getD (captureSignal w last .refused) n 0 ≡ counting (isRefusal n) 0 (fromStart (answersOf w last))
-  pub repaired : (i : ℕ) → i < codeBits → getD (captureSignal w last .repaired) i 0 ≡ counting (isBitNumbered i) 0 (repairs (answersOf w last))
+  pub repaired : (i : ℕ) → i < codeWidth → getD (captureSignal w last .repaired) i 0 ≡ counting (isBitNumbered i) 0 (repairs (answersOf w last))
   pub thirty : captureSignal w last .spacing .thirty ≡ counting (isAt 30) 0 (periods (answersOf w last))
   pub twentyfive : captureSignal w last .spacing .twentyfive ≡ counting (isAt 25) 0 (periods (answersOf w last))
   pub others : captureSignal w last .spacing .others ≡ counting isOther 0 (periods (answersOf w last))

@@ -84,12 +84,12 @@ withPeriod s n = cond (eqb (n .0) 0) s (byRate s (n .0) (rateOf n))
 abbrev pub refusals : ℕ
 refusals = 10
 
-abbrev pub codeBits : ℕ
-codeBits = 8
+abbrev pub codeWidth : ℕ
+codeWidth = 8
 
 -- nothing seen
 abbrev pub freshSignal : Signal
-freshSignal = record { first = Unseen; lines = 0; refused = replicate refusals 0; repaired = replicate codeBits 0; spacing = noPeriods }
+freshSignal = record { first = Unseen; lines = 0; refused = replicate refusals 0; repaired = replicate codeWidth 0; spacing = noPeriods }
 
 -- a line: it is counted, and the repair of each of its codes
 abbrev pub lineSeen : Signal → LineFacts → Signal

@@ -22,7 +22,7 @@ use Rattle.signal.specs.declared.First.{First}
 use Rattle.signal.specs.declared.First.the-variants.{Unseen, InsideLine, Other}
 use Rattle.signal.specs.declared.Spacing.{Spacing}
 use Rattle.signal.specs.declared.Signal.{Signal}
-use Rattle.signal.specs.Signal.{refusals, codeBits, withRepair, seen, isStart, withFirst, lineSeen, gapSeen, refusalSeen, withPeriod, byRate, freshSignal, takeOf, isCut, closeOf}
+use Rattle.signal.specs.Signal.{refusals, codeWidth, withRepair, seen, isStart, withFirst, lineSeen, gapSeen, refusalSeen, withPeriod, byRate, freshSignal, takeOf, isCut, closeOf}
 use Rattle.signal.specs.Seen.{signalled, captureSignal, answersOf, fromStart, isRefusal, repairs, isBitNumbered, carried, periods, isRate, isAt, isUnnamed, isOther, firstOf, CountsAnswers}
 
 -- a part of the signal that a first mark alone doesn't change
@@ -295,7 +295,7 @@ counts-answers w last =
       first = first-closed w last;
       lines = closed (λ (s : Signal). s .lines) (λ s f. refl) w last ∙ lines-on freshSignal (answersOf w last);
       refused = λ n h. closed (λ (s : Signal). getD (s .refused) n 0) (λ s f. refl) w last ∙ refused-first freshSignal (answersOf w last) n refl h ∙ ap (λ (k : ℕ). counting (isRefusal n) k (fromStart (answersOf w last))) (zeros refusals n);
-      repaired = λ i h. closed (λ (s : Signal). getD (s .repaired) i 0) (λ s f. refl) w last ∙ repaired-on freshSignal (answersOf w last) i h ∙ ap (λ (k : ℕ). counting (isBitNumbered i) k (repairs (answersOf w last))) (zeros codeBits i);
+      repaired = λ i h. closed (λ (s : Signal). getD (s .repaired) i 0) (λ s f. refl) w last ∙ repaired-on freshSignal (answersOf w last) i h ∙ ap (λ (k : ℕ). counting (isBitNumbered i) k (repairs (answersOf w last))) (zeros codeWidth i);
       thirty = closed (λ (s : Signal). s .spacing .thirty) (λ s f. refl) w last ∙ periods-on (λ (s : Spacing). s .thirty) (isAt 30) (by-name (λ (s : Spacing). s .thirty) (isRate 30) thirty-by) freshSignal (answersOf w last);
       twentyfive = closed (λ (s : Signal). s .spacing .twentyfive) (λ s f. refl) w last ∙ periods-on (λ (s : Spacing). s .twentyfive) (isAt 25) (by-name (λ (s : Spacing). s .twentyfive) (isRate 25) twenty-five-by) freshSignal (answersOf w last);
       others = closed (λ (s : Signal). s .spacing .others) (λ s f. refl) w last ∙ periods-on (λ (s : Spacing). s .others) isOther (by-name (λ (s : Spacing). s .others) isUnnamed others-by) freshSignal (answersOf w last);

@@ -16,13 +16,13 @@ abbrev pub beforeBody : Sent → List ℕ
 beforeBody s = startMark s ++ nibbles (numberByte (s .number / 64) ∷ numberByte (s .number % 64) ∷ [])
 
 -- the place of the body's first nibble, in a clean stream with these lines before the line
-abbrev pub bodyPlace : List Sent → Sent → ℕ
-bodyPlace before s = length (stream before) + length (beforeBody s)
+abbrev pub bodyStart : List Sent → Sent → ℕ
+bodyStart before s = length (stream before) + length (beforeBody s)
 
 -- a clean stream without k nibbles of the body of its line s, the first i of that body still there: demand 3's changed stream, with nothing put
 -- in their place
 abbrev pub slipped : List Sent → Sent → List Sent → ℕ → ℕ → List ℕ
-slipped before s after i k = changed (before ++ (s ∷ after)) (bodyPlace before s + i) (bodyPlace before s + (i + k)) []
+slipped before s after i k = changed (before ++ (s ∷ after)) (bodyStart before s + i) (bodyStart before s + (i + k)) []
 
 -- one or more nibbles in a row, all inside the body of s
 pub record Inside (s : Sent) (i k : ℕ) : Type 0 where

@@ -2,7 +2,7 @@
 use mathlib.Core.Path.{_≡_}
 use mathlib.Core.Bool.{true}
 use mathlib.Core.List.{List, [], _∷_, _++_}
-use Prim.Native.Nat.{ℕ, _/_, _%_, _≤_}
+use Prim.Native.Nat.{ℕ, _+_, _*_, _/_, _%_, _≤_, max}
 use lib.ListN.{replicate}
 use Rattle.line_code.specs.declared.Kind.{Kind}
 use Rattle.line_code.specs.declared.Meaning.the-variants.{EndOfLine, Line}
@@ -11,6 +11,7 @@ use Rattle.line_number.specs.LineNumber.{greatest, numberByte}
 use Rattle.profile.specs.declared.Profile.{Profile}
 use Rattle.profile.specs.Profile.{nullByte}
 use Rattle.profile.specs.Layout.{rules, fits, gapFits}
+use Rattle.stream.specs.Answers.{lineNibbles, groupNibbles}
 
 -- what a caller gives the writer: a line, its two gap bytes, and how many null bytes
 pub record Sent : Type 0 where
@@ -24,6 +25,11 @@ pub record Sent : Type 0 where
 -- the most null bytes after a line
 abbrev pub mostNulls : ℕ
 mostNulls = 255
+
+-- the most nibbles of an open mark's text in a clean stream: code, number and body, or code, two gap bytes and the most nulls; and all of the
+-- next mark but its last nibble. 725 in profile 0, 523 in profile 1
+abbrev pub mostText : Profile → ℕ
+mostText p = max (lineNibbles p) (2 * (1 + 2 + mostNulls)) + (groupNibbles + 1)
 
 -- a line that may be written: the writer refuses every other
 pub record Writable (p : Profile) (s : Sent) : Type 0 where

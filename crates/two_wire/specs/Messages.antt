@@ -20,51 +20,51 @@ abbrev pub readAddress : ℕ
 readAddress = 33
 
 -- the second byte: the index in its low seven bits, the increment flag in its top bit
-abbrev pub topBit : ℕ
-topBit = 128
+abbrev pub incrementBit : ℕ
+incrementBit = 128
 
 abbrev pub indexByte : Bool → ℕ → ℕ
-indexByte increment i = cond increment (topBit + i) i
+indexByte increment i = cond increment (incrementBit + i) i
 
 abbrev pub indexIn : ℕ → ℕ
-indexIn second = second % topBit
+indexIn second = second % incrementBit
 
 abbrev pub incrementIn : ℕ → Bool
-incrementIn second = leb topBit second
+incrementIn second = leb incrementBit second
 
 -- what a message does: the sensor after it, or a refusal with its number
-pub data Outcome : Type 0 where
-  accepted : Sensor → Outcome
-  refused : ℕ → Outcome
+pub data Acceptance : Type 0 where
+  accepted : Sensor → Acceptance
+  refused : ℕ → Acceptance
 
 -- the paper's number and values of each case of the program's answer, which comes beside the sensor
-abbrev pub outcomeOf : Answer → Sensor → Outcome
-outcomeOf answer.Accepted s = accepted s
-outcomeOf (answer.Refused n) s = refused n
+abbrev pub acceptanceOf : Answer → Sensor → Acceptance
+acceptanceOf answer.Accepted s = accepted s
+acceptanceOf (answer.Refused n) s = refused n
 
 -- the sensor afterwards: a refused message changes nothing
-abbrev pub sensorAfter : Outcome → Sensor → Sensor
+abbrev pub sensorAfter : Acceptance → Sensor → Sensor
 sensorAfter (accepted s) before = s
 sensorAfter (refused n) before = before
 
 -- what a call says of an outcome
-abbrev pub Told : Outcome → Sensor → Seen → Type 0
-Told o before seen = (outcomeOf (seen .answer) (seen .sensor) ≡ o) × (seen .sensor ≡ sensorAfter o before)
+abbrev pub Told : Acceptance → Sensor → Seen → Type 0
+Told o before seen = (acceptanceOf (seen .answer) (seen .sensor) ≡ o) × (seen .sensor ≡ sensorAfter o before)
 
 -- a refusal where the test passes
-unfoldable pub refuseIf : Bool → ℕ → Outcome → Outcome
+unfoldable pub refuseIf : Bool → ℕ → Acceptance → Acceptance
 refuseIf true n o = refused n
 refuseIf false n o = o
 
 -- a write of data from an index on: 28, or the sensor with the data stored
-unfoldable pub writeData : Sensor → Bool → ℕ → List ℕ → Outcome
+unfoldable pub writeData : Sensor → Bool → ℕ → List ℕ → Acceptance
 writeData s increment i bytes =
     refuseIf (passes increment i bytes) pastLastRegister
     (accepted
     (record { registers = stored increment i bytes (s .registers); index = left (reached increment i bytes); increment = increment }))
 
 -- a read of data at the current index: 27, 28, or the sensor with its index moved
-unfoldable pub readData : Sensor → List ℕ → Outcome
+unfoldable pub readData : Sensor → List ℕ → Acceptance
 readData s bytes =
     refuseIf (someDiffers (s .increment) (s .index) bytes (s .registers)) wrongData
     (refuseIf (passes (s .increment) (s .index) bytes) pastLastRegister
@@ -72,32 +72,32 @@ readData s bytes =
     (record { registers = s .registers; index = left (reached (s .increment) (s .index) bytes); increment = s .increment })))
 
 -- a read: 26, or by its data
-unfoldable pub readBack : Sensor → ℕ → List ℕ → Outcome
+unfoldable pub readBack : Sensor → ℕ → List ℕ → Acceptance
 readBack s second bytes = refuseIf (not (eqb second (indexByte (s .increment) (s .index)))) wrongIndex (readData s bytes)
 
 -- by the address: a write, a read, or 25
-unfoldable pub addressed : Sensor → ℕ → ℕ → List ℕ → Outcome
+unfoldable pub addressed : Sensor → ℕ → ℕ → List ℕ → Acceptance
 addressed s address second bytes =
     cond (eqb address writeAddress) (writeData s (incrementIn second) (indexIn second) bytes)
     (cond (eqb address readAddress) (readBack s second bytes) (refused wrongAddress))
 
 -- by the length: 24, or address, second byte and data
-abbrev pub laidOut : Sensor → List ℕ → Outcome
+abbrev pub laidOut : Sensor → List ℕ → Acceptance
 laidOut s [] = refused shortMessage
 laidOut s (address ∷ []) = refused shortMessage
 laidOut s (address ∷ second ∷ bytes) = addressed s address second bytes
 
 -- what a message, the list of its acknowledged bytes, does to a sensor
-unfoldable pub messageOn : Sensor → List ℕ → Outcome
+unfoldable pub messageOn : Sensor → List ℕ → Acceptance
 messageOn s message = refuseIf (not (leb (s .index) lastIndex)) badState (laidOut s message)
 
 -- the next message after an outcome: none follows a refusal
-abbrev pub onward : Outcome → List ℕ → Outcome
+abbrev pub onward : Acceptance → List ℕ → Acceptance
 onward (accepted s) message = messageOn s message
 onward (refused n) message = refused n
 
 -- messages one after another
-abbrev pub messagesOn : List (List ℕ) → Outcome → Outcome
+abbrev pub messagesOn : List (List ℕ) → Acceptance → Acceptance
 messagesOn [] o = o
 messagesOn (m ∷ ms) o = messagesOn ms (onward o m)
 

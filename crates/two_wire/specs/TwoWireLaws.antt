@@ -12,7 +12,7 @@ use lib.Seq.{getD-set-same, getD-set-other}
 use Rattle.two_wire.specs.declared.Sensor.{Sensor}
 use Rattle.two_wire.specs.Registers.{registerCount, lastIndex, firstSettable, next, passes, reached, left, put, stored, differs, someDiffers}
 use Rattle.two_wire.specs.RegisterLaws.{passes-counts, passes-still, reached-counts, reached-still, or-left, or-right}
-use Rattle.two_wire.specs.Messages.{writeAddress, readAddress, topBit, indexByte, indexIn, incrementIn, Outcome, accepted, refused, refuseIf, writeData, readData, readBack, addressed, laidOut, messageOn, messagesOn, contents, readMessage, behind}
+use Rattle.two_wire.specs.Messages.{writeAddress, readAddress, incrementBit, indexByte, indexIn, incrementIn, Acceptance, accepted, refused, refuseIf, writeData, readData, readBack, addressed, laidOut, messageOn, messagesOn, contents, readMessage, behind}
 use Rattle.two_wire.specs.Writing.{someIndexPast, message, messages, writeOf, inThrees, lastListed}
 use Rattle.lent_buffer.specs.Filled.{used}
 use Rattle.two_wire.specs.WritingLaws.{wrote-is, in-threes}
@@ -56,11 +56,11 @@ own-alike registers i b h =
 -- ---- what a message leaves
 
 -- a state that is not answered 11, with as many registers as before
-abbrev pub Kept : ℕ → Outcome → Type 0
+abbrev pub Kept : ℕ → Acceptance → Type 0
 Kept count (accepted t) = (t .index ≤ lastIndex) × (length (t .registers) ≡ count)
 Kept count (refused n) = Unit {0}
 
-kept-refuse : (count : ℕ) (t : Bool) (n : ℕ) (o : Outcome) → Kept count o → Kept count (refuseIf t n o)
+kept-refuse : (count : ℕ) (t : Bool) (n : ℕ) (o : Acceptance) → Kept count o → Kept count (refuseIf t n o)
 unfolding refuseIf
 kept-refuse count true n o h = tt
 kept-refuse count false n o h = h
@@ -139,8 +139,8 @@ state-read s n held l =
 -- ---- what a message writes is read back
 
 index-in : (increment : Bool) (i : ℕ) → i ≤ lastIndex → (incrementIn (indexByte increment i) ≡ increment) × (indexIn (indexByte increment i) ≡ i)
-index-in true i h = (le-leb topBit (topBit + i) (omega arith), omega arith)
-index-in false i h = (lt-leb topBit i (omega arith), omega arith)
+index-in true i h = (le-leb incrementBit (incrementBit + i) (omega arith), omega arith)
+index-in false i h = (lt-leb incrementBit i (omega arith), omega arith)
 
 -- a write of data that does not pass the last index
 write-accepted : (s : Sensor) (increment : Bool) (i : ℕ) (bytes : List ℕ) → s .index ≤ lastIndex → i ≤ lastIndex
@@ -217,7 +217,7 @@ put-unlisted registers i v r h =
     (λ t. put-other registers i v r (eqb-false i r t))
 
 -- accepted, with each register from 5 up at the last value listed for it, or as it was, and the others as they were
-abbrev pub SetAs : List ℕ → Sensor → Outcome → Type 0
+abbrev pub SetAs : List ℕ → Sensor → Acceptance → Type 0
 SetAs pairs before (refused n) = ⊥
 SetAs pairs before (accepted after) =
     (length (after .registers) ≡ length (before .registers))
@@ -228,7 +228,7 @@ SetAs pairs before (accepted after) =
 abbrev paired : Sensor → ℕ → ℕ → Sensor
 paired s i v = record { registers = put (s .registers) i v; index = i; increment = false }
 
-set-first : (s : Sensor) (i v : ℕ) (pairs : List ℕ) (o : Outcome) → length (s .registers) ≡ registerCount → SetAs pairs (paired s i v) o → SetAs (i ∷ v ∷ pairs) s o
+set-first : (s : Sensor) (i v : ℕ) (pairs : List ℕ) (o : Acceptance) → length (s .registers) ≡ registerCount → SetAs pairs (paired s i v) o → SetAs (i ∷ v ∷ pairs) s o
 set-first s i v pairs (refused n) count h = h
 set-first s i v pairs (accepted after) count h = (
   h .0 ∙ length-put (s .registers) i v,

@@ -9,7 +9,7 @@ use Rattle.refusal.specs.Refusal.{noRoom, shortMessage, wrongAddress, wrongInde
 use Rattle.text.specs.Text.{ascii, space, decimal}
 use Rattle.text.specs.Put.{Puts}
 use Rattle.two_wire.specs.declared.Sensor.{Sensor}
-use Rattle.two_wire.specs.Messages.{writeAddress, indexIn, Outcome, accepted, refused, sensorAfter, messageOn}
+use Rattle.two_wire.specs.Messages.{writeAddress, indexIn, Acceptance, accepted, refused, sensorAfter, messageOn}
 use Rattle.two_wire_text.specs.declared.Told.{Told}
 use Rattle.two_wire_text.specs.Hex.{bytesOf}
 
@@ -36,25 +36,25 @@ refusalWords n =
 unfoldable pub refusedText : ℕ → List ℕ
 refusedText n = ascii "REFUSED " ++ (decimal n ++ refusalWords n)
 
-abbrev pub outcomeText : Outcome → List ℕ → List ℕ
-outcomeText (accepted s) bytes = acceptedText bytes
-outcomeText (refused n) bytes = refusedText n
+abbrev pub acceptanceText : Acceptance → List ℕ → List ℕ
+acceptanceText (accepted s) bytes = acceptedText bytes
+acceptanceText (refused n) bytes = refusedText n
 
 -- the bytes that a message may have here
-abbrev pub longest : ℕ
-longest = 256
+abbrev pub longestMessage : ℕ
+longestMessage = 256
 
 -- a line of more than those is refused with 12; another is read
 unfoldable pub messageText : Sensor → List ℕ → List ℕ
-messageText s line = cond (leb longest (length line / 3)) (refusedText noRoom) (outcomeText (messageOn s (bytesOf line)) (bytesOf line))
+messageText s line = cond (leb longestMessage (length line / 3)) (refusedText noRoom) (acceptanceText (messageOn s (bytesOf line)) (bytesOf line))
 
 unfoldable pub messageSensor : Sensor → List ℕ → Sensor
-messageSensor s line = cond (leb longest (length line / 3)) s (sensorAfter (messageOn s (bytesOf line)) s)
+messageSensor s line = cond (leb longestMessage (length line / 3)) s (sensorAfter (messageOn s (bytesOf line)) s)
 
 -- what a call tells: the state after, and a text, put at the front of a buffer as far as it has room
 abbrev pub TellsIn : Sensor → List ℕ → List ℕ → List ℕ → Told → Type 0
 TellsIn s text before after told = (told .sensor ≡ s) × Puts before 0 text (told .length) after
 
 -- of a message with an outcome
-abbrev pub TellsOutcome : Outcome → Sensor → List ℕ → List ℕ → List ℕ → Told → Type 0
-TellsOutcome o s bytes = TellsIn (sensorAfter o s) (outcomeText o bytes)
+abbrev pub TellsOutcome : Acceptance → Sensor → List ℕ → List ℕ → List ℕ → Told → Type 0
+TellsOutcome o s bytes = TellsIn (sensorAfter o s) (acceptanceText o bytes)

@@ -11,10 +11,10 @@ use Rattle.text.specs.Text.{ascii, space, decimal}
 use Rattle.text.specs.TextLaws.{decimal-short, three-digits}
 use Rattle.refusal.specs.Refusal.{noRoom, shortMessage, wrongAddress, wrongIndex, wrongData, pastLastRegister}
 use Rattle.two_wire.specs.declared.Sensor.{Sensor}
-use Rattle.two_wire.specs.Messages.{writeAddress, indexIn, Outcome, accepted, refused, messageOn}
+use Rattle.two_wire.specs.Messages.{writeAddress, indexIn, Acceptance, accepted, refused, messageOn}
 use Rattle.two_wire_text.specs.Hex.{bytesOf}
 use Rattle.two_wire_text.specs.HexLaws.{bytes-length}
-use Rattle.two_wire_text.specs.Explained.{longest, directionWord, acceptedText, refusalWords, refusedText, outcomeText, messageText}
+use Rattle.two_wire_text.specs.Explained.{longestMessage, directionWord, acceptedText, refusalWords, refusedText, acceptanceText, messageText}
 
 shorter : (t : Bool) (v w : List ℕ) (n : ℕ) → length v ≤ n → length w ≤ n → length (cond t v w) ≤ n
 shorter true v w n h g = h
@@ -53,7 +53,7 @@ refused-short : (n : ℕ) → length (refusedText n) ≤ 64
 unfolding refusedText
 refused-short n = simp (length-append) (omega (arith, decimal-short n, words-short n))
 
-accepted-room : (bytes : List ℕ) → length bytes ≤ longest → length (acceptedText bytes) ≤ 64
+accepted-room : (bytes : List ℕ) → length bytes ≤ longestMessage → length (acceptedText bytes) ≤ 64
 unfolding acceptedText
 accepted-room [] h = omega arith
 accepted-room (a ∷ []) h = omega arith
@@ -61,15 +61,15 @@ accepted-room (a ∷ b ∷ bytes) h =
     simp (length-append)
     (omega (arith, direction-short a, three-digits (indexIn b) (omega arith), three-digits (length bytes) (omega arith)))
 
-outcome-short : (o : Outcome) (bytes : List ℕ) → length bytes ≤ longest → length (outcomeText o bytes) ≤ 64
-outcome-short (accepted s) bytes h = accepted-room bytes h
-outcome-short (refused n) bytes h = refused-short n
+acceptance-short : (o : Acceptance) (bytes : List ℕ) → length bytes ≤ longestMessage → length (acceptanceText o bytes) ≤ 64
+acceptance-short (accepted s) bytes h = accepted-room bytes h
+acceptance-short (refused n) bytes h = refused-short n
 
 -- 64 bytes have room for every text
 pub message-short : (s : Sensor) (line : List ℕ) → length (messageText s line) ≤ 64
 unfolding messageText
-message-short s line = either (leb longest (length line / 3)) refl
+message-short s line = either (leb longestMessage (length line / 3)) refl
   where
-    either : (t : Bool) → leb longest (length line / 3) ≡ t → length (cond t (refusedText noRoom) (outcomeText (messageOn s (bytesOf line)) (bytesOf line))) ≤ 64
+    either : (t : Bool) → leb longestMessage (length line / 3) ≡ t → length (cond t (refusedText noRoom) (acceptanceText (messageOn s (bytesOf line)) (bytesOf line))) ≤ 64
     either true e = refused-short noRoom
-    either false e = outcome-short (messageOn s (bytesOf line)) (bytesOf line) (omega (arith, leb-false longest (length line / 3) e, bytes-length line))
+    either false e = acceptance-short (messageOn s (bytesOf line)) (bytesOf line) (omega (arith, leb-false longestMessage (length line / 3) e, bytes-length line))

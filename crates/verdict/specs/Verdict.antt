@@ -1,13 +1,12 @@
 -- The verdict on a capture: a test of its counts.
 use mathlib.Core.Bool.{Bool, false, _&&_, not, cond}
-use Prim.Native.Nat.{ℕ, _+_, _*_, max}
+use Prim.Native.Nat.{ℕ}
 use lib.Dec.{eqb, leb, ltb}
 use Rattle.counts.specs.Counts.{allZero}
 use Rattle.profile.specs.declared.Profile.{Profile}
 use Rattle.stream.specs.declared.Mark.{Mark}
 use Rattle.stream.specs.declared.Mark.the-variants.{NoMark, Open}
-use Rattle.stream.specs.Answers.{lineNibbles}
-use Rattle.stream.specs.Written.{mostNulls}
+use Rattle.stream.specs.Written.{mostText}
 use Rattle.frame.specs.Frame.{lastPlace}
 use Rattle.signal.specs.declared.First.{First}
 use Rattle.signal.specs.declared.First.the-variants.{Unseen, InsideLine, Other}
@@ -17,12 +16,7 @@ use Rattle.verdict.specs.declared.Verdict.the-variants.{Good, CheckTheCl
 
 -- The signal is lost.
 
--- the most nibbles of a mark's text in a clean stream before the next mark is complete: code, number and body, or code, two gap bytes and the
--- most nulls; and all but the last nibble of the next mark
-unfoldable pub mostText : Profile → ℕ
-mostText p = max (lineNibbles p) (2 * (1 + 2 + mostNulls)) + 7
-
--- more nibbles came after the last mark: of the mark that is open, with so many nibbles of text
+-- more nibbles came after the last mark than a clean stream has before the next one: of the mark that is open, with so many nibbles of text
 unfoldable pub isLost : Profile → Mark → ℕ → Bool
 isLost p NoMark n = false
 isLost p (Open before code) n = ltb (mostText p) n

@@ -5,8 +5,9 @@
 // complete, but something is out of order. NOT GOOD: marks, and no complete frame. NO SIGNAL: no mark. Repaired codes and line periods don't
 // change it. Nothing is refused. Cost: constant.
 ghost use mathlib.Core.Path.{_≡_};
+ghost use Rattle.stream.specs.Written.{mostText};
 ghost use Rattle.verdict.specs.Findings.{noFindings, isOutside, withLine, takeOf, withCut, closeOf};
-ghost use Rattle.verdict.specs.Verdict.{mostText, isLost, inOrder, byFrames, verdictOf};
+ghost use Rattle.verdict.specs.Verdict.{isLost, inOrder, byFrames, verdictOf};
 use counts::one_more;
 use frame::Judge;
 use profile::Profile;

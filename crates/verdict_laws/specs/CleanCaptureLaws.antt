@@ -17,7 +17,7 @@ use Rattle.stream.specs.declared.Mark.{Mark}
 use Rattle.stream.specs.declared.Mark.the-variants.{NoMark, Open}
 use Rattle.stream.specs.Answers.{Outcome, nothing, line, gap, refused, answerFor}
 use Rattle.stream.specs.Stream.{State, fresh, finish, run, outcomes}
-use Rattle.stream.specs.Written.{Sent, AllWritable, startMark, content, endMark, tail, written, stream}
+use Rattle.stream.specs.Written.{Sent, mostText, AllWritable, startMark, content, endMark, tail, written, stream}
 use Rattle.recovery.specs.Calls.{LineOut, lineIn, asSent, upToEnd, endedBy, startFrom, linesFrom}
 use Rattle.recovery.specs.Collected.{collected}
 use Rattle.recovery.specs.CleanAnswers.{said}
@@ -38,7 +38,7 @@ use Rattle.verdict.specs.declared.Found.{Found}
 use Rattle.verdict.specs.declared.Verdict.the-variants.{Good}
 use Rattle.verdict.specs.Findings.{noFindings, takeOf, closeOf}
 use Rattle.verdict.specs.FindingsLaws.{nothing-found}
-use Rattle.verdict.specs.Verdict.{isLost, mostText, verdictOf}
+use Rattle.verdict.specs.Verdict.{isLost, verdictOf}
 use Rattle.verdict_laws.specs.CaptureVerdict.{found, captureVerdict, beforeFirst, fromFirst, wholeLines, someOutside, isRefused, markRefused}
 use Rattle.verdict_laws.specs.CaptureVerdictLaws.{or-neither, verdicts}
 use Rattle.verdict_laws.specs.CleanCapture.{allLines, judgedLine, judgedLines, AllFrames, no-frames, and-frame, HoldsFrame, verdictOn}
@@ -369,7 +369,7 @@ said-lines (refused n ∷ os) = said-lines os
 
 -- where the last mark's text is short, the signal is not lost
 not-lost : (p : Profile) (x : State) → TextShort p x → isLost p (x .at) (length (x .text)) ≡ false
-unfolding isLost mostText
+unfolding isLost
 not-lost p x h = go (x .at) refl
   where
     go : (m : Mark) → x .at ≡ m → isLost p m (length (x .text)) ≡ false

@@ -18,7 +18,7 @@ use Rattle.stream.specs.declared.Mark.{Mark}
 use Rattle.stream.specs.declared.Mark.the-variants.{NoMark, Open}
 use Rattle.stream.specs.Answers.{Outcome, answerFor}
 use Rattle.stream.specs.Stream.{State, fresh, finish, run, step, outcomes}
-use Rattle.stream.specs.Written.{Sent, AllWritable}
+use Rattle.stream.specs.Written.{Sent, mostText, AllWritable}
 use Rattle.reader.specs.declared.Reader.{Reader}
 use Rattle.reader.specs.Reader.{countStop, freshReader, feedOf}
 use Rattle.reader_laws.specs.Passing.{Small, small-none, small-more}
@@ -29,7 +29,7 @@ use Rattle.refinement.specs.Refine.{Follows, fresh-follows, feed-steps, finish-
 use Rattle.verdict.specs.declared.Findings.{Findings}
 use Rattle.verdict.specs.declared.Verdict.{Verdict}
 use Rattle.verdict.specs.Findings.{noFindings, takeOf, closeOf}
-use Rattle.verdict.specs.Verdict.{mostText, isLost, verdictOf}
+use Rattle.verdict.specs.Verdict.{isLost, verdictOf}
 use Rattle.report.specs.Report.{framesLines, refusedLines, repairedLines, periodLines, lostLine, hintLine, verdictLines, reportOf}
 use Rattle.capture_lister.specs.declared.Mode.{Mode}
 use Rattle.capture_lister.specs.declared.Mode.the-variants.{Frames}
@@ -67,7 +67,6 @@ holds p m (small-more {n} {t} l q) f r s h =
 -- The signal is lost.
 
 text-held : (p : Profile) → mostText p < countStop
-unfolding mostText
 text-held VV5404 = lit≤ tt
 text-held VV5300 = lit≤ tt
 

@@ -18,7 +18,7 @@ use Rattle.profile.specs.Profile.{nullByte}
 use Rattle.stream.specs.Written as stream
 use Rattle.stream.specs.Written.{Sent, written, startMark}
 use Rattle.stream.specs.NibblesLaws.{nibbles-length, nibbles-append}
-use Rattle.writer.specs.Parts.{Put, markBytes, lineBytes}
+use Rattle.writer.specs.Parts.{PutNibbles, markBytes, lineBytes}
 use Rattle.writer.proofs.Putting.{put-front}
 
 -- A number's two bytes.
@@ -54,7 +54,7 @@ line-nibbles s high low e =
     (ap (λ (w : List ℕ). startMark s ++ (stream.nibbles (high ∷ low ∷ []) ++ w))
     (nibbles-append (s .body) (markBytes (cleanByte EndOfLine) ++ (s .gap-one ∷ s .gap-two ∷ replicate (s .nulls) nullByte))))
 
-front : (o : Output) (w bytes b d : List ℕ) (n : ℕ) → o ≡ used (length w) w → stream.nibbles bytes ≡ w → length w ≤ length b → Put bytes b 0 n d
+front : (o : Output) (w bytes b d : List ℕ) (n : ℕ) → o ≡ used (length w) w → stream.nibbles bytes ≡ w → length w ≤ length b → PutNibbles bytes b 0 n d
     → Gives o (filled.Length n) b d
 front o w bytes b d n e f room p =
     let r : 2 * length bytes ≤ length b = omega (arith, nibbles-length bytes, ap length f) in
@@ -63,6 +63,6 @@ front o w bytes b d n e f room p =
 
 pub writes : (o : Output) (s : Sent) (high low : ℕ) (b d : List ℕ) (n : ℕ) → encodeOf (s .number) ≡ Bytes high low
     → o ≡ used (length (written s)) (written s) → length (written s) ≤ length b
-    → Put (lineBytes (s .kind) high low (s .body) (s .gap-one) (s .gap-two) (s .nulls)) b 0 n d
+    → PutNibbles (lineBytes (s .kind) high low (s .body) (s .gap-one) (s .gap-two) (s .nulls)) b 0 n d
     → Gives o (filled.Length n) b d
 writes o s high low b d n e f room p = front o (written s) _ b d n f (line-nibbles s high low e) room p

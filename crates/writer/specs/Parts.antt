@@ -15,7 +15,7 @@ abbrev pub Room : List ℕ → List ℕ → ℕ → Type 0
 Room bytes before at = at + 2 * length bytes ≤ length before
 
 -- the buffer after: the nibbles of the bytes stored from a place on, and nothing else; and the place after them
-pub record Put (bytes before : List ℕ) (at next : ℕ) (after : List ℕ) : Type 0 where
+pub record PutNibbles (bytes before : List ℕ) (at next : ℕ) (after : List ℕ) : Type 0 where
   pub place : next ≡ at + 2 * length bytes
   pub kept : length after ≡ length before
   pub stored : after ≡ sets before at (nibbles bytes)

@@ -14,7 +14,7 @@ ghost use Rattle.profile.specs.Profile.{nullByte};
 ghost use Rattle.profile.specs.Layout.{rules, fits, gapFits};
 ghost use Rattle.lent_buffer.specs.Filled.{Gives};
 ghost use Rattle.writer.specs.Writer.{around, writeOf};
-ghost use Rattle.writer.specs.Parts.{Room, Put, markBytes, lineBytes};
+ghost use Rattle.writer.specs.Parts.{Room, PutNibbles, markBytes, lineBytes};
 use lent_buffer::Filled;
 use line_code::Kind;
 use line_code::LineKind;
@@ -93,7 +93,7 @@ fn put_line(
     buffer: &mut [u8],
 ) -> usize
     requires { ⌜ around + 2 * length (now body) + 2 * nulls ≤ length (now buffer) ⌝ }
-    ensures { λ r. ⌜ Put (lineBytes kind high low (now (body .entry)) first second nulls) (now (buffer .entry)) 0 r (now (buffer .exit)) ⌝ }
+    ensures { λ r. ⌜ PutNibbles (lineBytes kind high low (now (body .entry)) first second nulls) (now (buffer .entry)) 0 r (now (buffer .exit)) ⌝ }
 {
     let number_at = put_mark(kind.clean_byte(), 0, buffer);
     let body_at = put_two(high, low, number_at, buffer);
@@ -106,7 +106,7 @@ fn put_line(
 // F F F F 0 0 and a code byte.
 fn put_mark(code: u8, at: usize, buffer: &mut [u8]) -> usize
     requires { ⌜ Room (markBytes code) (now buffer) at ⌝ }
-    ensures { λ r. ⌜ Put (markBytes code) (now (buffer .entry)) at r (now (buffer .exit)) ⌝ }
+    ensures { λ r. ⌜ PutNibbles (markBytes code) (now (buffer .entry)) at r (now (buffer .exit)) ⌝ }
 {
     let next = put_two(0xFF, 0xFF, at, buffer);
     put_two(0x00, code, next, buffer)
@@ -114,7 +114,7 @@ fn put_mark(code: u8, at: usize, buffer: &mut [u8]) -> usize
 
 fn put_two(a: u8, b: u8, at: usize, buffer: &mut [u8]) -> usize
     requires { ⌜ Room (a ∷ b ∷ []) (now buffer) at ⌝ }
-    ensures { λ r. ⌜ Put (a ∷ b ∷ []) (now (buffer .entry)) at r (now (buffer .exit)) ⌝ }
+    ensures { λ r. ⌜ PutNibbles (a ∷ b ∷ []) (now (buffer .entry)) at r (now (buffer .exit)) ⌝ }
 {
     let next = put_byte(a, at, buffer);
     put_byte(b, next, buffer)
@@ -122,7 +122,7 @@ fn put_two(a: u8, b: u8, at: usize, buffer: &mut [u8]) -> usize
 
 fn put_bytes(bytes: &[u8], at: usize, buffer: &mut [u8]) -> usize
     requires { ⌜ Room (now bytes) (now buffer) at ⌝ }
-    ensures { λ r. ⌜ Put (now (bytes .entry)) (now (buffer .entry)) at r (now (buffer .exit)) ⌝ }
+    ensures { λ r. ⌜ PutNibbles (now (bytes .entry)) (now (buffer .entry)) at r (now (buffer .exit)) ⌝ }
 {
     let mut place = at;
     let mut i: usize = 0;
@@ -135,7 +135,7 @@ fn put_bytes(bytes: &[u8], at: usize, buffer: &mut [u8]) -> usize
 
 fn put_nulls(count: usize, at: usize, buffer: &mut [u8]) -> usize
     requires { ⌜ Room (replicate count nullByte) (now buffer) at ⌝ }
-    ensures { λ r. ⌜ Put (replicate count nullByte) (now (buffer .entry)) at r (now (buffer .exit)) ⌝ }
+    ensures { λ r. ⌜ PutNibbles (replicate count nullByte) (now (buffer .entry)) at r (now (buffer .exit)) ⌝ }
 {
     let mut place = at;
     let mut done: usize = 0;
@@ -149,7 +149,7 @@ fn put_nulls(count: usize, at: usize, buffer: &mut [u8]) -> usize
 // The high nibble first.
 fn put_byte(byte: u8, at: usize, buffer: &mut [u8]) -> usize
     requires { ⌜ Room (byte ∷ []) (now buffer) at ⌝ }
-    ensures { λ r. ⌜ Put (byte ∷ []) (now (buffer .entry)) at r (now (buffer .exit)) ⌝ }
+    ensures { λ r. ⌜ PutNibbles (byte ∷ []) (now (buffer .entry)) at r (now (buffer .exit)) ⌝ }
 {
     buffer[at] = byte / 16;
     buffer[at + 1] = byte % 16;

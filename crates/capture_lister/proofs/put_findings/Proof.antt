@@ -1,6 +1,6 @@
 -- The report fits in the room that is asked for it, so it is put whole at the place.
 use native.Mathlib.Omega.{arith}
-use Rattle.report.specs.Report.{reportRoom, ifRoom}
+use Rattle.report.specs.Report.{reportRoom, reportIfRoom}
 use Rattle.report.specs.ReportLaws.{report-short}
 use Rattle.capture_lister.proofs.Part.{part-put}
 use borrow.Author.Needs.{needs}
@@ -8,7 +8,7 @@ use Rattle.capture_lister.proofs.put_findings.Statement.{statement}
 use Rattle.capture_lister.proofs.put_findings.Tie as tie
 
 returns : tie.Need-returns
-unfolding ifRoom
+unfolding reportIfRoom
 returns c =
     let report = c .before .before in
     let verdict = report .before .before in

@@ -2,13 +2,13 @@
 use native.Mathlib.Omega.{arith}
 use borrow.Author.Needs.{needs}
 use Rattle.listing.specs.RowLaws.{row-short}
-use Rattle.listing.specs.Rows.{ifRoom, rowRoom}
+use Rattle.listing.specs.Rows.{rowIfRoom, rowRoom}
 use Rattle.capture_lister.proofs.Part.{part-put}
 use Rattle.capture_lister.proofs.put_row.Statement.{statement}
 use Rattle.capture_lister.proofs.put_row.Tie as tie
 
 returns : tie.Need-returns
-unfolding ifRoom
+unfolding rowIfRoom
 returns c = let a = c .before .before .before .before .before .args in part-put rowRoom _ _ _ _ _ (c .before .before .before .before .before .pre) (row-short (a .mark) (a .answer)) (c .before .before .row .ensures .count) (c .before .before .row .ensures .leaves)
 
 add-result : tie.Need-add-result

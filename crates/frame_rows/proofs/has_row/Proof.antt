@@ -3,18 +3,18 @@ use mathlib.Core.Path.{sym}
 use Prim.Native.Nat.{_+_}
 use native.Mathlib.Omega.{arith}
 use borrow.Author.Tests.{lt-leb, le-leb}
-use Rattle.profile.specs.Profile.{longest}
+use Rattle.profile.specs.Profile.{width}
 use Rattle.frame_rows.proofs.has_row.Statement.{statement}
 use Rattle.frame_rows.proofs.has_row.Tie as tie
 
 returns : tie.Need-returns
-returns c = sym (lt-leb (c .before .args .kept + longest) (c .before .args .room) (omega arith))
+returns c = sym (lt-leb (c .before .args .kept + width) (c .before .args .room) (omega arith))
 
 returns-2 : tie.Need-returns-2
-returns-2 c = sym (lt-leb (c .before .before .args .kept + longest) (c .before .before .args .room) (omega arith))
+returns-2 c = sym (lt-leb (c .before .before .args .kept + width) (c .before .before .args .room) (omega arith))
 
 returns-3 : tie.Need-returns-3
-returns-3 c = sym (le-leb (c .before .before .args .kept + longest) (c .before .before .args .room) (omega arith))
+returns-3 c = sym (le-leb (c .before .before .args .kept + width) (c .before .before .args .room) (omega arith))
 
 pub has-row-spec : {M : Type 1} → statement M
 has-row-spec = tie.close (tie.spec returns returns-2 returns-3)

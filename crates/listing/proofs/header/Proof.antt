@@ -4,16 +4,16 @@ use native.Mathlib.Omega.{arith}
 use borrow.Author.Tests.{lt-ltb, le-ltb}
 use borrow.Author.Needs.{needs}
 use Rattle.text.specs.PutLaws.{puts-front}
-use Rattle.listing.specs.Rows.{ifRoom}
+use Rattle.listing.specs.Rows.{rowIfRoom}
 use Rattle.listing.proofs.header.Statement.{statement}
 use Rattle.listing.proofs.header.Tie as tie
 
 returns : tie.Need-returns
-unfolding ifRoom
+unfolding rowIfRoom
 returns c = simp (lt-ltb _ _ (c .if1 .taken)) (record { count = refl; leaves = refl })
 
 returns-2 : tie.Need-returns-2
-unfolding ifRoom
+unfolding rowIfRoom
 returns-2 c = simp (le-ltb _ _ (c .before .before .before .before .before .if1 .left)) (puts-front (c .before .before .put .ensures) (omega (arith, c .before .before .before .before .before .if1 .left)))
 
 pub header-spec : {M : Type 1} → statement M

@@ -5,35 +5,35 @@ use borrow.Author.Tests.{lt-ltb, le-ltb}
 use borrow.Author.Needs.{needs}
 use Rattle.text.specs.PutLaws.{puts-front}
 use Rattle.stream.specs.declared.Answer.the-variants.{Line, Gap, Refused}
-use Rattle.listing.specs.Rows.{ifRoom, rowOf}
+use Rattle.listing.specs.Rows.{rowIfRoom, rowOf}
 use Rattle.listing.specs.RowLaws.{row-short}
 use Rattle.listing.proofs.row.Statement.{statement}
 use Rattle.listing.proofs.row.Tie as tie
 
 returns : tie.Need-returns
-unfolding ifRoom
+unfolding rowIfRoom
 returns c = simp (lt-ltb _ _ (c .if1 .taken)) (record { count = refl; leaves = refl })
 
 returns-2 : tie.Need-returns-2
-unfolding ifRoom rowOf
+unfolding rowIfRoom rowOf
 returns-2 c = simp (le-ltb _ _ (c .before .before .if1 .left), c .enum-told .given .1) (record { count = refl; leaves = refl })
 
 returns-3 : tie.Need-returns-3
-unfolding ifRoom rowOf
+unfolding rowIfRoom rowOf
 returns-3 c =
     let told = c .before .before .before .before .before in
     let room = told .before .before .if1 .left in
     simp (le-ltb _ _ room, told .answer .given .1) (puts-front (c .before .before .line-row .ensures) (le-trans (row-short _ (Line _)) room))
 
 returns-4 : tie.Need-returns-4
-unfolding ifRoom rowOf
+unfolding rowIfRoom rowOf
 returns-4 c =
     let told = c .before .before .before .before in
     let room = told .before .before .if1 .left in
     simp (le-ltb _ _ room, told .enum-told2 .given .1) (puts-front (c .before .before .gap-row .ensures) (le-trans (row-short _ (Gap (told .enum-told2 .given .0 .0))) room))
 
 returns-5 : tie.Need-returns-5
-unfolding ifRoom rowOf
+unfolding rowIfRoom rowOf
 returns-5 c =
     let told = c .before .before .before .before .before in
     let room = told .before .before .if1 .left in

@@ -4,17 +4,17 @@ use Prim.Native.Nat.{_≤_, _-_}
 use native.Mathlib.Omega.{arith}
 use borrow.Author.Needs.{needs}
 use lib.ListN.{length, length-set}
-use Rattle.profile.specs.Profile.{longest}
+use Rattle.profile.specs.Profile.{width}
 use Rattle.pixel_order.specs.PixelOrderLaws.{source-inside}
 use Rattle.pixel_order.proofs.Putting.{filled, put-next, put-all}
 use Rattle.pixel_order.proofs.put.Statement.{statement}
 use Rattle.pixel_order.proofs.put.Tie as tie
 
 abbrev Inv-loop : tie.InvT-loop
-Inv-loop way from to₀ i₀ to i = (i ≤ longest) × (length to ≡ length to₀) × (to ≡ filled way from to₀ i)
+Inv-loop way from to₀ i₀ to i = (i ≤ width) × (length to ≡ length to₀) × (to ≡ filled way from to₀ i)
 
 abbrev μ-loop : tie.MeasureT-loop
-μ-loop way from to₀ i₀ to i = longest - i
+μ-loop way from to₀ i₀ to i = width - i
 
 loop-holds : tie.Need-loop-holds Inv-loop μ-loop
 loop-holds c = (search needs, refl, refl)

@@ -3,7 +3,7 @@ use mathlib.Core.Path.{sym, _∙_}
 use borrow.Author.Tests.{eq-eqb, ne-eqb, lt-leb}
 use Rattle.line_code.specs.declared.Kind.the-variants.{VL}
 use Rattle.line_code.specs.LineCode.{kindNumber}
-use Rattle.profile.specs.Profile.{longest}
+use Rattle.profile.specs.Profile.{width}
 use Rattle.lent_buffer.specs.Filled.{require}
 use Rattle.lent_buffer.specs.FilledLaws.{refuses, fills}
 use Rattle.pixel_order.specs.PixelOrder.{reorderOf}
@@ -18,14 +18,14 @@ returns c = refuses _ _ _ (simp (ne-eqb _ (kindNumber VL) (λ e. c .if1 .taken (
 
 returns-2 : tie.Need-returns-2
 unfolding reorderOf require
-returns-2 c = refuses _ _ _ (simp (eq-eqb _ (kindNumber VL) (c .before .if1 .left ∙ c .before .before .number .ensures), ne-eqb _ longest (c .if2 .taken)))
+returns-2 c = refuses _ _ _ (simp (eq-eqb _ (kindNumber VL) (c .before .if1 .left ∙ c .before .before .number .ensures), ne-eqb _ width (c .if2 .taken)))
 
 returns-3 : tie.Need-returns-3
 unfolding reorderOf require
 returns-3 c =
     let a = c .before .before .before .before .before .before .args in
     refuses _ _ _
-    (simp (eq-eqb _ (kindNumber VL) (c .before .before .if1 .left ∙ c .before .before .before .number .ensures), eq-eqb _ longest (c .before .if2 .left), reordered-length (a .way) (a .from .now), lt-leb _ _ (c .if3 .taken)))
+    (simp (eq-eqb _ (kindNumber VL) (c .before .before .if1 .left ∙ c .before .before .before .number .ensures), eq-eqb _ width (c .before .if2 .left), reordered-length (a .way) (a .from .now), lt-leb _ _ (c .if3 .taken)))
 
 returns-4 : tie.Need-returns-4
 returns-4 c =

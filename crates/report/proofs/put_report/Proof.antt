@@ -1,6 +1,6 @@
 -- The parts one after another fit in ROOM bytes, so they are put whole at the front; in less room nothing is put.
 use Rattle.report.specs.ReportLaws.{report-short}
-use Rattle.report.specs.Report.{reportOf, ifRoom}
+use Rattle.report.specs.Report.{reportOf, reportIfRoom}
 use Rattle.text.specs.PutLaws.{then, puts-front}
 use borrow.Author.Tests.{lt-ltb, le-ltb}
 use native.Mathlib.Nat.{le-trans}
@@ -10,12 +10,12 @@ use Rattle.report.proofs.put_report.Statement.{statement}
 use Rattle.report.proofs.put_report.Tie as tie
 
 returns : tie.Need-returns
-unfolding ifRoom
+unfolding reportIfRoom
 returns c =
     simp (lt-ltb _ _ (c .if1 .taken)) (record { count = refl; leaves = refl })
 
 returns-2 : tie.Need-returns-2
-unfolding ifRoom reportOf
+unfolding reportIfRoom reportOf
 returns-2 c =
     let end = c .before .before in
     let hint = end .before .before .before .before in

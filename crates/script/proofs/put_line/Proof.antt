@@ -1,12 +1,12 @@
 -- The word, the number and a colon, one after another.
 use borrow.Author.Needs.{needs}
 use Rattle.text.specs.PutLaws.{then}
-use Rattle.script.specs.Line.{lineWords}
+use Rattle.script.specs.Line.{lineHead}
 use Rattle.script.proofs.put_line.Statement.{statement}
 use Rattle.script.proofs.put_line.Tie as tie
 
 returns : tie.Need-returns
-unfolding lineWords
+unfolding lineHead
 returns c =
     let end = c .before .before in
     let number = end .before .before .before .before .before in

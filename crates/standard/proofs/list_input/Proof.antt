@@ -3,7 +3,7 @@ use mathlib.Core.Path.{sym, ap}
 use Prim.Native.Nat.{_≤_}
 use lib.ListN.{length}
 use lib.Seq.{length-take-le}
-use Rattle.listing.specs.Rows.{ifRoom}
+use Rattle.listing.specs.Rows.{rowIfRoom}
 use Rattle.text.specs.PutLaws.{front-within}
 use Rattle.capture_lister.specs.declared.Listed.{Listed}
 use Rattle.capture_lister.specs.Listed.{headText, finishedOf}
@@ -16,7 +16,7 @@ head-fits : (c : tie.After-head) → c .head .result ≤ length (c .head .last .
 head-fits c =
     let d = c .before .before .buffer .result in
     let h = c .head in
-    front-within d (ifRoom (length d) (headText (c .before .before .before .before .args .lister .mode))) (h .ensures) (h .kept .1 .0)
+    front-within d (rowIfRoom (length d) (headText (c .before .before .before .before .args .lister .mode))) (h .ensures) (h .kept .1 .0)
 
 last-fits : (c : tie.After-finish) → c .finish .result .used ≤ length (c .finish .last .1 .0)
 last-fits c =

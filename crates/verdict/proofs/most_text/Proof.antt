@@ -1,15 +1,12 @@
 -- Both profiles, computed.
-use Rattle.verdict.specs.Verdict.{mostText}
 use borrow.Author.Needs.{needs}
 use Rattle.verdict.proofs.most_text.Statement.{statement}
 use Rattle.verdict.proofs.most_text.Tie as tie
 
 returns : tie.Need-returns
-unfolding mostText
 returns c = simp (c .enum-told .given .1)
 
 returns-2 : tie.Need-returns-2
-unfolding mostText
 returns-2 c = simp (c .enum-told2 .given .1)
 
 pub most-text-spec : {M : Type 1} → statement M

@@ -4,13 +4,13 @@ use Prim.Native.Nat.{_≤_, _+_, _*_, _-_}
 use native.Mathlib.Omega.{arith}
 use borrow.Author.Needs.{needs}
 use lib.ListN.{length, take}
-use Rattle.writer.specs.Parts.{Put}
+use Rattle.writer.specs.Parts.{PutNibbles}
 use Rattle.writer.proofs.Putting.{put-none, put-next, put-all}
 use Rattle.writer.proofs.put_bytes.Statement.{statement}
 use Rattle.writer.proofs.put_bytes.Tie as tie
 
 abbrev Inv-loop : tie.InvT-loop
-Inv-loop bytes at buffer₀ place₀ i₀ buffer place i = (i ≤ length bytes) × (place ≡ at + 2 * i) × Put (take i bytes) buffer₀ at place buffer
+Inv-loop bytes at buffer₀ place₀ i₀ buffer place i = (i ≤ length bytes) × (place ≡ at + 2 * i) × PutNibbles (take i bytes) buffer₀ at place buffer
 
 abbrev μ-loop : tie.MeasureT-loop
 μ-loop bytes at buffer₀ place₀ i₀ buffer place i = length bytes - i

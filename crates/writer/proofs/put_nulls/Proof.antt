@@ -5,13 +5,13 @@ use Prim.Native.Nat.{_≤_, _+_, _*_, _-_}
 use borrow.Author.Needs.{needs}
 use lib.ListN.{replicate, length-replicate}
 use Rattle.profile.specs.Profile.{nullByte}
-use Rattle.writer.specs.Parts.{Put}
+use Rattle.writer.specs.Parts.{PutNibbles}
 use Rattle.writer.proofs.Putting.{put-none, put-again}
 use Rattle.writer.proofs.put_nulls.Statement.{statement}
 use Rattle.writer.proofs.put_nulls.Tie as tie
 
 abbrev Inv-loop : tie.InvT-loop
-Inv-loop count at buffer₀ place₀ done₀ buffer place done = (done ≤ count) × (place ≡ at + 2 * done) × Put (replicate done nullByte) buffer₀ at place buffer
+Inv-loop count at buffer₀ place₀ done₀ buffer place done = (done ≤ count) × (place ≡ at + 2 * done) × PutNibbles (replicate done nullByte) buffer₀ at place buffer
 
 abbrev μ-loop : tie.MeasureT-loop
 μ-loop count at buffer₀ place₀ done₀ buffer place done = count - done

@@ -5,22 +5,22 @@ use borrow.Author.Tests.{lt-ltb, le-ltb}
 use borrow.Author.Needs.{needs}
 use Rattle.text.specs.PutLaws.{then, puts-front}
 use Rattle.tally.specs.declared.News.the-variants.{Complete, Broken, Cut}
-use Rattle.listing.specs.Rows.{ifRoom}
+use Rattle.listing.specs.Rows.{rowIfRoom}
 use Rattle.listing.specs.Frames.{newsLine}
 use Rattle.listing.specs.FramesLaws.{news-short}
 use Rattle.listing.proofs.frames.news.Statement.{statement}
 use Rattle.listing.proofs.frames.news.Tie as tie
 
 returns : tie.Need-returns
-unfolding ifRoom
+unfolding rowIfRoom
 returns c = simp (lt-ltb _ _ (c .if1 .taken)) (record { count = refl; leaves = refl })
 
 returns-2 : tie.Need-returns-2
-unfolding ifRoom newsLine
+unfolding rowIfRoom newsLine
 returns-2 c = simp (le-ltb _ _ (c .before .before .if1 .left), c .enum-told .given .1) (record { count = refl; leaves = refl })
 
 returns-3 : tie.Need-returns-3
-unfolding ifRoom newsLine
+unfolding rowIfRoom newsLine
 returns-3 c =
     let end = c .before .before in
     let line = end .before .before .before .before .before in
@@ -30,7 +30,7 @@ returns-3 c =
     (puts-front (then (line .put-complete .ensures) (end .put .ensures)) (le-trans (news-short (Complete _ _ _)) room))
 
 returns-4 : tie.Need-returns-4
-unfolding ifRoom newsLine
+unfolding rowIfRoom newsLine
 returns-4 c =
     let end = c .before .before in
     let line = end .before .before .before .before .before in
@@ -40,7 +40,7 @@ returns-4 c =
     (puts-front (then (line .put-broken .ensures) (end .put2 .ensures)) (le-trans (news-short (Broken _ _ _ _)) room))
 
 returns-5 : tie.Need-returns-5
-unfolding ifRoom newsLine
+unfolding rowIfRoom newsLine
 returns-5 c =
     let end = c .before .before in
     let line = end .before .before .before .before .before in
