@@ -23,7 +23,7 @@ use Rattle.reader.specs.declared.Reader.{Reader}
 use Rattle.reader.specs.Reader.{passes}
 use Rattle.run.specs.declared.RunStepped.{RunStepped}
 use Rattle.run.specs.Run.{Ran, lentRunOf, onward}
-use Rattle.run.specs.Grabs.{LentRunGives}
+use Rattle.run.specs.Gives.{LentRunGives}
 use Rattle.reader_laws.specs.Passing.{Ok}
 use Rattle.reader_laws.specs.SmallLaws.{small-drop}
 use Rattle.reader_laws.specs.ByRuns.{ByNibbles, RunOn, run-on, lent-onward}
@@ -123,7 +123,7 @@ module _ {r : Reader} {g : Gatherer} {bytes held : List ℕ} {from at : ℕ} {h 
       let q = ran-on .some (omega (arith, length-drop at s, there)) in
       omega (arith, taken-is, there, nibbles-length bytes)
 
-  pub along-next : {y : Gathered} {held″ : List ℕ} → rows.Grabs (takeOf m (t .answer) line held′) y held″
+  pub along-next : {y : Gathered} {held″ : List ℕ} → rows.Gathers (takeOf m (t .answer) line held′) y held″
       → Along r g bytes held from (at + t .taken) (t .head) body′ (y .gatherer) (y .progress) held″
   along-next {y} {held″} gives =
       let f = a .forward in
