@@ -7,14 +7,13 @@ ghost use mathlib.Core.Path.{_≡_};
 ghost use mathlib.Core.Bool.{_&&_, not};
 ghost use Prim.Native.Nat.{_+_, _/_, _≤_, _<_, min};
 ghost use lib.Dec.{ltb};
-ghost use lib.ListN.{length, drop};
-ghost use Rattle.stream.specs.Written.{nibbles};
+ghost use lib.ListN.{length};
 ghost use Rattle.reader.specs.Reader.{passes};
 ghost use Rattle.reader_laws.specs.Passing.{Byte};
 ghost use Rattle.run.specs.Run.{lentRunOf};
 ghost use Rattle.run.specs.Gives.{LentRunGives};
 ghost use Rattle.stream.specs.Answers.{isAnswer};
-ghost use Rattle.capture_bytes.specs.Unpacked.{fitting, unpacked, portion};
+ghost use Rattle.capture_bytes.specs.Unpacked.{fitting, unpacked, portion, runFrom};
 use reader::Head;
 use run::RunStepped;
 use stream::Answer;
@@ -22,7 +21,7 @@ use stream::Mark;
 
 // Runs over the nibbles of bytes from a place on, which is counted in nibbles, up to the first answer or their end.
 pub fn run(h: Head, body: &mut [u8], bytes: &[u8], from: usize, line: &mut [u8]) -> RunStepped
-    ensures { λ r. ⌜ LentRunGives (h .profile) (lentRunOf h (now (body .entry)) (drop from (nibbles (now (bytes .entry)))) (length (now (line .entry)))) r (now (body .exit)) (now (line .entry)) (now (line .exit)) ⌝ }
+    ensures { λ r. ⌜ LentRunGives (h .profile) (runFrom h (now (body .entry)) (now (bytes .entry)) from (length (now (line .entry)))) r (now (body .exit)) (now (line .entry)) (now (line .exit)) ⌝ }
 {
     code_is_byte(h);
     let mut head = h;

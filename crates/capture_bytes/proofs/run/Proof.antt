@@ -30,15 +30,19 @@ loop-holds c = ((λ _. start _ _ _ _ _ (c .code-is-byte .ensures)), (λ e. absur
 
 add-at : tie.Need-add-at Inv-loop μ-loop
 add-at c =
+    let test = c .before .before .before .before .before .before .before .before .before .before .loop-test in
+    let shared-slice-known = c .before .before .before .before .before .before .before .before .before .before .before .before .before .before .shared-slice-known in
+    let good-at = c .before .before .before .before .before .before .before .before .before .before .before .before .before .before .before .before .good in
+    let fits-at = c .before .before .before .before .before .before .before .before .before .before .before .before .before .before .before .before .fits in
     let a = c .before .before .before .before .before .before .before .before .before .before .before .before .before .before .before .before .args in
     let l = c .before .before .before .before .before .before .before .before .before .before .before .loop in
-    let u = l .inv .0 (c .before .before .before .before .before .before .before .before .before .before .loop-test .taken) in
-    let known : (i : ℕ) → getD (now (a .bytes)) i 0 < 256 = λ i. c .before .before .before .before .before .before .before .before .before .before .before .before .before .before .shared-slice-known .given i .fits in
+    let u = l .inv .0 (test .taken) in
+    let known : (i : ℕ) → getD (now (a .bytes)) i 0 < 256 = λ i. shared-slice-known .given i .fits in
     let n = c .before .before .before .before .before .before .before .before .before .lesser .ensures in
     let end = c .before .before .before .before .before .before .before .before .before .lesser .result in
     let within : end ≤ length (now (a .bytes)) = omega (arith, n) in
     let e = c .before .before .before .before .before .before .run-portion .ensures in
-    omega (arith, portion-within u known end within, e .count, c .before .before .before .before .before .before .before .before .before .before .before .before .before .before .before .before .good .1 .1 .0 .1, l .inv .4, l .inv .7, c .before .before .before .before .before .before .before .before .before .before .before .before .before .before .before .before .fits .from)
+    omega (arith, portion-within u known end within, e .count, good-at .1 .1 .0 .1, l .inv .4, l .inv .7, fits-at .from)
 
 add-lesser : tie.Need-add-lesser Inv-loop μ-loop
 add-lesser c =
@@ -47,33 +51,38 @@ add-lesser c =
 
 loop-less : tie.Need-loop-less Inv-loop μ-loop
 loop-less c =
+    let test = c .before .before .before .before .before .before .before .before .before .before .before .loop-test in
+    let shared-slice-known = c .before .before .before .before .before .before .before .before .before .before .before .before .before .before .before .shared-slice-known in
     let a = c .before .before .before .before .before .before .before .before .before .before .before .before .before .before .before .before .before .args in
     let l = c .before .before .before .before .before .before .before .before .before .before .before .before .loop in
-    let u = l .inv .0 (c .before .before .before .before .before .before .before .before .before .before .before .loop-test .taken) in
-    let known : (i : ℕ) → getD (now (a .bytes)) i 0 < 256 = λ i. c .before .before .before .before .before .before .before .before .before .before .before .before .before .before .before .shared-slice-known .given i .fits in
+    let u = l .inv .0 (test .taken) in
+    let known : (i : ℕ) → getD (now (a .bytes)) i 0 < 256 = λ i. shared-slice-known .given i .fits in
     let n = c .before .before .before .before .before .before .before .before .before .before .lesser .ensures in
     let end = c .before .before .before .before .before .before .before .before .before .before .lesser .result in
     let within : end ≤ length (now (a .bytes)) = omega (arith, n) in
     let e = c .before .before .before .before .before .before .before .run-portion .ensures in
     let same = c .before .before .before .before .before .before .before .run-portion .kept .1 .0 in
-    turn-less u known end within e same (c .goes-on .ensures) (l .more) (c .before .before .before .before .before .before .before .before .before .before .before .loop-test .taken) (λ h. omega (arith, h, n, l .inv .5))
+    turn-less u known end within e same (c .goes-on .ensures) (l .more) (test .taken) (λ h. omega (arith, h, n, l .inv .5))
 
 loop-again : tie.Need-loop-again Inv-loop μ-loop
 loop-again c =
+    let test = c .before .before .before .before .before .before .before .before .before .before .before .loop-test in
+    let shared-slice-known = c .before .before .before .before .before .before .before .before .before .before .before .before .before .before .before .shared-slice-known in
+    let run-portion = c .before .before .before .before .before .before .before .run-portion in
     let a = c .before .before .before .before .before .before .before .before .before .before .before .before .before .before .before .before .before .args in
     let l = c .before .before .before .before .before .before .before .before .before .before .before .before .loop in
-    let u = l .inv .0 (c .before .before .before .before .before .before .before .before .before .before .before .loop-test .taken) in
-    let known : (i : ℕ) → getD (now (a .bytes)) i 0 < 256 = λ i. c .before .before .before .before .before .before .before .before .before .before .before .before .before .before .before .shared-slice-known .given i .fits in
+    let u = l .inv .0 (test .taken) in
+    let known : (i : ℕ) → getD (now (a .bytes)) i 0 < 256 = λ i. shared-slice-known .given i .fits in
     let n = c .before .before .before .before .before .before .before .before .before .before .lesser .ensures in
     let end = c .before .before .before .before .before .before .before .before .before .before .lesser .result in
     let within : end ≤ length (now (a .bytes)) = omega (arith, n) in
-    let e = c .before .before .before .before .before .before .before .run-portion .ensures in
-    let same = c .before .before .before .before .before .before .before .run-portion .kept .1 .0 in
+    let e = run-portion .ensures in
+    let same = run-portion .kept .1 .0 in
     let f = l .inv .4 in (
       next-turn u known end within e same (c .goes-on .ensures),
       last-turn u known end within e same (c .goes-on .ensures),
       same ∙ l .inv .2,
-      c .before .before .before .before .before .before .before .run-portion .kept .1 .1 .1 .1 .1 .0 ∙ l .inv .3,
+      run-portion .kept .1 .1 .1 .1 .1 .0 ∙ l .inv .3,
       omega arith,
       omega arith,
       omega arith,

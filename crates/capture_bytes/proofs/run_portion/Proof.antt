@@ -26,8 +26,9 @@ part-length bs first end h = length-take (end - first) (drop first bs) ∙ (let 
 
 slice-aggregate-all : tie.Need-slice-aggregate-all
 slice-aggregate-all c =
+    let given = c .before .before .before .before .before .before .before .before .before .pre in
     let a = c .before .before .before .before .before .before .before .before .before .args in
-    let n = part-length (now (a .bytes)) (c .before .before .before .before .before .lesser .result) (a .end) (c .before .before .before .before .before .before .before .before .before .pre .0) in
+    let n = part-length (now (a .bytes)) (c .before .before .before .before .before .lesser .result) (a .end) (given .0) in
     sym (length-take-le _ _ (omega (arith, c .before .before .unpack .ensures .0, c .before .before .unpack .kept .1 .0, n)))
 
 sub-run-lent : tie.Need-sub-run-lent
@@ -38,21 +39,24 @@ part-run-lent-start c = omega (arith, slice-aggregate-all (c .before .before), c
 
 returns : tie.Need-returns
 returns c =
+    let lesser = c .before .before .before .before .before .before .before .before .before .before .before .before .before .before .lesser in
+    let unpack = c .before .before .before .before .before .before .before .before .before .before .before .unpack in
+    let lesser2 = c .before .before .before .before .before .before .before .before .lesser2 in
     let a = c .before .before .before .before .before .before .before .before .before .before .before .before .before .before .before .before .before .before .args in
     let p = c .before .before .before .before .before .before .before .before .before .before .before .before .before .before .before .before .before .before .pre in
     let bs = now (a .bytes) in
-    let first = c .before .before .before .before .before .before .before .before .before .before .before .before .before .before .lesser .result in
+    let first = lesser .result in
     let part = take (a .end - first) (drop first bs) in
-    let u = c .before .before .before .before .before .before .before .before .before .before .before .unpack .ensures in
+    let u = unpack .ensures in
     let n = part-length bs first (a .end) (p .0) in
-    let k : c .before .before .before .before .before .before .before .before .before .before .before .unpack .result ≡ length part = omega (arith, u .0, n, p .1, c .before .before .before .before .before .before .before .before .before .before .before .before .before .before .lesser .ensures) in
-    let all = whole part _ _ (c .before .before .before .before .before .before .before .before .before .before .before .unpack .result) k (u .1) in
-    let skipped : c .before .before .before .before .before .before .before .before .lesser2 .result ≡ min (a .at % 2) (length (nibbles part)) = omega (arith, c .before .before .before .before .before .before .before .before .lesser2 .ensures, nibbles-length part, k) in
+    let k : unpack .result ≡ length part = omega (arith, u .0, n, p .1, lesser .ensures) in
+    let all = whole part _ _ (unpack .result) k (u .1) in
+    let skipped : lesser2 .result ≡ min (a .at % 2) (length (nibbles part)) = omega (arith, lesser2 .ensures, nibbles-length part, k) in
     let rest = ap₂ (λ (v : List ℕ) (i : ℕ). take (length v - i) (drop i v)) all skipped
     ∙ take-all (length (nibbles part) - min (a .at % 2) (length (nibbles part))) (drop (min (a .at % 2) (length (nibbles part))) (nibbles part))
     (omega (arith, length-drop (min (a .at % 2) (length (nibbles part))) (nibbles part)))
     ∙ drop-most (a .at % 2) (nibbles part)
-    ∙ sym (portion-bytes bs (a .at) (a .end) first (p .0) (c .before .before .before .before .before .before .before .before .before .before .before .before .before .before .lesser .ensures)) in
+    ∙ sym (portion-bytes bs (a .at) (a .end) first (p .0) (lesser .ensures)) in
     gives-as (ap (λ (v : List ℕ). lentRunOf (a .h) (now (a .body)) v (length (now (a .line)))) rest) (c .before .before .before .before .run-lent .ensures)
 
 pub run-portion-spec : {M : Type 1} → statement M

@@ -41,8 +41,9 @@ answerAt c =
 
 answers : (c : tie.After-known-told2) (o : Output) → LineAnswer (profileAt c) (sentAt c) (roomAt c) o → answerAt c ≡ o
 answers c o l =
+    let numbered = c .before .before .before .before .before .before .before .numbered in
     answer-only _ _ _ _ _ _ _ _ o
-    (of-line (profileAt c) (sentAt c .kind) (sym (c .before .before .before .before .before .before .before .numbered .ensures) ∙ c .before .before .before .before .before .p .given .1) (sym (c .before .before .before .numbered2 .ensures) ∙ c .before .k .given .1) l)
+    (of-line (profileAt c) (sentAt c .kind) (sym (numbered .ensures) ∙ c .before .before .before .before .before .p .given .1) (sym (c .before .before .before .numbered2 .ensures) ∙ c .before .k .given .1) l)
 
 -- once the number's bytes are known
 abbrev Encodes : tie.After-known-told3 → Type 0

@@ -6,10 +6,14 @@ use Rattle.frame.proofs.Judge.passes.Statement.{statement}
 use Rattle.frame.proofs.Judge.passes.Tie as tie
 
 add-within : tie.Need-add-within
-add-within c = simp (c .before .before .before .borders-on .ensures) (omega (arith, settling-small (c .before .before .before .before .before .before .before .args .profile)))
+add-within c =
+    let args = c .before .before .before .before .before .before .before .args in
+    simp (c .before .before .before .borders-on .ensures) (omega (arith, settling-small (args .profile)))
 
 add-within-2 : tie.Need-add-within-2
-add-within-2 c = simp (c .before .before .before .borders-on .ensures) (omega (arith, settling-small (c .before .before .before .before .before .before .before .args .profile)))
+add-within-2 c =
+    let args = c .before .before .before .before .before .before .before .args in
+    simp (c .before .before .before .borders-on .ensures) (omega (arith, settling-small (args .profile)))
 
 returns-2 : tie.Need-returns-2
 returns-2 c = simp (c .before .before .before .before .before .self .given .1, c .before .enum-told2 .given .1, ← c .before .before .before .borders-on .ensures, c .within .ensures)

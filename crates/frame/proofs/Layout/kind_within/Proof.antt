@@ -22,11 +22,15 @@ returns-4 c = simp (le-ltb _ _ (c .before .before .before .before .before .if1 .
 
 returns-5 : tie.Need-returns-5
 unfolding kindWithin
-returns-5 c = simp (le-ltb _ _ (c .before .before .before .before .before .before .before .if1 .left), le-ltb _ _ (c .before .before .before .before .before .before .if2 .left), le-ltb _ _ (c .before .before .before .before .if3 .left), lt-leb _ _ (c .before .before .if4 .left), eq-eqb _ _ (c .if5 .taken))
+returns-5 c =
+    let test-1 = c .before .before .before .before .before .before .before .if1 in
+    simp (le-ltb _ _ (test-1 .left), le-ltb _ _ (c .before .before .before .before .before .before .if2 .left), le-ltb _ _ (c .before .before .before .before .if3 .left), lt-leb _ _ (c .before .before .if4 .left), eq-eqb _ _ (c .if5 .taken))
 
 returns-6 : tie.Need-returns-6
 unfolding kindWithin
-returns-6 c = simp (le-ltb _ _ (c .before .before .before .before .before .before .before .if1 .left), le-ltb _ _ (c .before .before .before .before .before .before .if2 .left), le-ltb _ _ (c .before .before .before .before .if3 .left), lt-leb _ _ (c .before .before .if4 .left), ne-eqb _ _ (c .if5 .left))
+returns-6 c =
+    let test-1 = c .before .before .before .before .before .before .before .if1 in
+    simp (le-ltb _ _ (test-1 .left), le-ltb _ _ (c .before .before .before .before .before .before .if2 .left), le-ltb _ _ (c .before .before .before .before .if3 .left), lt-leb _ _ (c .before .before .if4 .left), ne-eqb _ _ (c .if5 .left))
 
 pub kind-within-spec : {M : Type 1} → statement M
 kind-within-spec = tie.close (tie.spec returns returns-2 returns-3 returns-4 returns-5 returns-6)

@@ -19,11 +19,17 @@ returns-3 c = simp (c .before .before .before .before .before .before .if1 .left
 
 returns-4 : tie.Need-returns-4
 unfolding inOrder
-returns-4 c = simp (c .before .before .before .before .before .before .before .before .before .if1 .left, eq-eqb _ _ (c .before .before .before .before .before .before .if2 .left), eq-eqb _ _ (c .before .before .before .if3 .left), ← c .before .before .last-place .ensures, lt-leb _ _ (c .if4 .taken))
+returns-4 c =
+    let test-1 = c .before .before .before .before .before .before .before .before .before .if1 in
+    simp (test-1 .left, eq-eqb _ _ (c .before .before .before .before .before .before .if2 .left), eq-eqb _ _ (c .before .before .before .if3 .left), ← c .before .before .last-place .ensures, lt-leb _ _ (c .if4 .taken))
 
 returns-5 : tie.Need-returns-5
 unfolding inOrder
-returns-5 c = simp (c .before .before .before .before .before .before .before .before .before .before .before .before .before .if1 .left, eq-eqb _ _ (c .before .before .before .before .before .before .before .before .before .before .if2 .left), eq-eqb _ _ (c .before .before .before .before .before .before .before .if3 .left), ← c .before .before .before .before .before .before .last-place .ensures, le-leb _ _ (c .before .before .before .before .if4 .left), c .are-zero .ensures)
+returns-5 c =
+    let test-1 = c .before .before .before .before .before .before .before .before .before .before .before .before .before .if1 in
+    let test-2 = c .before .before .before .before .before .before .before .before .before .before .if2 in
+    let test-3 = c .before .before .before .before .before .before .before .if3 in
+    simp (test-1 .left, eq-eqb _ _ (test-2 .left), eq-eqb _ _ (test-3 .left), ← c .before .before .before .before .before .before .last-place .ensures, le-leb _ _ (c .before .before .before .before .if4 .left), c .are-zero .ensures)
 
 pub in-order-spec : {M : Type 1} → statement M
 in-order-spec =
