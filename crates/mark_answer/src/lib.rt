@@ -11,7 +11,8 @@ ghost use Rattle.line_code.specs.declared.Repair.{Repair};
 ghost use Rattle.period.specs.Period.{mostNibbles};
 ghost use Rattle.stream.specs.Answers.{answerFor, groupNibbles, lineNibbles, periodOf};
 ghost use Rattle.mark_answer.specs.Kept.{nothingKept, byteAt, gapStart, strayAt, keptAt, bodyAt};
-ghost use Rattle.mark_answer.specs.Judge.{judgeBody, judgeLine, judgeGap, judgeEnd, judgeMeaning, judge};
+ghost use Rattle.mark_answer.specs.Judge.{judgeBody, judgeLine, judgeGap, judgeEnd, judgeMeaning, judgeReading, judge};
+ghost use Rattle.mark_answer.specs.Gives.{MarkGives};
 use line_code::Kind;
 use line_code::Meaning;
 use line_code::Reading;
@@ -31,6 +32,12 @@ pub struct Kept {
     pub first: u8,
     pub second: u8,
     pub stray: bool,
+}
+
+// An open mark that the next one closes: its answer, and what it is to that one.
+pub struct Closed {
+    pub answer: Answer,
+    pub before: Before,
 }
 
 impl Kept {
@@ -93,7 +100,8 @@ pub fn store(body: &mut [u8], place: u32, nibble: u8)
     }
 }
 
-// The open mark's answer when the next mark's code is complete. Its text has this many nibbles, the code's two among them.
+// The open mark's answer when the next mark's code is complete, and what it is to that one. Its text has this many nibbles, the code's two
+// among them. The code is looked up once.
 pub fn at_mark(
     profile: Profile,
     mark: Mark,
@@ -101,26 +109,22 @@ pub fn at_mark(
     kept: Kept,
     body: &[u8],
     next: u8,
-) -> Answer
-    ensures { λ r. ⌜ r ≡ answerFor (judge profile mark length kept (now (body .entry)) (some next)) ⌝ }
+) -> Closed
+    ensures { λ r. ⌜ MarkGives mark (judge profile mark length kept (now (body .entry)) (some next)) r ⌝ }
 {
     match mark {
-        Mark::NoMark => Answer::Nothing,
-        Mark::Open(before, code) => {
+        Mark::NoMark => {
+            let answer = Answer::Nothing;
+            let before = Before::NoLine;
+            Closed { answer, before }
+        }
+        Mark::Open(earlier, code) => {
             let reading = line_code::read(code);
-            match reading {
-                Reading::Says(m, repair) => meaning_answer(
-                    profile,
-                    before,
-                    m,
-                    repair,
-                    length,
-                    kept,
-                    body,
-                    next,
-                ),
-                Reading::Damaged => Answer::Refused(refusal::DAMAGED_CODE),
-            }
+            let answer = reading_answer(profile, earlier, reading, length, kept, body, next);
+            let kind = reading.kind();
+            let handed = answer.is_line();
+            let before = Before::of(kind, handed);
+            Closed { answer, before }
         }
     }
 }
@@ -183,6 +187,33 @@ fn stray_at(profile: Profile, place: u32, nibble: u8, stray: bool) -> bool
         return nibble != 15;
     }
     false
+}
+
+// 1, or by what the code says.
+fn reading_answer(
+    profile: Profile,
+    before: Before,
+    reading: Reading,
+    length: u32,
+    kept: Kept,
+    body: &[u8],
+    next: u8,
+) -> Answer
+    ensures { λ r. ⌜ r ≡ answerFor (judgeReading profile before reading length kept (now (body .entry)) (some next)) ⌝ }
+{
+    match reading {
+        Reading::Says(m, repair) => meaning_answer(
+            profile,
+            before,
+            m,
+            repair,
+            length,
+            kept,
+            body,
+            next,
+        ),
+        Reading::Damaged => Answer::Refused(refusal::DAMAGED_CODE),
+    }
 }
 
 fn meaning_answer(

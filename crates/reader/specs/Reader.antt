@@ -13,6 +13,7 @@ use Rattle.profile.specs.declared.Profile.the-variants.{VV5404}
 use Rattle.profile.specs.declared.Numbered.{Numbered}
 use Rattle.profile.specs.declared.Numbered.the-variants as numbered
 use Rattle.profile.specs.Profile.{profileNumbered, bodyLength, longest}
+use Rattle.stream.specs.declared.Before.{Before}
 use Rattle.stream.specs.declared.Before.the-variants.{NoLine, RefusedLine, HandedOut}
 use Rattle.stream.specs.declared.Mark.{Mark}
 use Rattle.stream.specs.declared.Mark.the-variants.{NoMark, Open}
@@ -71,10 +72,13 @@ abbrev pub shifted : Head → ℕ → Head
 shifted h n =
     record { profile = h .profile; at = h .at; count = bump (h .count); window = slide (h .window) n; kept = leaveKept h }
 
--- a mark with this code, just complete: its code is all of its text; and whether the mark before it was handed out as a line
+-- a mark with this code, just complete: what the mark before was to it, and its code, which is all of its text
+abbrev pub openedAfter : Head → Before → ℕ → Head
+openedAfter h before code = record { profile = h .profile; at = Open before code; count = 2; window = code; kept = nothingKept }
+
+-- by the kind of the mark before, and whether that was handed out as a line
 abbrev pub opened : Head → ℕ → Bool → Head
-opened h code handed =
-    record { profile = h .profile; at = Open (beforeBy (kindAt (h .at)) handed) code; count = 2; window = code; kept = nothingKept }
+opened h code handed = openedAfter h (beforeBy (kindAt (h .at)) handed) code
 
 -- The reader's own test (11): constant time, and it looks at no byte of the body.
 

@@ -11,7 +11,7 @@ ghost use Rattle.profile.specs.Profile.{bodyLength, longest};
 ghost use Rattle.stream.specs.declared.Before.{Before};
 ghost use Rattle.stream.specs.declared.Mark.the-variants.{NoMark, Open};
 ghost use Rattle.stream.specs.Answers.{outcomeOf, answerFor, bufferAfter, refused};
-ghost use Rattle.reader.specs.Reader.{readerOf, topPlace, isMark, slide, bump, leaveKept, leaveBody, shifted, opened, aged, windowFits, handedFits, passes, freshReader, newOf, taking, takeOf, feedOf, flushed, finishOf};
+ghost use Rattle.reader.specs.Reader.{readerOf, topPlace, isMark, slide, bump, leaveKept, leaveBody, shifted, openedAfter, aged, windowFits, handedFits, passes, freshReader, newOf, taking, takeOf, feedOf, flushed, finishOf};
 ghost use Rattle.reader.specs.Gives.{CallGives, FeedGives, TakeGives};
 ghost use Rattle.reader.specs.Parts.{completing, copied};
 use mark_answer::Kept;
@@ -230,10 +230,11 @@ fn complete(h: Head, body: &[u8], code: u8, buffer: &mut [u8]) -> Stepped
     let p = h.profile;
     let at = h.at;
     let kept = leave_kept(h);
-    let answer = mark_answer::at_mark(p, at, text_length(h.count), kept, body, code);
+    let closed = mark_answer::at_mark(p, at, text_length(h.count), kept, body, code);
+    let answer = closed.answer;
+    let before = closed.before;
     hand_out(p, answer, body, buffer);
-    let handed = answer.is_line();
-    let head = open_at(h, code, handed);
+    let head = open_after(h, before, code);
     Stepped { head, answer }
 }
 
@@ -346,14 +347,11 @@ fn shift(h: Head, nibble: u8) -> Head
     }
 }
 
-// A mark with this code, just complete: its code is all of its text; and whether the mark before it was handed out as a line.
-fn open_at(h: Head, code: u8, handed: bool) -> Head
-    ensures { λ r. ⌜ r ≡ opened h code handed ⌝ }
+// A mark with this code, just complete: what the mark before was to it, and its code, which is all of its text.
+fn open_after(h: Head, before: Before, code: u8) -> Head
+    ensures { λ r. ⌜ r ≡ openedAfter h before code ⌝ }
 {
     let profile = h.profile;
-    let mark = h.at;
-    let kind = mark.kind();
-    let before = Before::of(kind, handed);
     let at = Mark::Open(before, code);
     let kept = Kept::nothing();
     Head {

@@ -2,7 +2,7 @@
 // The meaning itself is in specs/: Answers.antt, what a mark is answered; Stream.antt, where marks are and what each nibble brings.
 ghost use mathlib.Core.Path.{_≡_};
 ghost use Rattle.stream.specs.Answers.{eitherRepaired, isLineAnswer, isAnswer};
-ghost use Rattle.stream.specs.Stream.{kindAt, beforeBy};
+ghost use Rattle.stream.specs.Stream.{beforeBy};
 use line_code::Kind;
 use line_code::LineKind;
 use line_code::Repair;
@@ -99,18 +99,6 @@ impl Before {
                 }
                 Before::RefusedLine(k)
             }
-        }
-    }
-}
-
-impl Mark {
-    // The line kind of this mark's own code.
-    pub fn kind(self) -> LineKind
-        ensures { λ r. ⌜ r ≡ kindAt self ⌝ }
-    {
-        match self {
-            Mark::NoMark => LineKind::NotLine,
-            Mark::Open(_, code) => line_code::read(code).kind(),
         }
     }
 }
