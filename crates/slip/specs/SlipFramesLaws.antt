@@ -58,11 +58,11 @@ finished-handed {w} h true =
 
 -- The slipped stream: the other lines as sent, and broken lines in the stead of the one.
 
-record SlippedHanded (before after : List Sent) (w : List ℕ) : Type 0 where
-  more : ℕ
-  all : HandsToRest fresh w (map handedAs before ++ ((brokenOne ∷ replicate more brokenOne) ++ map handedAs after))
+pub record SlippedHanded (before after : List Sent) (w : List ℕ) : Type 0 where
+  pub more : ℕ
+  pub all : HandsToRest fresh w (map handedAs before ++ ((brokenOne ∷ replicate more brokenOne) ++ map handedAs after))
 
-slipped-handed : (before : List Sent) (s : Sent) (after : List Sent) → AllWritable VV5404 (before ++ (s ∷ after)) → (i k : ℕ) → Inside s i k
+pub slipped-handed : (before : List Sent) (s : Sent) (after : List Sent) → AllWritable VV5404 (before ++ (s ∷ after)) → (i k : ℕ) → Inside s i k
     → SlippedHanded before after (slipped before s after i k)
 slipped-handed before s after h i k n =
     let q = parted VV5404 before s after h in
@@ -78,7 +78,7 @@ slipped-handed before s after h i k n =
           (sym (slipped-is before s after i k n)) all;
     }
 
-lines-around : (fs : List (List Sent)) (front : List Sent) (s : Sent) (back : List Sent) (gs : List (List Sent))
+pub lines-around : (fs : List (List Sent)) (front : List Sent) (s : Sent) (back : List Sent) (gs : List (List Sent))
     → allLines (fs ++ ((front ++ (s ∷ back)) ∷ gs)) ≡ (allLines fs ++ front) ++ (s ∷ (back ++ allLines gs))
 lines-around [] front s back gs = append-assoc front (s ∷ back) (allLines gs)
 lines-around (f ∷ fs) front s back gs = ap (λ (ss : List Sent). f ++ ss) (lines-around fs front s back gs) ∙ simp append-assoc

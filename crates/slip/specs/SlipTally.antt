@@ -17,6 +17,7 @@ use Rattle.frame.specs.Frame.{lastPlace}
 use Rattle.frame.specs.Calls.{rulings, isComplete, isBreak}
 use Rattle.frame.specs.Handing.{allHanded}
 use Rattle.frame.specs.FrameLaws.{toComplete}
+use Rattle.tally.specs.declared.Tally.{Tally}
 use Rattle.tally.specs.Tally.{freshTally}
 use Rattle.tally.specs.Answered.{tallied}
 use Rattle.tally.specs.TallyLaws.{judged-as-said}
@@ -69,17 +70,16 @@ lost-broken front back more =
     from-slip [] = none-counted isBreak 0 (replicate (more + length back) ruling.Waiting) waiting
     from-slip (s ∷ ss) = none-counted isBreak 1 (replicate (more + length back) ruling.Waiting) waiting
 
--- the law
-pub slip-tally : {fs : List (List Sent)} {front back : List Sent} {gs : List (List Sent)} (w : List Answer)
-    → OneFrameLost fs front back gs (rulings VV5404 Waiting (allHanded w)) → OneFrameUncounted fs front gs (tallied (freshTally VV5404) w)
-slip-tally {fs} {front} {back} {gs} w o =
+-- a tally that counts those rulings
+pub lost-counted : {fs : List (List Sent)} {front back : List Sent} {gs : List (List Sent)} {vs : List Ruling} → OneFrameLost fs front back gs vs
+    → (t : Tally) → t .complete ≡ counting isComplete 0 vs → t .broken ≡ counting isBreak 0 vs → OneFrameUncounted fs front gs t
+lost-counted {fs} {front} {back} {gs} o t complete broken =
     let F = allComplete fs in
     let L = lost front back (o .more) in
     let G = allComplete gs in
-    let q = judged-as-said (freshTally VV5404) w in
     record {
       others-complete =
-          q .complete
+          complete
           ∙ ap (counting isComplete 0) (o .rulings-are)
           ∙ counting-three isComplete 0 F L G
           ∙ ap (λ (n : ℕ). counting isComplete n G)
@@ -87,10 +87,15 @@ slip-tally {fs} {front} {back} {gs} w o =
           ∙ frames-counted (counting (λ (f : List Sent). true) 0 fs) gs
           ∙ sym (counting-append (λ (f : List Sent). true) 0 fs gs);
       one-broken =
-          q .broken
+          broken
           ∙ ap (counting isBreak 0) (o .rulings-are)
           ∙ counting-three isBreak 0 F L G
           ∙ none-counted isBreak _ G (none-broken gs)
           ∙ ap (λ (n : ℕ). counting isBreak n L) (none-counted isBreak 0 F (none-broken fs))
           ∙ lost-broken front back (o .more);
     }
+
+-- the law
+pub slip-tally : {fs : List (List Sent)} {front back : List Sent} {gs : List (List Sent)} (w : List Answer)
+    → OneFrameLost fs front back gs (rulings VV5404 Waiting (allHanded w)) → OneFrameUncounted fs front gs (tallied (freshTally VV5404) w)
+slip-tally w o = let q = judged-as-said (freshTally VV5404) w in lost-counted o (tallied (freshTally VV5404) w) (q .complete) (q .broken)

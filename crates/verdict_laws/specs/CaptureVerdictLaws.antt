@@ -55,7 +55,7 @@ use Rattle.verdict.specs.declared.Verdict.{Verdict}
 use Rattle.verdict.specs.declared.Verdict.the-variants.{Good, CheckTheClip, NotGood, NoSignal}
 use Rattle.verdict.specs.Findings.{noFindings, isOutside, oneOutside, withLine, takeOf, closeOf}
 use Rattle.verdict.specs.Verdict.{inOrder, byFrames, byFirst, verdictOf}
-use Rattle.verdict_laws.specs.CaptureVerdict.{found, captureFindings, captureVerdict, markCame, captureRulings, frameComplete, frameBroken, isOpening, beforeFirst, fromFirst, isWhole, wholeLines, isWaiting, someOutside, fewBefore, lineOutside, isRefused, markRefused, allInOrder, Verdicts}
+use Rattle.verdict_laws.specs.CaptureVerdict.{found, captureFindings, captureVerdict, markCame, captureRulings, frameComplete, isOpening, beforeFirst, fromFirst, isWhole, wholeLines, isWaiting, someOutside, fewBefore, lineOutside, isRefused, markRefused, allInOrder, Verdicts}
 
 -- Counts.
 
@@ -106,14 +106,14 @@ close-alike t last = either (isUnfinished last)
     either true = cut-marked t
     either false = ended-alike (tally.takeOf t last) (tally.takeOf t last .news)
 
--- what is found of the frames of a capture, by the judge's rulings
-record Frames (p : Profile) (w : List Answer) (last : Answer) : Type 0 where
-  profile : captureTally p w last .profile ≡ p
-  complete : eqb (captureTally p w last .complete) 0 ≡ not (frameComplete p w last)
-  broken : eqb (captureTally p w last .broken) 0 ≡ not (frameBroken p w last)
+-- a tally of a capture counts the frames of the judge's rulings
+pub record CountsRulings (p : Profile) (w : List Answer) (last : Answer) (t : Tally) : Type 0 where
+  pub profile : t .profile ≡ p
+  pub complete : t .complete ≡ counts.counting isComplete 0 (captureRulings p w last)
+  pub broken : t .broken ≡ counts.counting isBreak 0 (captureRulings p w last)
 
-frames-of : (p : Profile) (w : List Answer) (last : Answer) → Frames p w last
-frames-of p w last =
+tally-counts : (p : Profile) (w : List Answer) (last : Answer) → CountsRulings p w last (captureTally p w last)
+tally-counts p w last =
     let v : List Answer = cond (isUnfinished last) [] (last ∷ []) in
     let t : Tally = tallied (freshTally p) w in
     let a : Alike (tallied (freshTally p) (w ++ v)) (tally.closeOf t last .tally)
@@ -121,8 +121,8 @@ frames-of p w last =
     let q = judged-as-said (freshTally p) (w ++ v) in
     record {
       profile = a .profile ∙ q .profile;
-      complete = none-so isComplete (tally.closeOf t last .tally .complete) (captureRulings p w last) (a .complete ∙ q .complete);
-      broken = none-so isBreak (tally.closeOf t last .tally .broken) (captureRulings p w last) (a .broken ∙ q .broken);
+      complete = a .complete ∙ q .complete;
+      broken = a .broken ∙ q .broken;
     }
 
 -- The signal.
@@ -609,6 +609,9 @@ capture-tally : (p : Profile) (w : List Answer) (last : Answer) → captureFindi
 unfolding closeOf
 capture-tally p w last = ap (λ (t : Tally). tally.closeOf t last .tally) (found-tally (noFindings p) w)
 
+pub counts-rulings : (p : Profile) (w : List Answer) (last : Answer) → CountsRulings p w last (captureFindings p w last .tally)
+counts-rulings p w last = subst (CountsRulings p w last) (sym (capture-tally p w last)) (tally-counts p w last)
+
 capture-signal : (p : Profile) (w : List Answer) (last : Answer) → captureFindings p w last .signal ≡ captureSignal w last
 unfolding closeOf
 capture-signal p w last = ap (λ (s : Signal). signal.closeOf s last) (found-signal (noFindings p) w)
@@ -616,14 +619,13 @@ capture-signal p w last = ap (λ (s : Signal). signal.closeOf s last) (found-sig
 in-order : (p : Profile) (w : List Answer) (last : Answer) (lost : Bool) → inOrder (captureFindings p w last) lost ≡ allInOrder p w last lost
 unfolding inOrder closeOf
 in-order p w last lost =
-    let t = capture-tally p w last in
-    let fr = frames-of p w last in
+    let fr = counts-rulings p w last in
     let o = outside-of p w in
     let early : ℕ = found (noFindings p) w .outside .early in
     ap (λ (b : Bool). not lost && b)
-    (ap₂ _&&_ (ap (λ (x : Tally). eqb (x .broken) 0) t ∙ fr .broken)
+    (ap₂ _&&_ (none-so isBreak (captureFindings p w last .tally .broken) (captureRulings p w last) (fr .broken))
     (ap₂ _&&_ (o .later)
-    (ap₂ _&&_ (ap (λ (x : Tally). leb early (lastPlace (x .profile))) t ∙ ap (λ (x : Profile). leb early (lastPlace x)) (fr .profile) ∙ o .early)
+    (ap₂ _&&_ (ap (λ (x : Profile). leb early (lastPlace x)) (fr .profile) ∙ o .early)
     (ap (λ (s : Signal). allZero (s .refused)) (capture-signal p w last) ∙ refused-of w last))))
 
 -- the verdict, by the three tests
@@ -639,7 +641,7 @@ by-tests : (p : Profile) (w : List Answer) (last : Answer) (lost : Bool)
 unfolding verdictOf byFrames
 by-tests p w last lost =
     let f : Findings = captureFindings p w last in
-    let complete : eqb (f .tally .complete) 0 ≡ not (frameComplete p w last) = ap (λ (x : Tally). eqb (x .complete) 0) (capture-tally p w last) ∙ frames-of p w last .complete in
+    let complete : eqb (f .tally .complete) 0 ≡ not (frameComplete p w last) = none-so isComplete (f .tally .complete) (captureRulings p w last) (counts-rulings p w last .complete) in
     let frames : byFrames f lost ≡ cond (frameComplete p w last) (cond (allInOrder p w last lost) Good CheckTheClip) NotGood
     = ap₂ (λ (b c : Bool). cond b NotGood (cond c Good CheckTheClip)) complete (in-order p w last lost)
     ∙ other-way (frameComplete p w last) NotGood (cond (allInOrder p w last lost) Good CheckTheClip) in

@@ -11,9 +11,10 @@ use Rattle.stream.specs.Written.{Sent, stream}
 use Rattle.recovery.specs.Calls.{upToEnd}
 use Rattle.frame.specs.declared.Borders.{Borders}
 use Rattle.frame.specs.Calls.{Line, line, IsFrame}
+use Rattle.verdict.specs.declared.Findings.{Findings}
 use Rattle.verdict.specs.declared.Verdict.{Verdict}
-use Rattle.verdict.specs.Verdict.{isLost}
-use Rattle.verdict_laws.specs.CaptureVerdict.{captureVerdict}
+use Rattle.verdict.specs.Verdict.{isLost, verdictOf}
+use Rattle.verdict_laws.specs.CaptureVerdict.{captureFindings}
 
 -- the lines of frames, one frame straight after another
 abbrev pub allLines : List (List Sent) → List Sent
@@ -47,8 +48,12 @@ pub data FramesWithin (most : ℕ) : List (List Sent) → Type 0 where
   none-within : FramesWithin most []
   one-within : {ss : List Sent} {fs : List (List Sent)} → length (stream ss) ≤ most → FramesWithin most fs → FramesWithin most (ss ∷ fs)
 
--- the verdict on a capture of these nibbles: from what each of them and finish are answered, and how much text the last mark has
+-- what is found of a capture of these nibbles: from what each of them and finish are answered; and the verdict on it: from that, and how much
+-- text the last mark has
+abbrev pub findingsOn : Profile → List ℕ → Findings
+findingsOn p w = captureFindings p (map answerFor (outcomes p fresh w)) (answerFor (finish p (run p fresh w) .outcome))
+
 abbrev pub verdictOn : Profile → List ℕ → Verdict
 verdictOn p w =
     let x : State = run p fresh w in
-    captureVerdict p (map answerFor (outcomes p fresh w)) (answerFor (finish p x .outcome)) (isLost p (x .at) (length (x .text)))
+    verdictOf (findingsOn p w) (isLost p (x .at) (length (x .text)))

@@ -160,7 +160,7 @@ ended-whole p cur l g v n = go (complete-frame p cur l v)
 
 -- All lines.
 
-abbrev isBroken : Line → Bool
+abbrev pub isBroken : Line → Bool
 isBroken l = not (isWhole l)
 
 frame-by-frame : (p : Profile) (cur ls : List Line) (j : Judge) → after p Waiting cur ≡ j → length cur ≡ placeOf j → allGoing (rulings p Waiting cur) ≡ true
@@ -240,7 +240,7 @@ eight-not-broken : (n : ℕ) → eqb n endWithoutLine ≡ true → isBrokenLine 
 unfolding isBrokenLine
 eight-not-broken n e = ap isBrokenLine (eqb-true n endWithoutLine e)
 
-first-not-broken : (w v : List Answer) → some isRefused (fromStart (w ++ v)) ≡ false → some isBroken (allHanded w) ≡ false
+pub first-not-broken : (w v : List Answer) → some isRefused (fromStart (w ++ v)) ≡ false → some isBroken (allHanded w) ≡ false
 first-not-broken [] v h = refl
 first-not-broken (answer.Nothing ∷ w) v h = first-not-broken w v h
 first-not-broken (answer.Line f ∷ w) v h = none-broken (answer.Line f ∷ w) v h

@@ -122,7 +122,7 @@ verdict-told p {w} q =
     (end-ends l (holds p Frames q (noFindings p) (freshReader p) fresh (fresh-follows p) .mode-same))
 
 -- a clean stream's nibbles are nibbles
-nibbles-small : {w : List ℕ} → AllNibbles w → Small w
+pub nibbles-small : {w : List ℕ} → AllNibbles w → Small w
 nibbles-small no-nibble = small-none
 nibbles-small (and-nibble {n} l h) = small-more {n = n} (omega arith) (nibbles-small h)
 

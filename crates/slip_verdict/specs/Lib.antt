@@ -1,0 +1,3 @@
+pub mod SlipVerdict
+pub mod SlipVerdictLaws
+pub mod Examples
