@@ -1,11 +1,10 @@
--- How much of a piece is taken, how long a text can be, and that a capture in pieces is listed as it is whole.
-use mathlib.Core.Path.{_≡_, refl, _∙_, ap, sym}
+-- How much of a piece is taken, and how long a text can be.
 use mathlib.Core.Bool.{Bool, true, false, cond}
-use mathlib.Core.List.{List, [], _∷_, _++_, append-assoc}
+use mathlib.Core.List.{List, [], _∷_}
 use Prim.Native.Nat.{ℕ, suc, _-_, _≤_}
 use native.Mathlib.Omega.{arith}
 use lib.Dec.{ltb}
-use lib.ListN.{length, take, drop, take-append-drop}
+use lib.ListN.{length}
 use Rattle.reader.specs.Reader.{passes}
 use Rattle.stream.specs.declared.Answer.{Answer}
 use Rattle.verdict.specs.declared.Found.{Found}
@@ -15,7 +14,7 @@ use Rattle.listing.specs.FramesLaws.{news-short}
 use Rattle.capture_lister.specs.declared.Mode.{Mode}
 use Rattle.capture_lister.specs.declared.Mode.the-variants.{Rows, Frames}
 use Rattle.capture_lister.specs.declared.Lister.{Lister}
-use Rattle.capture_lister.specs.Listed.{textOf, afterNibble, nibbleText, listAfter, listText, takenFrom, takenOf, listedOf}
+use Rattle.capture_lister.specs.Listed.{textOf, afterNibble, nibbleText, takenFrom, takenOf}
 
 -- no more than there are
 
@@ -39,34 +38,3 @@ pub text-short : (m : Mode) (d : Found) (a : Answer) → length (textOf m d a) �
 unfolding textOf
 text-short Rows d a = row-short (d .findings .tally .marks) a
 text-short Frames d a = news-short (d .news)
-
--- In pieces.
-
--- nibbles, and nibbles after them
-pub after-append : (v w : List ℕ) (l : Lister) → listAfter l (v ++ w) ≡ listAfter (listAfter l v) w
-after-append [] w l = refl
-after-append (n ∷ v) w l = after-append v w (afterNibble l n)
-
-pub text-append : (v w : List ℕ) (l : Lister) → listText l (v ++ w) ≡ listText l v ++ listText (listAfter l v) w
-text-append [] w l = refl
-text-append (n ∷ v) w l =
-    ap (λ x. nibbleText l n ++ x) (text-append v w (afterNibble l n)) ∙ sym (append-assoc (nibbleText l n) (listText (afterNibble l n) v) _)
-
--- calls one after another, each with a buffer of some length and the nibbles that the one before left, until none is left: the lister after
--- them, and their texts end to end
-pub data Calls : Lister → List ℕ → Lister → List ℕ → Type 0 where
-  no-call : (l : Lister) → Calls l [] l []
-  call : (l : Lister) (w : List ℕ) (room : ℕ) (m : Lister) (text : List ℕ)
-      → Calls (listedOf l room w .lister) (drop (listedOf l room w .taken) w) m text → Calls l w m (listedOf l room w .text ++ text)
-
--- they list what the nibbles one by one do, whatever the buffers
-pub calls-list : {l m : Lister} {w text : List ℕ} → Calls l w m text → (m ≡ listAfter l w) × (text ≡ listText l w)
-unfolding listedOf
-calls-list (no-call l) = (refl, refl)
-calls-list (call l w room m text c) =
-    let k = takenOf l room w in
-    let p = calls-list c in
-    let e = take-append-drop k w in (
-      p .0 ∙ sym (after-append (take k w) (drop k w) l) ∙ ap (listAfter l) e,
-      ap (λ v. listText l (take k w) ++ v) (p .1) ∙ sym (text-append (take k w) (drop k w) l) ∙ ap (listText l) e,
-    )

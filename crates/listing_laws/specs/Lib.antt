@@ -1,0 +1,2 @@
+pub mod ListerCalls
+pub mod ListerCallsLaws
