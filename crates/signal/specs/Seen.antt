@@ -3,7 +3,7 @@ use mathlib.Core.Path.{_≡_}
 use mathlib.Core.Bool.{Bool, true, false, cond}
 use mathlib.Core.List.{List, [], _∷_, _++_}
 use mathlib.Core.Option.{Option, none, some}
-use Prim.Native.Nat.{ℕ, _<_}
+use Prim.Native.Nat.{ℕ, _<_, min, max}
 use lib.Dec.{eqb}
 use lib.ListN.{getD}
 use Rattle.refusal.specs.Refusal.{endWithoutLine}
@@ -86,6 +86,21 @@ isUnnamed (some q) = false
 abbrev pub isOther : Nibbles → Bool
 isOther n = isUnnamed (rateOf n)
 
+-- those that are not named, in nibbles
+abbrev pub otherPeriods : List Nibbles → List ℕ
+otherPeriods [] = []
+otherPeriods (n ∷ ns) = cond (isOther n) (n .0 ∷ otherPeriods ns) (otherPeriods ns)
+
+-- the least and the greatest of some numbers, 0 where there are none
+abbrev pub leastOf : List ℕ → ℕ
+leastOf [] = 0
+leastOf (n ∷ []) = n
+leastOf (n ∷ m ∷ ns) = min n (leastOf (m ∷ ns))
+
+abbrev pub greatestOf : List ℕ → ℕ
+greatestOf [] = 0
+greatestOf (n ∷ ns) = max n (greatestOf ns)
+
 -- the first mark's answer says whether the capture began inside a line: it is an end of line without a line
 abbrev pub firstOf : List Answer → First
 firstOf [] = Unseen
@@ -94,7 +109,7 @@ firstOf (Line f ∷ w) = Other
 firstOf (Gap g ∷ w) = Other
 firstOf (Refused n ∷ w) = cond (eqb n endWithoutLine) InsideLine Other
 
--- The counts of a capture, by its answers and finish's, all at once.
+-- The counts of a capture, and the least and the greatest of its other periods, by its answers and finish's, all at once.
 pub record CountsAnswers (w : List Answer) (last : Answer) : Type 0 where
   pub first : captureSignal w last .first ≡ firstOf (w ++ (last ∷ []))
   pub lines : captureSignal w last .lines ≡ counting isLineAnswer 0 (answersOf w last)
@@ -103,3 +118,5 @@ pub record CountsAnswers (w : List Answer) (last : Answer) : Type 0 where
   pub thirty : captureSignal w last .spacing .thirty ≡ counting (isAt 30) 0 (periods (answersOf w last))
   pub twentyfive : captureSignal w last .spacing .twentyfive ≡ counting (isAt 25) 0 (periods (answersOf w last))
   pub others : captureSignal w last .spacing .others ≡ counting isOther 0 (periods (answersOf w last))
+  pub least : captureSignal w last .spacing .least ≡ leastOf (otherPeriods (periods (answersOf w last)))
+  pub greatest : captureSignal w last .spacing .greatest ≡ greatestOf (otherPeriods (periods (answersOf w last)))

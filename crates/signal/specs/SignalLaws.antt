@@ -1,16 +1,16 @@
--- Laws of the signal: each count is the count of the answers.
+-- Laws of the signal: each count is the count of the answers, and the least and the greatest other period are those of the answers.
 use mathlib.Core.Path.{_≡_, refl, _∙_, ap, sym, subst}
 use mathlib.Core.Bool.{Bool, true, false, true≢false, _||_, cond}
 use mathlib.Core.List.{List, [], _∷_, _++_, append-nil}
 use mathlib.Core.Option.{Option, none, some}
-use Prim.Native.Nat.{ℕ, zero, suc, _<_}
+use Prim.Native.Nat.{ℕ, zero, suc, _<_, min, max}
 use native.Mathlib.Omega.{arith}
-use lib.Dec.{eqb}
+use lib.Dec.{eqb, ltb}
 use lib.ListN.{length, getD, replicate}
-use borrow.Author.Tests.{eqb-true}
+use borrow.Author.Tests.{ltb-true, ltb-false, eqb-true, eqb-false, ne-eqb}
 use Rattle.refusal.specs.Refusal.{unfinishedLine, endWithoutLine, badGap}
 use Rattle.counts.specs.Counts.{oneMore, counting}
-use Rattle.counts.specs.CountsLaws.{counting-append, one-more-length, one-more-there}
+use Rattle.counts.specs.CountsLaws.{one-more-length, one-more-there}
 use Rattle.line_code.specs.declared.Repair.{Repair}
 use Rattle.line_code.specs.declared.Repair.the-variants.{Clean, Bit}
 use Rattle.period.specs.declared.Nibbles.{Nibbles}
@@ -22,8 +22,8 @@ use Rattle.signal.specs.declared.First.{First}
 use Rattle.signal.specs.declared.First.the-variants.{Unseen, InsideLine, Other}
 use Rattle.signal.specs.declared.Spacing.{Spacing}
 use Rattle.signal.specs.declared.Signal.{Signal}
-use Rattle.signal.specs.Signal.{refusals, codeWidth, withRepair, seen, isStart, withFirst, lineSeen, gapSeen, refusalSeen, withPeriod, byRate, freshSignal, takeOf, isCut, closeOf}
-use Rattle.signal.specs.Seen.{signalled, captureSignal, answersOf, fromStart, isRefusal, repairs, isBitNumbered, carried, periods, isRate, isAt, isUnnamed, isOther, firstOf, CountsAnswers}
+use Rattle.signal.specs.Signal.{refusals, codeWidth, withRepair, seen, isStart, withFirst, lineSeen, gapSeen, refusalSeen, lesser, greater, withPeriod, byRate, freshSignal, takeOf, isCut, closeOf}
+use Rattle.signal.specs.Seen.{signalled, captureSignal, answersOf, fromStart, isRefusal, repairs, isBitNumbered, carried, periods, isRate, isUnnamed, otherPeriods, leastOf, greatestOf, firstOf, CountsAnswers}
 
 -- a part of the signal that a first mark alone doesn't change
 by-refusal : {A : Type 0} (part : Signal → A) → ((s : Signal) (f : First) → part (withFirst s f) ≡ part s) → (s : Signal) (n : ℕ)
@@ -131,21 +131,17 @@ repaired-on s (Refused n ∷ w) i h =
 
 -- Periods.
 
--- a count of the periods seen, by what one period does to it
-periods-on : (count : Spacing → ℕ) (which : Nibbles → Bool)
-    → ((s : Spacing) (n : Nibbles) → count (withPeriod s n) ≡ counting which (count s) (carried n))
-    → (s : Signal) (w : List Answer) → count (signalled s w .spacing) ≡ counting which (count (s .spacing)) (periods w)
+-- what is made of the periods seen, by what one period more does to it
+periods-on : (made : Spacing → List Nibbles → ℕ)
+    → ((s : Spacing) (n : Nibbles) (ns : List Nibbles) → made (withPeriod s n) ns ≡ made s (carried n ++ ns))
+    → (s : Signal) (w : List Answer) → made (signalled s w .spacing) [] ≡ made (s .spacing) (periods w)
 unfolding takeOf
-periods-on count which one s [] = refl
-periods-on count which one s (Nothing ∷ w) = periods-on count which one (takeOf s Nothing) w
-periods-on count which one s (Line f ∷ w) = periods-on count which one (takeOf s (Line f)) w
-periods-on count which one s (Gap g ∷ w) =
-    periods-on count which one (takeOf s (Gap g)) w
-    ∙ ap (λ (k : ℕ). counting which k (periods w)) (one (s .spacing) (g .period))
-    ∙ sym (counting-append which (count (s .spacing)) (carried (g .period)) (periods w))
-periods-on count which one s (Refused n ∷ w) =
-    periods-on count which one (takeOf s (Refused n)) w
-    ∙ ap (λ (x : Spacing). counting which (count x) (periods w)) (by-refusal (λ (x : Signal). x .spacing) (λ x f. refl) s n refl)
+periods-on made one s [] = refl
+periods-on made one s (Nothing ∷ w) = periods-on made one (takeOf s Nothing) w
+periods-on made one s (Line f ∷ w) = periods-on made one (takeOf s (Line f)) w
+periods-on made one s (Gap g ∷ w) = periods-on made one (takeOf s (Gap g)) w ∙ one (s .spacing) (g .period) (periods w)
+periods-on made one s (Refused n ∷ w) =
+    periods-on made one (takeOf s (Refused n)) w ∙ ap (λ (x : Spacing). made x (periods w)) (by-refusal (λ (x : Signal). x .spacing) (λ x f. refl) s n refl)
 
 -- the names of periods: 30, 25 or none
 data Named : Option ℕ → Type 0 where
@@ -162,16 +158,26 @@ named n = go (eqb (n .0) 786) (eqb (n .0) 942)
     go false true = twenty-five
     go false false = other
 
--- one period, by its name
-by-name : (count : Spacing → ℕ) (which : Option ℕ → Bool)
-    → ((s : Spacing) (n : ℕ) (o : Option ℕ) → Named o → count (byRate s n o) ≡ cond (which o) (oneMore (count s)) (count s))
-    → (s : Spacing) (n : Nibbles) → count (withPeriod s n) ≡ counting (λ (m : Nibbles). which (rateOf m)) (count s) (carried n)
+-- one period more, by its name
+by-name : (made : Spacing → List Nibbles → ℕ)
+    → ((s : Spacing) (n : Nibbles) (ns : List Nibbles) → (n .0 ≡ 0 → ⊥) → Named (rateOf n) → made (byRate s (n .0) (rateOf n)) ns ≡ made s (n ∷ ns))
+    → (s : Spacing) (n : Nibbles) (ns : List Nibbles) → made (withPeriod s n) ns ≡ made s (carried n ++ ns)
 unfolding withPeriod
-by-name count which f s n = go (eqb (n .0) 0)
+by-name made f s n ns = go (eqb (n .0) 0) refl
   where
-    go : (b : Bool) → count (cond b s (byRate s (n .0) (rateOf n))) ≡ counting (λ (m : Nibbles). which (rateOf m)) (count s) (cond b [] (n ∷ []))
-    go true = refl
-    go false = f s (n .0) (rateOf n) (named n)
+    go : (b : Bool) → eqb (n .0) 0 ≡ b → made (cond b s (byRate s (n .0) (rateOf n))) ns ≡ made s (cond b [] (n ∷ []) ++ ns)
+    go true e = refl
+    go false e = f s n ns (eqb-false (n .0) 0 e) (named n)
+
+-- a count of them
+counts-on : (count : Spacing → ℕ) (which : Option ℕ → Bool)
+    → ((s : Spacing) (n : ℕ) (o : Option ℕ) → Named o → count (byRate s n o) ≡ cond (which o) (oneMore (count s)) (count s))
+    → (s : Signal) (w : List Answer) → count (signalled s w .spacing) ≡ counting (λ (n : Nibbles). which (rateOf n)) (count (s .spacing)) (periods w)
+counts-on count which f =
+    let which-period : Nibbles → Bool = λ n. which (rateOf n) in
+    periods-on (λ (s : Spacing) (ns : List Nibbles). counting which-period (count s) ns)
+    (by-name (λ (s : Spacing) (ns : List Nibbles). counting which-period (count s) ns)
+    (λ s n ns g h. ap (λ (k : ℕ). counting which-period k ns) (f s (n .0) (rateOf n) h)))
 
 thirty-by : (s : Spacing) (n : ℕ) (o : Option ℕ) → Named o → byRate s n o .thirty ≡ cond (isRate 30 o) (oneMore (s .thirty)) (s .thirty)
 thirty-by s n _ thirty = refl
@@ -187,6 +193,88 @@ others-by : (s : Spacing) (n : ℕ) (o : Option ℕ) → Named o → byRate s n 
 others-by s n _ thirty = refl
 others-by s n _ twenty-five = refl
 others-by s n _ other = refl
+
+-- The least and the greatest of the other periods.
+
+-- the least so far, if there is one
+abbrev ifAny : ℕ → List ℕ
+ifAny least = cond (eqb least 0) [] (least ∷ [])
+
+only-least : (m : ℕ) → leastOf (ifAny m ++ []) ≡ m
+only-least m = go (eqb m 0) refl
+  where
+    go : (b : Bool) → eqb m 0 ≡ b → leastOf (cond b [] (m ∷ []) ++ []) ≡ m
+    go true e = sym (eqb-true m 0 e)
+    go false e = refl
+
+-- the lesser of two in front
+least-two : (m n : ℕ) (ns : List ℕ) → leastOf (min m n ∷ ns) ≡ leastOf (m ∷ n ∷ ns)
+least-two m n [] = refl
+least-two m n (k ∷ ns) = three (leastOf (k ∷ ns))
+  where
+    three : (l : ℕ) → min (min m n) l ≡ min m (min n l)
+    three l = omega arith
+
+lesser-min : (m n : ℕ) → (m ≡ 0 → ⊥) → lesser m n ≡ min m n
+unfolding lesser
+lesser-min m n h = ap (λ (b : Bool). cond b n (cond (ltb n m) n m)) (ne-eqb m 0 h) ∙ go (ltb n m) refl
+  where
+    go : (b : Bool) → ltb n m ≡ b → cond b n m ≡ min m n
+    go true e = let l = ltb-true n m e in omega arith
+    go false e = let l = ltb-false n m e in omega arith
+
+some-least : (m : ℕ) → (m ≡ 0 → ⊥) → (ns : List ℕ) → leastOf (ifAny m ++ ns) ≡ leastOf (m ∷ ns)
+some-least m h ns = ap (λ (b : Bool). leastOf (cond b [] (m ∷ []) ++ ns)) (ne-eqb m 0 h)
+
+above : (m : ℕ) → (m ≡ 0 → ⊥) → 0 < m
+above zero h = absurd (h refl)
+above (suc m) h = omega arith
+
+least-more : (m n : ℕ) (ns : List ℕ) → (n ≡ 0 → ⊥) → leastOf (ifAny (lesser m n) ++ ns) ≡ leastOf (ifAny m ++ (n ∷ ns))
+unfolding lesser
+least-more m n ns h = go (eqb m 0) refl
+  where
+    go : (b : Bool) → eqb m 0 ≡ b → leastOf (ifAny (lesser m n) ++ ns) ≡ leastOf (cond b [] (m ∷ []) ++ (n ∷ ns))
+    go true e = ap (λ (b : Bool). leastOf (ifAny (cond b n (cond (ltb n m) n m)) ++ ns)) e ∙ some-least n h ns
+    go false e =
+        let g = eqb-false m 0 e in
+        ap (λ (k : ℕ). leastOf (ifAny k ++ ns)) (lesser-min m n g) ∙ some-least (min m n) (λ q. omega (arith, q, above m g, above n h)) ns ∙ least-two m n ns
+
+least-by : (s : Spacing) (n : ℕ) (o : Option ℕ) → (n ≡ 0 → ⊥) → Named o → (ns : List ℕ)
+    → leastOf (ifAny (byRate s n o .least) ++ ns) ≡ leastOf (ifAny (s .least) ++ cond (isUnnamed o) (n ∷ ns) ns)
+least-by s n _ h thirty ns = refl
+least-by s n _ h twenty-five ns = refl
+least-by s n _ h other ns = least-more (s .least) n ns h
+
+least-on : (s : Signal) (w : List Answer) → signalled s w .spacing .least ≡ leastOf (ifAny (s .spacing .least) ++ otherPeriods (periods w))
+least-on s w =
+    let made : Spacing → List Nibbles → ℕ = λ x ns. leastOf (ifAny (x .least) ++ otherPeriods ns) in
+    sym (only-least (signalled s w .spacing .least)) ∙ periods-on made (by-name made (λ x n ns h o. least-by x (n .0) (rateOf n) h o (otherPeriods ns))) s w
+
+greater-max : (m n : ℕ) → greater m n ≡ max m n
+unfolding greater
+greater-max m n = go (ltb m n) refl
+  where
+    go : (b : Bool) → ltb m n ≡ b → cond b n m ≡ max m n
+    go true e = let l = ltb-true m n e in omega arith
+    go false e = let l = ltb-false m n e in omega arith
+
+greatest-by : (s : Spacing) (n : ℕ) (o : Option ℕ) → Named o → (ns : List ℕ)
+    → max (byRate s n o .greatest) (greatestOf ns) ≡ max (s .greatest) (greatestOf (cond (isUnnamed o) (n ∷ ns) ns))
+greatest-by s n _ thirty ns = refl
+greatest-by s n _ twenty-five ns = refl
+greatest-by s n _ other ns = ap (λ (k : ℕ). max k (greatestOf ns)) (greater-max (s .greatest) n) ∙ three (s .greatest) (greatestOf ns)
+  where
+    three : (g l : ℕ) → max (max g n) l ≡ max g (max n l)
+    three g l = omega arith
+
+greatest-on : (s : Signal) (w : List Answer) → signalled s w .spacing .greatest ≡ max (s .spacing .greatest) (greatestOf (otherPeriods (periods w)))
+greatest-on s w =
+    let made : Spacing → List Nibbles → ℕ = λ x ns. max (x .greatest) (greatestOf (otherPeriods ns)) in
+    alone (signalled s w .spacing .greatest) ∙ periods-on made (by-name made (λ x n ns h o. greatest-by x (n .0) (rateOf n) o (otherPeriods ns))) s w
+  where
+    alone : (n : ℕ) → n ≡ max n 0
+    alone n = omega arith
 
 -- The first mark.
 
@@ -288,7 +376,8 @@ first-closed w last = either (isCut last) refl ∙ sym (ap (λ (s : Signal). s .
     either true e = cut-first (before .first) last e ∙ sym (first-on before (last ∷ []))
     either false e = refl
 
--- every count of a capture is the count of its answers, but for finish's where the end cut off a line or a gap
+-- the law: every count of a capture is the count of its answers, and the least and the greatest other period are theirs, but for finish's answer where
+-- the end cut off a line or a gap
 pub counts-answers : (w : List Answer) (last : Answer) → CountsAnswers w last
 counts-answers w last =
     record {
@@ -296,7 +385,12 @@ counts-answers w last =
       lines = closed (λ (s : Signal). s .lines) (λ s f. refl) w last ∙ lines-on freshSignal (answersOf w last);
       refused = λ n h. closed (λ (s : Signal). getD (s .refused) n 0) (λ s f. refl) w last ∙ refused-first freshSignal (answersOf w last) n refl h ∙ ap (λ (k : ℕ). counting (isRefusal n) k (fromStart (answersOf w last))) (zeros refusals n);
       repaired = λ i h. closed (λ (s : Signal). getD (s .repaired) i 0) (λ s f. refl) w last ∙ repaired-on freshSignal (answersOf w last) i h ∙ ap (λ (k : ℕ). counting (isBitNumbered i) k (repairs (answersOf w last))) (zeros codeWidth i);
-      thirty = closed (λ (s : Signal). s .spacing .thirty) (λ s f. refl) w last ∙ periods-on (λ (s : Spacing). s .thirty) (isAt 30) (by-name (λ (s : Spacing). s .thirty) (isRate 30) thirty-by) freshSignal (answersOf w last);
-      twentyfive = closed (λ (s : Signal). s .spacing .twentyfive) (λ s f. refl) w last ∙ periods-on (λ (s : Spacing). s .twentyfive) (isAt 25) (by-name (λ (s : Spacing). s .twentyfive) (isRate 25) twenty-five-by) freshSignal (answersOf w last);
-      others = closed (λ (s : Signal). s .spacing .others) (λ s f. refl) w last ∙ periods-on (λ (s : Spacing). s .others) isOther (by-name (λ (s : Spacing). s .others) isUnnamed others-by) freshSignal (answersOf w last);
+      thirty = closed (λ (s : Signal). s .spacing .thirty) (λ s f. refl) w last ∙ counts-on (λ (s : Spacing). s .thirty) (isRate 30) thirty-by freshSignal (answersOf w last);
+      twentyfive = closed (λ (s : Signal). s .spacing .twentyfive) (λ s f. refl) w last ∙ counts-on (λ (s : Spacing). s .twentyfive) (isRate 25) twenty-five-by freshSignal (answersOf w last);
+      others = closed (λ (s : Signal). s .spacing .others) (λ s f. refl) w last ∙ counts-on (λ (s : Spacing). s .others) isUnnamed others-by freshSignal (answersOf w last);
+      least = closed (λ (s : Signal). s .spacing .least) (λ s f. refl) w last ∙ least-on freshSignal (answersOf w last);
+      greatest = closed (λ (s : Signal). s .spacing .greatest) (λ s f. refl) w last ∙ greatest-on freshSignal (answersOf w last) ∙ none-yet (greatestOf (otherPeriods (periods (answersOf w last))));
     }
+  where
+    none-yet : (n : ℕ) → max 0 n ≡ n
+    none-yet n = omega arith
