@@ -25,7 +25,7 @@ use Rattle.profile.specs.Layout.{rules, fits, gapFits}
 use Rattle.stream.specs.declared.Before.{Before}
 use Rattle.stream.specs.declared.Before.the-variants.{NoLine, RefusedLine, HandedOut}
 use Rattle.stream.specs.Answers.{facts, Outcome, line, refused, require, bytesOnto, lineFrom, goodGap, lineNibbles, periodOf, turned, allF, afterCode, gapFrom, gapAnswer, byMeaning, byReading, answerOf}
-use Rattle.recovery.specs.Periods.{bytes-length}
+use Rattle.stream.specs.TextLengthLaws.{bytes-length}
 use Rattle.recovery.specs.AnswerTable.{Reserved, reserved-EC, reserved-F1, LineLaid, LineBefore, line-refused, line-handed, GapLaid, only-F, two-then-F, LineTable, wrong-length, bad-number, bad-body, no-end, a-line, Table, damaged, reserved, unfinished, of-line, without-line, bad-gap, a-gap}
 
 required : (A : Outcome → Type 0) (t : Bool) (n : ℕ) (o : Outcome) → (t ≡ false → A (refused n)) → (t ≡ true → A o) → A (require t n o)

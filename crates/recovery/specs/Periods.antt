@@ -6,7 +6,6 @@ use mathlib.Core.List.{List, [], _∷_, _++_}
 use mathlib.Core.Option.{Option, none, some}
 use Prim.Native.Nat.{ℕ, suc, _+_, _-_, _*_, _/_, _%_, _≤_, min}
 use native.Mathlib.Omega.{arith}
-use lib.Dec.{eqb}
 use lib.ListN.{length, replicate, length-append, length-replicate}
 use borrow.Author.Tests.{eqb-true}
 use Rattle.refusal.specs.Refusal.{wrongLength, badNumber, badBody, noEndOfLine, badGap}
@@ -30,67 +29,14 @@ use Rattle.stream.specs.declared.GapFacts.{GapFacts}
 use Rattle.stream.specs.declared.Mark.{Mark}
 use Rattle.stream.specs.declared.Mark.the-variants.{NoMark, Open}
 use Rattle.stream.specs.Answers.{Outcome, nothing, line, gap, refused, isLine, require, bytesOnto, lineFrom, goodGap, lineNibbles, groupNibbles, periodOf, turned, afterCode, gapFrom, byMeaning, byReading, answerOf}
+use Rattle.stream.specs.TextLengthLaws.{no-line-gap, line-length}
 use Rattle.stream.specs.Stream.{State, fresh, group, Completed, not-yet, mark, detect, beforeBy, answerAt, advance, step, finish, run}
 use Rattle.stream.specs.Written.{Sent, Writable, content, endMark, tail, written}
+use Rattle.stream.specs.NibblesLaws.{nibbles-length}
 use Rattle.recovery.specs.Calls.{gapAsSent, markNibbles}
 use Rattle.recovery.specs.MarkPlaces.{Noted, noted, notedFrom, marksOf, periodBy}
-use Rattle.stream.specs.NibblesLaws.{nibbles-length}
 use Rattle.recovery.specs.ReadBack.{body-long}
 use Rattle.recovery.specs.Marks.{onto, isMark, Since, all-taken, since-group, kept-completes, kept-step, detected}
-
--- A line that is handed out has a text of fixed length.
-
-pub bytes-length : (t bs cs : List ℕ) → bytesOnto t bs ≡ some cs → length t + 2 * length bs ≡ 2 * length cs
-bytes-length [] bs cs h = let e : bs ≡ cs = cc in omega (arith, ap length e)
-bytes-length (l ∷ []) bs cs h = cc
-bytes-length (l ∷ u ∷ t) bs cs h = omega (arith, bytes-length t ((16 * u + l) ∷ bs) cs h)
-
-require-line : (t : Bool) (n : ℕ) (o : Outcome) → isLine (require t n o) ≡ true → (t ≡ true) × (isLine o ≡ true)
-unfolding require
-require-line true n o h = (refl, h)
-require-line false n o h = absurd (true≢false (sym h))
-
-line-from : (p : Profile) (k : Kind) (r : Repair) (t : List ℕ) (next : Reading) (bytes : Option (List ℕ)) → bytesOnto t [] ≡ bytes
-    → isLine (lineFrom p k r bytes next) ≡ true → length t ≡ lineNibbles p
-line-from p k r t next none e h = absurd (true≢false (sym h))
-line-from p k r t next (some []) e h = absurd (true≢false (sym h))
-line-from p k r t next (some (c ∷ [])) e h = absurd (true≢false (sym h))
-line-from p k r t next (some (c ∷ a ∷ [])) e h = absurd (true≢false (sym h))
-line-from p k r t next (some (c ∷ a ∷ b ∷ body)) e h =
-    let l = eqb-true (length body) (bodyLength p) (require-line (eqb (length body) (bodyLength p)) wrongLength _ h .0) in
-    omega (arith, l, bytes-length t [] (c ∷ a ∷ b ∷ body) e)
-
-not-gap : (t : Bool) (n m a b : ℕ) → isLine (require t n (goodGap m a b)) ≡ true → ⊥
-unfolding require goodGap
-not-gap true n m a b h = true≢false (sym h)
-not-gap false n m a b h = true≢false (sym h)
-
-no-line-gap : (p : Profile) (k : Kind) (n : ℕ) (w : List ℕ) → isLine (gapFrom p k n w) ≡ true → ⊥
-no-line-gap VV5404 k n w h = not-gap _ badGap n _ _ h
-no-line-gap VV5300 k n [] h = true≢false (sym h)
-no-line-gap VV5300 k n (x ∷ []) h = true≢false (sym h)
-no-line-gap VV5300 k n (x ∷ y ∷ []) h = true≢false (sym h)
-no-line-gap VV5300 k n (x ∷ y ∷ z ∷ []) h = true≢false (sym h)
-no-line-gap VV5300 k n (x ∷ y ∷ z ∷ u ∷ w) h = not-gap _ badGap n _ _ h
-
-line-meaning : (p : Profile) (before : Before) (m : Meaning) (r : Repair) (t : List ℕ) (next : ℕ)
-    → isLine (byMeaning p before m r t (some next)) ≡ true → length t ≡ lineNibbles p
-line-meaning p NoLine EndOfLine r t next h = absurd (true≢false (sym h))
-line-meaning p (RefusedLine k) EndOfLine r t next h = absurd (no-line-gap p k _ (afterCode (turned t [])) h)
-line-meaning p (HandedOut k) EndOfLine r t next h = absurd (no-line-gap p k _ (afterCode (turned t [])) h)
-line-meaning p before (Line k) r t next h = line-from p k r t (readingOf next) (bytesOnto t []) refl h
-line-meaning p before ReservedEC r t next h = absurd (true≢false (sym h))
-line-meaning p before ReservedF1 r t next h = absurd (true≢false (sym h))
-
-line-reading : (p : Profile) (before : Before) (c : Reading) (t : List ℕ) (next : ℕ)
-    → isLine (byReading p before c t (some next)) ≡ true → length t ≡ lineNibbles p
-line-reading p before (Says m r) t next h = line-meaning p before m r t next h
-line-reading p before Damaged t next h = absurd (true≢false (sym h))
-
-pub line-length : (p : Profile) (before : Before) (code : ℕ) (t : List ℕ) (next : ℕ)
-    → isLine (answerOf p before code t (some next)) ≡ true → length t ≡ lineNibbles p
-unfolding answerOf
-line-length p before code t next h = line-reading p before (readingOf code) t next h
 
 -- A gap's period is the one that its mark has for it.
 

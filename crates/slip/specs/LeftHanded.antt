@@ -24,6 +24,7 @@ use Rattle.stream.specs.declared.Before.{Before}
 use Rattle.stream.specs.declared.Mark.{Mark}
 use Rattle.stream.specs.declared.Mark.the-variants.{NoMark, Open}
 use Rattle.stream.specs.Answers.{Outcome, nothing, line, gap, refused, isLine, require, bytesOnto, lineFrom, lineNibbles, byReading, answerOf}
+use Rattle.stream.specs.TextLengthLaws.{bytes-length}
 use Rattle.stream.specs.Stream.{State, Completed, not-yet, mark, group, strip, markIf, detect, answerAt, advance, run}
 use Rattle.stream.specs.Written.{Sent, Writable, markOf, startMark, endMark, tail}
 use Rattle.frame.specs.declared.Handed.the-variants as hand
@@ -35,7 +36,6 @@ use Rattle.recovery.specs.Collected.{collected, collected-nothings}
 use Rattle.recovery.specs.Resync.{stateWith, opened, becomes, byte-joined}
 use Rattle.recovery.specs.MarkFree.{NoGroup, no-mark}
 use Rattle.recovery.specs.ReadBack.{run-append, gapText, no-group-gap, read-small}
-use Rattle.recovery.specs.Periods.{bytes-length}
 use Rattle.slip.specs.ShortTexts.{other-length, text-before}
 use Rattle.slip.specs.SlipLaws.{withContent}
 use Rattle.slip.specs.Handed.{handedBy, linesHanded, HandsOver, hands-over-then, AtRest, HandsToRest, end-unhanded, mark-handed}

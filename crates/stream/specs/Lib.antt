@@ -1,5 +1,6 @@
 pub mod Answers
 pub mod AnswersLaws
+pub mod TextLengthLaws
 pub mod Stream
 pub mod Written
 pub mod NibblesLaws
