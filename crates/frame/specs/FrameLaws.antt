@@ -130,7 +130,15 @@ passes-high p place Unsettled h = omega (arith, settling-early p, within-high 1 
 passes-high p place On h = within-high (settlingPlace p + 1) (lastPlace p) place h
 passes-high p place Off h = within-high (settlingPlace p + 1) (lastPlace p) place h
 
--- Runs of calls, one call longer.
+-- Runs of calls: one after another, and one call longer.
+
+pub after-append : (p : Profile) (j : Judge) (ls ms : List Line) → after p j (ls ++ ms) ≡ after p (after p j ls) ms
+after-append p j [] ms = refl
+after-append p j (l ∷ ls) ms = after-append p (called p j l .judge) ls ms
+
+pub rulings-append : (p : Profile) (j : Judge) (ls ms : List Line) → rulings p j (ls ++ ms) ≡ rulings p j ls ++ rulings p (after p j ls) ms
+rulings-append p j [] ms = refl
+rulings-append p j (l ∷ ls) ms = ap (λ (vs : List Ruling). called p j l .ruling ∷ vs) (rulings-append p (called p j l .judge) ls ms)
 
 pub after-snoc : (p : Profile) (j : Judge) (ls : List Line) (l : Line) → after p j (ls ++ (l ∷ [])) ≡ called p (after p j ls) l .judge
 after-snoc p j [] l = refl

@@ -9,5 +9,6 @@ pub mod RunsLaws
 pub mod RunsReached
 pub mod RunAnswers
 pub mod RunAnswersLaws
+pub mod Brought
 pub mod RunBySingles
 pub mod RunBySinglesLaws

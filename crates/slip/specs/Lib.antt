@@ -1,5 +1,4 @@
 pub mod Slip
-pub mod Brought
 pub mod ShortTexts
 pub mod SlipLaws
 pub mod SlipFrames

@@ -27,7 +27,7 @@ use Rattle.frame.specs.declared.Ruling.the-variants as ruling
 use Rattle.frame.specs.declared.Judged.{Judged}
 use Rattle.frame.specs.Frame.{lastPlace, kindAt, standsAt, numberDue, passes, gives, refuses, judgeOf}
 use Rattle.frame.specs.Calls.{Line, line, called, after, rulings, isComplete, fits, laidFrom, IsFrame}
-use Rattle.frame.specs.FrameLaws.{sof-not-due, frame-complete, toComplete, Effect, wrongKind, wrongNumber, waits, breaks, strays, starts, restarts, goes, ends, effect, passes-after}
+use Rattle.frame.specs.FrameLaws.{after-append, rulings-append, sof-not-due, frame-complete, toComplete, Effect, wrongKind, wrongNumber, waits, breaks, strays, starts, restarts, goes, ends, effect, passes-after}
 use Rattle.slip.specs.SlipFrames.{handedAs, WholeFrames, no-frame, and-frame, allLines, allComplete, atSlip, lost}
 use Rattle.slip.specs.LeftHanded.{brokenOne}
 
@@ -36,19 +36,11 @@ record Judging (j : Judge) (ls : List Line) (vs : List Ruling) (k : Judge) : Typ
   told : rulings VV5404 j ls ≡ vs
   leads : after VV5404 j ls ≡ k
 
-rulings-append : (j : Judge) (ls ms : List Line) → rulings VV5404 j (ls ++ ms) ≡ rulings VV5404 j ls ++ rulings VV5404 (after VV5404 j ls) ms
-rulings-append j [] ms = refl
-rulings-append j (l ∷ ls) ms = ap (λ (vs : List Ruling). called VV5404 j l .ruling ∷ vs) (rulings-append (called VV5404 j l .judge) ls ms)
-
-after-append : (j : Judge) (ls ms : List Line) → after VV5404 j (ls ++ ms) ≡ after VV5404 (after VV5404 j ls) ms
-after-append j [] ms = refl
-after-append j (l ∷ ls) ms = after-append (called VV5404 j l .judge) ls ms
-
 judging-then : {j k i : Judge} {ls ms : List Line} {vs ws : List Ruling} → Judging j ls vs k → Judging k ms ws i → Judging j (ls ++ ms) (vs ++ ws) i
 judging-then {j} {k} {i} {ls} {ms} p q =
     record {
-      told = rulings-append j ls ms ∙ ap₂ _++_ (p .told) (ap (λ (x : Judge). rulings VV5404 x ms) (p .leads) ∙ q .told);
-      leads = after-append j ls ms ∙ ap (λ (x : Judge). after VV5404 x ms) (p .leads) ∙ q .leads;
+      told = rulings-append VV5404 j ls ms ∙ ap₂ _++_ (p .told) (ap (λ (x : Judge). rulings VV5404 x ms) (p .leads) ∙ q .told);
+      leads = after-append VV5404 j ls ms ∙ ap (λ (x : Judge). after VV5404 x ms) (p .leads) ∙ q .leads;
     }
 
 judging-one : {j k : Judge} {l : Line} {v : Ruling} → called VV5404 j l ≡ gives k v → Judging j (l ∷ []) (v ∷ []) k
@@ -82,7 +74,7 @@ first-going : (b : Borders) (ls : List Line) (l : Line) (ms : List Line) → IsF
     → rulings VV5404 Waiting ls ≡ replicate (length ls) ruling.Going
 first-going b ls l ms f =
     sym (take-at (rulings VV5404 Waiting ls) (rulings VV5404 (after VV5404 Waiting ls) (l ∷ ms)) (length ls) (rulings-length Waiting ls))
-    ∙ ap (take (length ls)) (sym (rulings-append Waiting ls (l ∷ ms)) ∙ frame-complete VV5404 b (ls ++ (l ∷ ms)) f .0)
+    ∙ ap (take (length ls)) (sym (rulings-append VV5404 Waiting ls (l ∷ ms)) ∙ frame-complete VV5404 b (ls ++ (l ∷ ms)) f .0)
     ∙ take-replicate (length ls) (lastPlace VV5404) ruling.Going (ruling.Complete ∷ []) (omega (arith, f .0, length-append ls (l ∷ ms)))
 
 -- after Going the judge is within a frame
@@ -190,9 +182,9 @@ frame-lost b front s back f more =
     }
 
 -- where neither of two lists has one that is so, nor has the whole
-pub some-append : (which : Ruling → Bool) (u v : List Ruling) → some which u ≡ false → some which v ≡ false → some which (u ++ v) ≡ false
-some-append which [] v h k = k
-some-append which (x ∷ u) v h k = go (which x) h (some-append which u v)
+pub none-both : (which : Ruling → Bool) (u v : List Ruling) → some which u ≡ false → some which v ≡ false → some which (u ++ v) ≡ false
+none-both which [] v h k = k
+none-both which (x ∷ u) v h k = go (which x) h (none-both which u v)
   where
     go : (b : Bool) → (b || some which u) ≡ false → (some which u ≡ false → some which v ≡ false → some which (u ++ v) ≡ false) → (b || some which (u ++ v)) ≡ false
     go true e more = absurd (true≢false e)
@@ -209,7 +201,7 @@ slip-incomplete (s ∷ ss) = refl
 -- none of its rulings is Complete
 pub lost-incomplete : (front back : List Sent) (more : ℕ) → some isComplete (lost front back more) ≡ false
 lost-incomplete front back more =
-    some-append isComplete (replicate (length front) ruling.Going) _ (none-all isComplete ruling.Going refl (length front))
+    none-both isComplete (replicate (length front) ruling.Going) _ (none-all isComplete ruling.Going refl (length front))
     (ap₂ _||_ (slip-incomplete front) (none-all isComplete ruling.Waiting refl (more + length back)))
 
 -- where line 0 slipped, all of them are Waiting: neither 18 nor 19 comes

@@ -19,11 +19,11 @@ use Rattle.recovery.specs.Collected.{collected, collected-append}
 use Rattle.recovery.specs.CallAnswers.{broughtBy}
 use Rattle.refinement.specs.Runs.{RunCall, runResult, runsCollected}
 use Rattle.refinement.specs.RunAnswers.{runsFinish}
+use Rattle.refinement.specs.Brought.{ofEach, of-each, calls-bring}
 use Rattle.frame.specs.declared.Judge.the-variants.{Waiting}
 use Rattle.frame.specs.Calls.{Line, rulings}
 use Rattle.frame.specs.Handing.{handedLines, allHanded}
 use Rattle.slip.specs.Slip.{slipped, Inside}
-use Rattle.slip.specs.Brought.{ofEach, of-each, calls-bring}
 use Rattle.slip.specs.SlipLaws.{parted, withContent, leftOf, left-short, slipped-is}
 use Rattle.slip.specs.SlipFrames.{handedAs, allLines, runsAnswers, CostsOneFrame}
 use Rattle.slip.specs.Handed.{handedBy, linesHanded, call-unhanded, hands-over-then, fresh-at-rest, HandsToRest, lines-handed}

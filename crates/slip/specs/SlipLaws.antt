@@ -30,8 +30,8 @@ use Rattle.recovery.specs.ReadBack.{outcomes-append, body-long}
 use Rattle.recovery.specs.Damage.{clean-lines}
 use Rattle.recovery.specs.CallAnswers.{broughtBy}
 use Rattle.refinement.specs.RunAnswers.{runsFinish}
+use Rattle.refinement.specs.Brought.{calls-bring}
 use Rattle.slip.specs.Slip.{beforeBody, slipped, Inside, CostsOneLine}
-use Rattle.slip.specs.Brought.{calls-bring}
 use Rattle.slip.specs.ShortTexts.{short-lines, f-lines}
 
 -- Lists.

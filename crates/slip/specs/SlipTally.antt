@@ -22,7 +22,7 @@ use Rattle.tally.specs.Tally.{freshTally}
 use Rattle.tally.specs.Answered.{tallied}
 use Rattle.tally.specs.TallyLaws.{judged-as-said}
 use Rattle.slip.specs.SlipFrames.{allComplete, lost, atSlip, OneFrameLost, brokenAfter, OneFrameUncounted}
-use Rattle.slip.specs.LostRulings.{some-append, none-all}
+use Rattle.slip.specs.LostRulings.{none-both, none-all}
 
 -- where none of a list is so, the count stays
 none-counted : (which : Ruling → Bool) (n : ℕ) (vs : List Ruling) → some which vs ≡ false → counting which n vs ≡ n
@@ -50,8 +50,8 @@ frames-counted n (f ∷ fs) =
 none-broken : (fs : List (List Sent)) → some isBreak (allComplete fs) ≡ false
 none-broken [] = refl
 none-broken (f ∷ fs) =
-    some-append isBreak (toComplete (lastPlace VV5404)) (allComplete fs)
-    (some-append isBreak (replicate (lastPlace VV5404) ruling.Going) (ruling.Complete ∷ []) (none-all isBreak ruling.Going refl (lastPlace VV5404)) refl) (none-broken fs)
+    none-both isBreak (toComplete (lastPlace VV5404)) (allComplete fs)
+    (none-both isBreak (replicate (lastPlace VV5404) ruling.Going) (ruling.Complete ∷ []) (none-all isBreak ruling.Going refl (lastPlace VV5404)) refl) (none-broken fs)
 
 -- the frame that the slip fell in
 lost-broken : (front back : List Sent) (more : ℕ) → counting isBreak 0 (lost front back more) ≡ brokenAfter front

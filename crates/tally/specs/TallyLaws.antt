@@ -21,7 +21,7 @@ use Rattle.frame.specs.declared.Ruling.the-variants as ruling
 use Rattle.frame.specs.Frame.{lastPlace, passes, refuses, broken, judgeOf, breaksFrame}
 use Rattle.frame.specs.Calls.{Line, line, called, after, rulings, isComplete, isBreak, IsFrame}
 use Rattle.frame.specs.Handing.{isBrokenLine, handedOver, asLines, handedLines, allHanded}
-use Rattle.frame.specs.FrameLaws.{toComplete, frame-complete}
+use Rattle.frame.specs.FrameLaws.{after-append, toComplete, frame-complete}
 use Rattle.counts.specs.Counts.{oneMore, counting}
 use Rattle.counts.specs.CountsLaws.{counted, some}
 use Rattle.tally.specs.declared.Tally.{Tally}
@@ -138,10 +138,6 @@ take-judged t answer.Nothing = nothing-judged t
 take-judged t (answer.Line f) = handing-judged t (handedOver (answer.Line f)) 0
 take-judged t (answer.Gap g) = handing-judged t hand.Nothing 0
 take-judged t (answer.Refused n) = handing-judged t (handedOver (answer.Refused n)) n
-
-after-append : (p : Profile) (j : Judge) (ls ms : List Line) → after p j (ls ++ ms) ≡ after p (after p j ls) ms
-after-append p j [] ms = refl
-after-append p j (l ∷ ls) ms = after-append p (called p j l .judge) ls ms
 
 rulings-counted : (which : Ruling → Bool) (p : Profile) (j : Judge) (n : ℕ) (ls ms : List Line)
     → counting which n (rulings p j (ls ++ ms)) ≡ counting which (counting which n (rulings p j ls)) (rulings p (after p j ls) ms)

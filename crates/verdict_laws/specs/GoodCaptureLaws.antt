@@ -29,12 +29,12 @@ use Rattle.frame.specs.declared.Judged.{Judged}
 use Rattle.frame.specs.Frame.{lastPlace, lineDue, settled, passes, gives, refuses, opens, begun, brokenKind, judgeOf}
 use Rattle.frame.specs.Calls.{Line, line, called, after, rulings, isBreak, accepts, accepted, IsFrame}
 use Rattle.frame.specs.Handing.{isBrokenLine, asLines, allHanded}
-use Rattle.frame.specs.FrameLaws.{passes-high, after-snoc, accepted-snoc, Effect, wrongKind, wrongNumber, waits, breaks, strays, starts, restarts, goes, ends, effect, reached-passes, complete-frame}
+use Rattle.frame.specs.FrameLaws.{passes-high, rulings-append, after-snoc, accepted-snoc, Effect, wrongKind, wrongNumber, waits, breaks, strays, starts, restarts, goes, ends, effect, reached-passes, complete-frame}
 use Rattle.tally.specs.Tally.{isUnfinished}
 use Rattle.verdict.specs.declared.Verdict.the-variants.{Good}
 use Rattle.verdict_laws.specs.CaptureVerdict.{captureVerdict, frameBroken, isOpening, beforeFirst, fromFirst, isWhole, isWaiting, someOutside, fewBefore, lineOutside, isRefused, markRefused}
 use Rattle.verdict_laws.specs.CaptureVerdictLaws.{or-left, or-right, or-neither, whole-line, verdicts}
-use Rattle.verdict_laws.specs.JudgedFrames.{some-append, rulings-append, some-parts, tail-waits}
+use Rattle.verdict_laws.specs.JudgedFrames.{some-append, some-parts, tail-waits}
 use Rattle.verdict_laws.specs.CleanCaptureLaws.{handed-append}
 use Rattle.verdict_laws.specs.GoodCapture.{isGoing, allGoing, FrameByFrame, unfinished, frame-first}
 

@@ -24,7 +24,7 @@ use Rattle.frame.specs.declared.Ruling.the-variants as ruling
 use Rattle.frame.specs.declared.Judged.{Judged}
 use Rattle.frame.specs.Frame.{lastPlace, kindAt, standsAt}
 use Rattle.frame.specs.Calls.{Line, called, after, rulings, isComplete, isBreak, fits, laidFrom, IsFrame}
-use Rattle.frame.specs.FrameLaws.{toComplete, frame-complete, first-is, Effect, wrongKind, wrongNumber, waits, breaks, strays, starts, restarts, goes, ends, effect, reached-passes, after-snoc}
+use Rattle.frame.specs.FrameLaws.{after-append, rulings-append, toComplete, frame-complete, first-is, Effect, wrongKind, wrongNumber, waits, breaks, strays, starts, restarts, goes, ends, effect, reached-passes, after-snoc}
 use Rattle.verdict_laws.specs.CaptureVerdict.{isOpening, beforeFirst, fromFirst, isWhole, wholeLines, isWaiting, someOutside}
 use Rattle.verdict_laws.specs.CaptureVerdictLaws.{or-left, or-right, or-neither, still-waits}
 
@@ -54,14 +54,6 @@ no-breaks (v ∷ vs) h = or-neither (isBreak v) _ (no-break v (or-left (isStray 
 pub some-append : {A : Type 0} (which : A → Bool) (v w : List A) → some which (v ++ w) ≡ (some which v || some which w)
 some-append which [] w = refl
 some-append which (x ∷ v) w = ap (λ (b : Bool). which x || b) (some-append which v w) ∙ sym (or-assoc (which x) (some which v) (some which w))
-
-pub rulings-append : (p : Profile) (j : Judge) (ls ms : List Line) → rulings p j (ls ++ ms) ≡ rulings p j ls ++ rulings p (after p j ls) ms
-rulings-append p j [] ms = refl
-rulings-append p j (l ∷ ls) ms = ap {B = List Ruling} (λ vs. called p j l .ruling ∷ vs) (rulings-append p (called p j l .judge) ls ms)
-
-after-append : (p : Profile) (j : Judge) (ls ms : List Line) → after p j (ls ++ ms) ≡ after p (after p j ls) ms
-after-append p j [] ms = refl
-after-append p j (l ∷ ls) ms = after-append p (called p j l .judge) ls ms
 
 -- of lines in two parts, by the judge between them
 pub some-parts : (which : Ruling → Bool) (p : Profile) (ls ms : List Line) → after p Waiting ls ≡ Waiting
