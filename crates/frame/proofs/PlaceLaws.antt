@@ -14,7 +14,7 @@ use Rattle.frame.specs.declared.Borders.{Borders}
 use Rattle.frame.specs.declared.Borders.the-variants.{Unsettled, On, Off}
 use Rattle.frame.specs.Frame.{layout, kindsOf, lastPlace, settlingPlace, kindAt}
 use Rattle.frame.specs.Places.{kindWithin}
-use Rattle.frame.specs.FrameLaws.{frame-length}
+use Rattle.frame.specs.FrameLength.{frame-length}
 
 kind-past : (p : Profile) (b : Borders) (i : ℕ) → lastPlace p + 1 ≤ i → kindAt p b i ≡ BL
 unfolding kindAt

@@ -1,6 +1,5 @@
 pub mod Frame
+pub mod FrameLength
 pub mod Places
 pub mod Calls
 pub mod Handing
-pub mod FrameLaws
-pub mod Drawn

@@ -28,7 +28,8 @@ use Rattle.frame.specs.declared.Ruling.the-variants as ruling
 use Rattle.frame.specs.Frame.{layout, kindsOf, lastPlace, kindAt, standsAt, kindDue, opens, begun, passes, gives}
 use Rattle.frame.specs.Calls.{Line, called, after, isBreak, accepts, accepted, fits, laidFrom, IsFrame}
 use Rattle.bits.specs.Agree.{agree}
-use Rattle.frame.specs.FrameLaws.{frame-length, passes-high, after-snoc, accepted-snoc, opens-is, first-is, sof-within, IsDue, Effect, wrongKind, wrongNumber, waits, breaks, strays, starts, restarts, goes, ends, effect, reached-passes, complete-frame}
+use Rattle.frame.specs.FrameLength.{frame-length}
+use Rattle.frame_laws.specs.FrameLaws.{passes-high, after-snoc, accepted-snoc, opens-is, first-is, sof-within, IsDue, Effect, wrongKind, wrongNumber, waits, breaks, strays, starts, restarts, goes, ends, effect, reached-passes, complete-frame}
 use Rattle.frame.specs.Handing.{handedOver, asLines, handedLines}
 use Rattle.pixel_order.specs.declared.Way.the-variants.{ToPixels}
 use Rattle.pixel_order.specs.PixelOrderLaws.{reordered-length}

@@ -20,7 +20,7 @@ use Rattle.frame.specs.declared.Ruling.{Ruling}
 use Rattle.frame.specs.declared.Ruling.the-variants as ruling
 use Rattle.frame.specs.Frame.{lastPlace, kindAt, begun, passes, judgeOf}
 use Rattle.frame.specs.Calls.{Line, line, called, rulings, fits, laidFrom, IsFrame}
-use Rattle.frame.specs.FrameLaws.{first-is, sof-within, reached-passes, toComplete, frame-complete}
+use Rattle.frame_laws.specs.FrameLaws.{first-is, sof-within, reached-passes, toComplete, frame-complete}
 use Rattle.frame.specs.Handing.{handedLines}
 use Rattle.pgm.specs.Pgm.{size}
 use Rattle.frame_rows.specs.declared.Order.{Order}

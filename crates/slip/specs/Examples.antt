@@ -26,7 +26,8 @@ use Rattle.frame.specs.declared.Borders.the-variants.{On, Off}
 use Rattle.frame.specs.Frame.{layout, kindsOf}
 use Rattle.frame.specs.Calls.{IsFrame, numberedFrom}
 use Rattle.frame.specs.Calls as judged
-use Rattle.frame.specs.FrameLaws.{frame-length, frame-counted}
+use Rattle.frame.specs.FrameLength.{frame-length}
+use Rattle.frame_laws.specs.FrameLaws.{frame-counted}
 use Rattle.frame.specs.Handing.{isBrokenLine, allHanded}
 use Rattle.slip.specs.Slip.{slipped, Inside}
 use Rattle.slip.specs.SlipFrames.{handedAs, WholeFrames, no-frame, and-frame, allLines}

@@ -27,7 +27,7 @@ use Rattle.frame.specs.declared.Ruling.the-variants as ruling
 use Rattle.frame.specs.declared.Judged.{Judged}
 use Rattle.frame.specs.Frame.{lastPlace, kindAt, standsAt, numberDue, passes, gives, refuses, judgeOf}
 use Rattle.frame.specs.Calls.{Line, line, called, after, rulings, isComplete, fits, laidFrom, IsFrame}
-use Rattle.frame.specs.FrameLaws.{after-append, rulings-append, sof-not-due, frame-complete, toComplete, Effect, wrongKind, wrongNumber, waits, breaks, strays, starts, restarts, goes, ends, effect, passes-after}
+use Rattle.frame_laws.specs.FrameLaws.{after-append, rulings-append, sof-not-due, frame-complete, toComplete, Effect, wrongKind, wrongNumber, waits, breaks, strays, starts, restarts, goes, ends, effect, passes-after}
 use Rattle.slip.specs.SlipFrames.{handedAs, WholeFrames, no-frame, and-frame, allLines, allComplete, atSlip, lost}
 use Rattle.slip.specs.LeftHanded.{brokenOne}
 

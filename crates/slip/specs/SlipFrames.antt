@@ -21,7 +21,7 @@ use Rattle.frame.specs.declared.Ruling.the-variants.{Waiting, Going, Refused}
 use Rattle.frame.specs.Frame.{lastPlace}
 use Rattle.frame.specs.Calls.{Line, line, rulings, isComplete, IsFrame}
 use Rattle.frame.specs.Handing.{allHanded}
-use Rattle.frame.specs.FrameLaws.{toComplete}
+use Rattle.frame_laws.specs.FrameLaws.{toComplete}
 use Rattle.tally.specs.declared.Tally.{Tally}
 use Rattle.slip.specs.Slip.{slipped, Inside}
 

@@ -24,7 +24,7 @@ use Rattle.frame.specs.declared.Ruling.the-variants.{Going, Complete}
 use Rattle.frame.specs.Frame.{lastPlace}
 use Rattle.frame.specs.Calls.{Line, rulings, isComplete}
 use Rattle.frame.specs.Handing.{allHanded}
-use Rattle.frame.specs.FrameLaws.{toComplete}
+use Rattle.frame_laws.specs.FrameLaws.{toComplete}
 use Rattle.tally.specs.Tally.{isUnfinished}
 use Rattle.slip.specs.Slip.{bodyStart, slipped, Inside}
 use Rattle.slip.specs.SlipFrames.{handedAs, WholeFrames, allLines, allComplete, lost, OneFrameLost}

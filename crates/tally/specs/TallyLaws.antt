@@ -21,7 +21,7 @@ use Rattle.frame.specs.declared.Ruling.the-variants as ruling
 use Rattle.frame.specs.Frame.{lastPlace, passes, refuses, broken, judgeOf, breaksFrame}
 use Rattle.frame.specs.Calls.{Line, line, called, after, rulings, isComplete, isBreak, IsFrame}
 use Rattle.frame.specs.Handing.{isBrokenLine, handedOver, asLines, handedLines, allHanded}
-use Rattle.frame.specs.FrameLaws.{after-append, toComplete, frame-complete}
+use Rattle.frame_laws.specs.FrameLaws.{after-append, toComplete, frame-complete}
 use Rattle.counts.specs.Counts.{oneMore, counting}
 use Rattle.counts.specs.CountsLaws.{counted, some}
 use Rattle.tally.specs.declared.Tally.{Tally}

@@ -40,7 +40,7 @@ use Rattle.frame.specs.declared.Judged.{Judged}
 use Rattle.frame.specs.Frame.{lastPlace, gives, refuses, opens, begun, brokenKind, judgeOf, breaksFrame}
 use Rattle.frame.specs.Calls.{Line, line, called, after, rulings, isComplete, isBreak}
 use Rattle.frame.specs.Handing.{isBrokenLine, handedOver, asLines, handedLines, allHanded}
-use Rattle.frame.specs.FrameLaws.{opens-is}
+use Rattle.frame_laws.specs.FrameLaws.{opens-is}
 use Rattle.tally.specs.declared.Tally.{Tally}
 use Rattle.tally.specs.declared.Told.{Told}
 use Rattle.tally.specs.declared.News.{News}

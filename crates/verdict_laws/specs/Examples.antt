@@ -17,7 +17,8 @@ use Rattle.recovery.specs.Examples.{sample, sample-writable}
 use Rattle.frame.specs.declared.Borders.{Borders}
 use Rattle.frame.specs.Frame.{layout, kindsOf, lastPlace}
 use Rattle.frame.specs.Calls.{Line, line, IsFrame, numberedFrom}
-use Rattle.frame.specs.FrameLaws.{frame-length, frame-counted}
+use Rattle.frame.specs.FrameLength.{frame-length}
+use Rattle.frame_laws.specs.FrameLaws.{frame-counted}
 use Rattle.verdict.specs.declared.Verdict.the-variants.{Good}
 use Rattle.verdict_laws.specs.CleanCapture.{judgedLines, AllFrames, no-frames, and-frame, verdictOn}
 use Rattle.verdict_laws.specs.CleanCaptureLaws.{clean-good}

@@ -29,7 +29,7 @@ use Rattle.frame.specs.declared.Judged.{Judged}
 use Rattle.frame.specs.Frame.{lastPlace, lineDue, settled, passes, gives, refuses, opens, begun, brokenKind, judgeOf}
 use Rattle.frame.specs.Calls.{Line, line, called, after, rulings, isBreak, accepts, accepted, IsFrame}
 use Rattle.frame.specs.Handing.{isBrokenLine, asLines, allHanded}
-use Rattle.frame.specs.FrameLaws.{passes-high, rulings-append, after-snoc, accepted-snoc, Effect, wrongKind, wrongNumber, waits, breaks, strays, starts, restarts, goes, ends, effect, reached-passes, complete-frame}
+use Rattle.frame_laws.specs.FrameLaws.{passes-high, rulings-append, after-snoc, accepted-snoc, Effect, wrongKind, wrongNumber, waits, breaks, strays, starts, restarts, goes, ends, effect, reached-passes, complete-frame}
 use Rattle.tally.specs.Tally.{isUnfinished}
 use Rattle.verdict.specs.declared.Verdict.the-variants.{Good}
 use Rattle.verdict_laws.specs.CaptureVerdict.{captureVerdict, frameBroken, isOpening, beforeFirst, fromFirst, isWhole, isWaiting, someOutside, fewBefore, lineOutside, isRefused, markRefused}

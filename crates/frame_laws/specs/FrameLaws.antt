@@ -16,26 +16,18 @@ use Rattle.line_code.specs.LineCode.{kindNumber}
 use Rattle.line_number.specs.LineNumber.{greatest}
 use Rattle.profile.specs.declared.Profile.{Profile}
 use Rattle.profile.specs.declared.Profile.the-variants.{VV5404, VV5300}
 use Rattle.frame.specs.declared.Borders.{Borders}
 use Rattle.frame.specs.declared.Borders.the-variants.{Unsettled, On, Off}
 use Rattle.frame.specs.declared.Judge.{Judge}
 use Rattle.frame.specs.declared.Judge.the-variants.{Waiting, Due}
 use Rattle.frame.specs.declared.Ruling.{Ruling}
 use Rattle.frame.specs.declared.Ruling.the-variants as ruling
 use Rattle.frame.specs.declared.Judged.{Judged}
 use Rattle.frame.specs.Frame.{layout, kindsOf, lastPlace, endPlace, settlingPlace, kindAt, standsAt, kindDue, numberDue, lineDue, settled, within, passes, gives, refuses, opens, begun, brokenKind, broken, astray, whole, judgeOf}
 use Rattle.frame.specs.Calls.{Line, line, called, after, rulings, isComplete, accepts, acceptedOne, accepted, fits, laidFrom, FirstLines, IsFrame, numberedFrom, frameLines}
 use Rattle.bits.specs.Agree.{agree}
 
 -- The layout.
-
-pub frame-length : (p : Profile) (b : Borders) → length (kindsOf (layout p b)) ≡ lastPlace p + 1
-frame-length VV5404 Unsettled = refl
-frame-length VV5404 On = refl
-frame-length VV5404 Off = refl
-frame-length VV5300 Unsettled = refl
-frame-length VV5300 On = refl
-frame-length VV5300 Off = refl
 
 -- the borders are settled after the first line and before the last
 pub settling-late : (p : Profile) → 0 < settlingPlace p
