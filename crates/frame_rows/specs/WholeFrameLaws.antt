@@ -74,25 +74,23 @@ only v (suc zero) e = absurd (let z : _≡_ {A = ℕ} 1 2 = ap length e in omega
 only v (suc (suc m)) e = absurd (let z : _≡_ {A = ℕ} 1 (suc (suc (length (toComplete m)))) = ap length e in omega arith)
 
 -- what is said after these lines and a last one, the rows of the lines being put after those kept
-abbrev Said : Order → List Shown → AfterCall → AfterCall → Type 0
-Said o ls x y = y .output ≡ complete (x .gatherer .kept + length (rowsOf o ls)) (take (x .gatherer .kept) (x .buffer) ++ rowsOf o ls)
+abbrev Said : Order → List Shown → Gatherer → List ℕ → AfterCall → Type 0
+Said o ls s buffer y = y .output ≡ complete (s .kept + length (rowsOf o ls)) (take (s .kept) buffer ++ rowsOf o ls)
 
 -- the lines are due, up to the last one, and there is room for their rows
-record Ready (o : Order) (ls : List Shown) (l : Shown) (x : AfterCall) : Type 0 where
-  order : x .gatherer .order ≡ o
+record Ready (o : Order) (ls : List Shown) (l : Shown) (s : Gatherer) (buffer : List ℕ) : Type 0 where
+  order : s .order ≡ o
   count : ℕ
-  due : rulings VV5404 (x .gatherer .judge) (linesOf (ls ++ (l ∷ []))) ≡ toComplete count
+  due : rulings VV5404 (s .judge) (linesOf (ls ++ (l ∷ []))) ≡ toComplete count
   whole : Every Whole ls
-  room : x .gatherer .kept + length (rowsOf o ls) ≤ length (x .buffer)
+  room : s .kept + length (rowsOf o ls) ≤ length buffer
 
 -- one line of them
-after-line : (o : Order) (a : Shown) (ls : List Shown) (l : Shown) (x : AfterCall) (f : AfterCall → AfterCall) → Ready o (a ∷ ls) l x
-    → ((y : AfterCall) → Ready o ls l y → Said o ls y (f y)) → Said o (a ∷ ls) x (f (handed (x .gatherer) a (x .buffer)))
-after-line o a ls l x f r rest = by (isVisible (a .given .kind)) refl
+after-line : (o : Order) (a : Shown) (ls : List Shown) (l : Shown) (s : Gatherer) (buffer : List ℕ) (f : AfterCall → AfterCall) → Ready o (a ∷ ls) l s buffer
+    → ((next : Gatherer) (held : List ℕ) → Ready o ls l next held → Said o ls next held (f (quiet next held)))
+    → Said o (a ∷ ls) s buffer (f (handed s a buffer))
+after-line o a ls l s buffer f r rest = by (isVisible (a .given .kind)) refl
   where
-    s : Gatherer
-    s = x .gatherer
-
     j : Judge
     j = called VV5404 (s .judge) (a .given) .judge
 
@@ -105,55 +103,63 @@ after-line o a ls l x f r rest = by (isVisible (a .given .kind)) refl
     lengths : length (rowsOf o (a ∷ ls)) ≡ length (rowOf o a) + n
     lengths = length-append (rowOf o a) (rowsOf o ls)
 
-    by : (t : Bool) → isVisible (a .given .kind) ≡ t → Said o (a ∷ ls) x (f (handed s a (x .buffer)))
+    by : (t : Bool) → isVisible (a .given .kind) ≡ t → Said o (a ∷ ls) s buffer (f (handed s a buffer))
     by true v =
         let row : List ℕ = pixelsOf (s .order) (a .body) in
         let e : rowOf o a ≡ row = ap (λ (t : Bool). cond t (pixelsOf o (a .body)) []) v ∙ ap (λ (t : Order). pixelsOf t (a .body)) (sym (r .order)) in
         let w : length row ≡ width = pixels-length (s .order) (a .body) (r .whole .0 v) in
-        let g : s .kept + width ≤ length (x .buffer) = omega (arith, r .room, lengths, ap length e, w) in
-        let y : AfterCall = quiet (moved s j (s .kept + width)) (take (s .kept) (x .buffer) ++ (row ++ drop (s .kept + width) (x .buffer))) in
-        let q : Ready o ls l y = record {
+        let g : s .kept + width ≤ length buffer = omega (arith, r .room, lengths, ap length e, w) in
+        let next : Gatherer = moved s j (s .kept + width) in
+        let held : List ℕ = take (s .kept) buffer ++ (row ++ drop (s .kept + width) buffer) in
+        let q : Ready o ls l next held = record {
           order = r .order;
           count = d .1;
           due = d .2;
           whole = r .whole .1;
-          room = omega (arith, r .room, lengths, ap length e, w, put-length (s .kept) width (x .buffer) row w g);
+          room = omega (arith, r .room, lengths, ap length e, w, put-length (s .kept) width buffer row w g);
         } in
-        ap (λ (z : AfterCall). f z .output) (judged s a (x .buffer) ruling.Going (d .0) ∙ seen s a (x .buffer) j v (r .whole .0 v) g)
-        ∙ rest y q
-        ∙ ap (λ (k : ℕ). complete k (take (s .kept + width) (y .buffer) ++ rowsOf o ls)) (omega (arith, lengths, ap length e, w))
+        ap (λ (z : AfterCall). f z .output) (judged s a buffer ruling.Going (d .0) ∙ seen s a buffer j v (r .whole .0 v) g)
+        ∙ rest next held q
+        ∙ ap (λ (k : ℕ). complete k (take (s .kept + width) held ++ rowsOf o ls)) (omega (arith, lengths, ap length e, w))
         ∙ ap (complete (s .kept + length (rowsOf o (a ∷ ls))))
-        (ap (λ (t : List ℕ). t ++ rowsOf o ls) (put-rows (s .kept) width (x .buffer) row w g)
-        ∙ append-assoc (take (s .kept) (x .buffer)) row (rowsOf o ls)
-        ∙ ap (λ (t : List ℕ). take (s .kept) (x .buffer) ++ (t ++ rowsOf o ls)) (sym e))
+        (ap (λ (t : List ℕ). t ++ rowsOf o ls) (put-rows (s .kept) width buffer row w g)
+        ∙ append-assoc (take (s .kept) buffer) row (rowsOf o ls)
+        ∙ ap (λ (t : List ℕ). take (s .kept) buffer ++ (t ++ rowsOf o ls)) (sym e))
     by false v =
         let e : rowsOf o (a ∷ ls) ≡ rowsOf o ls = ap (λ (t : Bool). cond t (pixelsOf o (a .body)) [] ++ rowsOf o ls) v in
-        let y : AfterCall = quiet (moved s j (s .kept)) (x .buffer) in
-        let q : Ready o ls l y = record {
+        let next : Gatherer = moved s j (s .kept) in
+        let q : Ready o ls l next buffer = record {
           order = r .order;
           count = d .1;
           due = d .2;
           whole = r .whole .1;
           room = omega (arith, r .room, ap length e);
         } in
-        ap (λ (z : AfterCall). f z .output) (judged s a (x .buffer) ruling.Going (d .0) ∙ unseen s a (x .buffer) j v)
-        ∙ rest y q
-        ∙ ap (λ (t : List ℕ). complete (s .kept + length t) (take (s .kept) (x .buffer) ++ t)) (sym e)
+        ap (λ (z : AfterCall). f z .output) (judged s a buffer ruling.Going (d .0) ∙ unseen s a buffer j v)
+        ∙ rest next buffer q
+        ∙ ap (λ (t : List ℕ). complete (s .kept + length t) (take (s .kept) buffer ++ t)) (sym e)
 
-rest-shown : (o : Order) (gs : List Given) (g : Given) (l : Shown) (x : AfterCall) → shown (handedLines (g .answer)) (g .held) ≡ l ∷ []
-    → Ready o (shownAll gs) l x → Said o (shownAll gs) x (calls x (gs ++ (g ∷ [])))
-rest-shown o [] g l x e r =
-    ap (λ (y : AfterCall). y .output) (brings x g l e)
-    ∙ shows (x .gatherer) l (x .buffer) (only (called VV5404 (x .gatherer .judge) (l .given) .ruling) (r .count) (r .due)) (omega (arith, r .room))
-    ∙ ap (λ (k : ℕ). complete k (take (x .gatherer .kept) (x .buffer))) (omega arith)
-    ∙ ap (complete (x .gatherer .kept + 0)) (sym (append-nil (take (x .gatherer .kept) (x .buffer))))
-rest-shown o (a ∷ gs) g l x e r = by (shown (handedLines (a .answer)) (a .held)) (call x a) (hands x a) r (λ y. rest-shown o gs g l y e)
+-- a way of calling: it stays where no call is left, and goes on where nothing is said
+pub record KeepsCalling (on : AfterCall → List Given → AfterCall) : Type 0 where
+  pub stays : (x : AfterCall) → on x [] ≡ x
+  pub goes-on : (s : Gatherer) (buffer : List ℕ) (g : Given) (gs : List Given) → on (quiet s buffer) (g ∷ gs) ≡ on (call (quiet s buffer) g) gs
+
+rest-shown : (on : AfterCall → List Given → AfterCall) → KeepsCalling on → (o : Order) (gs : List Given) (g : Given) (l : Shown) (s : Gatherer) (buffer : List ℕ)
+    → shown (handedLines (g .answer)) (g .held) ≡ l ∷ [] → Ready o (shownAll gs) l s buffer → Said o (shownAll gs) s buffer (on (quiet s buffer) (gs ++ (g ∷ [])))
+rest-shown on way o [] g l s buffer e r =
+    ap (λ (y : AfterCall). y .output) (way .goes-on s buffer g [] ∙ way .stays (call (quiet s buffer) g) ∙ brings (quiet s buffer) g l e)
+    ∙ shows s l buffer (only (called VV5404 (s .judge) (l .given) .ruling) (r .count) (r .due)) (omega (arith, r .room))
+    ∙ ap (λ (k : ℕ). complete k (take (s .kept) buffer)) (omega arith)
+    ∙ ap (complete (s .kept + 0)) (sym (append-nil (take (s .kept) buffer)))
+rest-shown on way o (a ∷ gs) g l s buffer e r =
+    ap (λ (y : AfterCall). y .output) (way .goes-on s buffer a (gs ++ (g ∷ [])))
+    ∙ by (shown (handedLines (a .answer)) (a .held)) (call (quiet s buffer) a) (hands (quiet s buffer) a) r (λ next held. rest-shown on way o gs g l next held e)
   where
-    by : (ls : List Shown) (y : AfterCall) → Hands x ls y → Ready o (ls ++ shownAll gs) l x
-        → ((z : AfterCall) → Ready o (shownAll gs) l z → Said o (shownAll gs) z (calls z (gs ++ (g ∷ []))))
-        → Said o (ls ++ shownAll gs) x (calls y (gs ++ (g ∷ [])))
-    by _ _ none q rest = rest (quiet (x .gatherer) (x .buffer)) (record { order = q .order; count = q .count; due = q .due; whole = q .whole; room = q .room })
-    by _ _ (one b) q rest = after-line o b (shownAll gs) l x (λ z. calls z (gs ++ (g ∷ []))) q rest
+    by : (ls : List Shown) (y : AfterCall) → Hands (quiet s buffer) ls y → Ready o (ls ++ shownAll gs) l s buffer
+        → ((next : Gatherer) (held : List ℕ) → Ready o (shownAll gs) l next held → Said o (shownAll gs) next held (on (quiet next held) (gs ++ (g ∷ []))))
+        → Said o (ls ++ shownAll gs) s buffer (on y (gs ++ (g ∷ [])))
+    by _ _ none q rest = rest s buffer q
+    by _ _ (one b) q rest = after-line o b (shownAll gs) l s buffer (λ z. on z (gs ++ (g ∷ []))) q rest
 
 -- The first line of a frame, wherever the judge is.
 
@@ -190,22 +196,21 @@ last-unseen On l h = ap isVisible (stands On (lastPlace VV5404) (l .given) h)
 last-unseen Off l h = ap isVisible (stands Off (lastPlace VV5404) (l .given) h)
 
 -- these lines and a last one are a frame's, and there is room for its rows
-record Arrives (o : Order) (b : Borders) (ls : List Shown) (l : Shown) (x : AfterCall) : Type 0 where
-  order : x .gatherer .order ≡ o
-  passing : passes VV5404 (x .gatherer .judge) ≡ true
-  clear : Clear (x .gatherer)
+record Arrives (o : Order) (b : Borders) (ls : List Shown) (l : Shown) (s : Gatherer) (buffer : List ℕ) : Type 0 where
+  order : s .order ≡ o
+  passing : passes VV5404 (s .judge) ≡ true
+  clear : Clear s
   frame : IsFrame VV5404 b (linesOf (ls ++ (l ∷ [])))
   whole : Every Whole ls
-  room : size (pictureOf b) ≤ length (x .buffer)
+  room : size (pictureOf b) ≤ length buffer
 
 abbrev SaysAll : Order → Borders → List Shown → Shown → AfterCall → Type 0
 SaysAll o b ls l y = y .output ≡ complete (size (pictureOf b)) (rowsOf o (ls ++ (l ∷ [])))
 
-first-line : (o : Order) (b : Borders) (a : Shown) (ls : List Shown) (l : Shown) (x : AfterCall) (f : AfterCall → AfterCall) → Arrives o b (a ∷ ls) l x
-    → ((y : AfterCall) → Ready o ls l y → Said o ls y (f y)) → SaysAll o b (a ∷ ls) l (f (handed (x .gatherer) a (x .buffer)))
+first-line : (o : Order) (b : Borders) (a : Shown) (ls : List Shown) (l : Shown) (s : Gatherer) (buffer : List ℕ) (f : AfterCall → AfterCall) → Arrives o b (a ∷ ls) l s buffer
+    → ((next : Gatherer) (held : List ℕ) → Ready o ls l next held → Said o ls next held (f (quiet next held))) → SaysAll o b (a ∷ ls) l (f (handed s a buffer))
 unfolding judgeOf
-first-line o b a ls l x f r rest =
-    let s : Gatherer = x .gatherer in
+first-line o b a ls l s buffer f r rest =
     let i : a .given ≡ line (kindNumber SOF) 0 = first-is VV5404 b (a .given) (and-left _ _ (r .frame .1)) in
     let u : isVisible (l .given .kind) ≡ false = last-unseen b l (laid-last b 0 (a ∷ ls) l (r .frame .1) (omega (arith, r .frame .0))) in
     let v : isVisible (a .given .kind) ≡ false = ap (λ (k : Line). isVisible (k .kind)) i in
@@ -219,39 +224,40 @@ first-line o b a ls l x f r rest =
     let d : rulings VV5404 begun (linesOf (ls ++ (l ∷ []))) ≡ toComplete (lastPlace VV5404 - 1) =
     ap (λ (k : Line). rulings VV5404 (called VV5404 Waiting k .judge) (linesOf (ls ++ (l ∷ [])))) (sym i)
     ∙ tail-eq-of-cons-eq (frame-complete VV5404 b (linesOf ((a ∷ ls) ++ (l ∷ []))) (r .frame) .0) in
-    let y : AfterCall = quiet (moved s begun 0) (x .buffer) in
-    let q : Ready o ls l y = record { order = r .order; count = lastPlace VV5404 - 1; due = d; whole = r .whole .1; room = omega (arith, n, r .room) } in
-    ap (λ (z : AfterCall). f z .output) (opened s a (x .buffer) (r .passing) (r .clear) i)
-    ∙ rest y q
+    let next : Gatherer = moved s begun 0 in
+    let q : Ready o ls l next buffer = record { order = r .order; count = lastPlace VV5404 - 1; due = d; whole = r .whole .1; room = omega (arith, n, r .room) } in
+    ap (λ (z : AfterCall). f z .output) (opened s a buffer (r .passing) (r .clear) i)
+    ∙ rest next buffer q
     ∙ ap (λ (k : ℕ). complete k (rowsOf o ls)) (omega (arith, n))
     ∙ ap (complete (size (pictureOf b))) (sym m)
 
-arrives-shown : (o : Order) (b : Borders) (gs : List Given) (g : Given) (l : Shown) (x : AfterCall) → shown (handedLines (g .answer)) (g .held) ≡ l ∷ []
-    → Arrives o b (shownAll gs) l x → SaysAll o b (shownAll gs) l (calls x (gs ++ (g ∷ [])))
-arrives-shown o b [] g l x e r = absurd (let z = r .frame .0 in omega arith)
-arrives-shown o b (a ∷ gs) g l x e r = by (shown (handedLines (a .answer)) (a .held)) (call x a) (hands x a) r (λ y. arrives-shown o b gs g l y e)
+arrives-shown : (on : AfterCall → List Given → AfterCall) → KeepsCalling on → (o : Order) (b : Borders) (gs : List Given) (g : Given) (l : Shown) (s : Gatherer) (buffer : List ℕ)
+    → shown (handedLines (g .answer)) (g .held) ≡ l ∷ [] → Arrives o b (shownAll gs) l s buffer → SaysAll o b (shownAll gs) l (on (quiet s buffer) (gs ++ (g ∷ [])))
+arrives-shown on way o b [] g l s buffer e r = absurd (let z = r .frame .0 in omega arith)
+arrives-shown on way o b (a ∷ gs) g l s buffer e r =
+    ap (λ (y : AfterCall). y .output) (way .goes-on s buffer a (gs ++ (g ∷ [])))
+    ∙ by (shown (handedLines (a .answer)) (a .held)) (call (quiet s buffer) a) (hands (quiet s buffer) a) r (arrives-shown on way o b gs g l s buffer e)
   where
-    by : (ls : List Shown) (y : AfterCall) → Hands x ls y → Arrives o b (ls ++ shownAll gs) l x
-        → ((z : AfterCall) → Arrives o b (shownAll gs) l z → SaysAll o b (shownAll gs) l (calls z (gs ++ (g ∷ []))))
-        → SaysAll o b (ls ++ shownAll gs) l (calls y (gs ++ (g ∷ [])))
-    by _ _ none q rest =
-        rest (quiet (x .gatherer) (x .buffer))
-        (record { order = q .order; passing = q .passing; clear = q .clear; frame = q .frame; whole = q .whole; room = q .room })
-    by _ _ (one c) q rest = first-line o b c (shownAll gs) l x (λ z. calls z (gs ++ (g ∷ []))) q (λ z. rest-shown o gs g l z e)
+    by : (ls : List Shown) (y : AfterCall) → Hands (quiet s buffer) ls y → Arrives o b (ls ++ shownAll gs) l s buffer
+        → (Arrives o b (shownAll gs) l s buffer → SaysAll o b (shownAll gs) l (on (quiet s buffer) (gs ++ (g ∷ []))))
+        → SaysAll o b (ls ++ shownAll gs) l (on y (gs ++ (g ∷ [])))
+    by _ _ none q rest = rest q
+    by _ _ (one c) q rest = first-line o b c (shownAll gs) l s buffer (λ z. on z (gs ++ (g ∷ []))) q (λ next held. rest-shown on way o gs g l next held e)
 
 clear-rows : (o : Order) (ls : List Shown) (x : AfterCall) → Holds o ls x → Clear (x .gatherer)
 clear-rows o ls x h q = subst (λ (j : Judge). Rows o ls j (x .gatherer .kept) (x .buffer)) q (h .rows)
 
--- after any calls, `before`: where the calls from there on hand over exactly the lines of a frame, the last of them with the last call, each
--- visible body fills a row, and the buffer has room for the picture, the last call says complete, with the frame's rows
-pub frame-shown : (o : Order) (buffer : List ℕ) (before gs : List Given) (g : Given) (l : Shown) (b : Borders)
+-- after any calls, `before`, and in any way of calling on: where the calls from there on hand over exactly the lines of a frame, the last of them
+-- with the last call, each visible body fills a row, and the buffer has room for the picture, the last call says complete, with the frame's rows
+pub frame-shown-on : (on : AfterCall → List Given → AfterCall) → KeepsCalling on → (o : Order) (buffer : List ℕ) (before gs : List Given) (g : Given) (l : Shown) (b : Borders)
     → shown (handedLines (g .answer)) (g .held) ≡ l ∷ [] → IsFrame VV5404 b (linesOf (shownAll gs ++ (l ∷ []))) → Every Whole (shownAll gs)
-    → size (pictureOf b) ≤ length (calls (start o buffer) before .buffer)
-    → calls (calls (start o buffer) before) (gs ++ (g ∷ [])) .output ≡ complete (size (pictureOf b)) (rowsOf o (shownAll gs ++ (l ∷ [])))
-frame-shown o buffer before gs g l b e f w room =
+    → let x : AfterCall = calls (start o buffer) before in
+    size (pictureOf b) ≤ length (x .buffer)
+    → on (quiet (x .gatherer) (x .buffer)) (gs ++ (g ∷ [])) .output ≡ complete (size (pictureOf b)) (rowsOf o (shownAll gs ++ (l ∷ [])))
+frame-shown-on on way o buffer before gs g l b e f w room =
     let x : AfterCall = calls (start o buffer) before in
     let h = holds-calls o [] (start o buffer) before (holds-start o buffer) in
-    arrives-shown o b gs g l x e
+    arrives-shown on way o b gs g l (x .gatherer) (x .buffer) e
     (record {
       order = h .order;
       passing = sym (ap (passes VV5404) (h .judge)) ∙ reached-passes VV5404 (linesOf (taken (start o buffer) before));
@@ -260,3 +266,16 @@ frame-shown o buffer before gs g l b e f w room =
       whole = w;
       room = room;
     })
+
+calls-quiet : (x : AfterCall) (gs : List Given) (g : Given) → calls (quiet (x .gatherer) (x .buffer)) (gs ++ (g ∷ [])) ≡ calls x (gs ++ (g ∷ []))
+calls-quiet x [] g = refl
+calls-quiet x (a ∷ gs) g = refl
+
+-- so where every call is made, whatever is said
+pub frame-shown : (o : Order) (buffer : List ℕ) (before gs : List Given) (g : Given) (l : Shown) (b : Borders)
+    → shown (handedLines (g .answer)) (g .held) ≡ l ∷ [] → IsFrame VV5404 b (linesOf (shownAll gs ++ (l ∷ []))) → Every Whole (shownAll gs)
+    → size (pictureOf b) ≤ length (calls (start o buffer) before .buffer)
+    → calls (calls (start o buffer) before) (gs ++ (g ∷ [])) .output ≡ complete (size (pictureOf b)) (rowsOf o (shownAll gs ++ (l ∷ [])))
+frame-shown o buffer before gs g l b e f w room =
+    ap (λ (y : AfterCall). y .output) (sym (calls-quiet (calls (start o buffer) before) gs g))
+    ∙ frame-shown-on calls (record { stays = λ x. refl; goes-on = λ s held a more. refl }) o buffer before gs g l b e f w room

@@ -1,0 +1,3 @@
+pub mod FrameSent
+pub mod UntilSaidLaws
+pub mod FrameSentLaws

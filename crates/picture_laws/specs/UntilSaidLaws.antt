@@ -1,0 +1,128 @@
+-- Calls of the gatherer that go on while nothing is said: what is sought in nibbles is what they say, and they show a whole frame.
+use mathlib.Core.Path.{_≡_, refl, sym, ap, _∙_}
+use mathlib.Core.Bool.{Bool, true, false, cond, true≢false, _&&_}
+use mathlib.Core.List.{List, [], _∷_, _++_}
+use Prim.Native.Nat.{ℕ, _+_}
+use lib.Dec.{eqb, leb}
+use lib.ListN.{length, take, drop}
+use borrow.Author.Tests.{eqb-true, leb-true}
+use Rattle.bits.specs.Every.{and-left, and-right}
+use Rattle.refusal.specs.Refusal.{noRoom}
+use Rattle.profile.specs.declared.Profile.the-variants.{VV5404}
+use Rattle.profile.specs.Profile.{longest, width}
+use Rattle.reader.specs.declared.Reader.{Reader}
+use Rattle.reader.specs.Reader.{Took, feedOf}
+use Rattle.frame.specs.declared.Judge.{Judge}
+use Rattle.frame.specs.declared.Ruling.{Ruling}
+use Rattle.frame.specs.declared.Ruling.the-variants as ruling
+use Rattle.frame.specs.Calls.{called}
+use Rattle.frame.specs.Frame.{breaksFrame}
+use Rattle.frame.specs.Handing.{handedLines}
+use Rattle.frame_rows.specs.declared.Gatherer.{Gatherer}
+use Rattle.frame_rows.specs.FrameRows.{Shown, Output, nothing, complete, AfterCall, isVisible, pixelsOf, moved, quiet, refuses, keepRow, onward, completed, refusedBy, byRuling, handed}
+use Rattle.frame_rows.specs.Gathering.{Given, call, calls, shown}
+use Rattle.frame_rows.specs.FrameRowsLaws.{pixels-length, put-length, Hands, none, one, hands}
+use Rattle.frame_rows.specs.WholeFrameLaws.{KeepsCalling}
+use Rattle.frame_grabber.specs.FrameGrabber.{given, isSaid, sought, seek}
+use Rattle.frame_grabber.specs.Pieces.{givens, fedAll}
+use Rattle.frame_grabber.specs.SeekLaws.{not-said}
+
+-- calls that go on while nothing is said
+abbrev pub untilSaid : AfterCall → List Given → AfterCall
+untilSaid x [] = x
+untilSaid x (g ∷ gs) = cond (isSaid (x .output)) x (untilSaid (call x g) gs)
+
+pub until-goes : KeepsCalling untilSaid
+until-goes = record { stays = λ x. refl; goes-on = λ s buffer g gs. refl }
+
+-- where something is said they stop
+pub said-stops : (x : AfterCall) (gs : List Given) → isSaid (x .output) ≡ true → untilSaid x gs ≡ x
+said-stops x [] e = refl
+said-stops x (g ∷ gs) e = ap (λ (b : Bool). cond b x (untilSaid (call x g) gs)) e
+
+pub until-append : (gs hs : List Given) (x : AfterCall) → untilSaid x (gs ++ hs) ≡ untilSaid (untilSaid x gs) hs
+until-append [] hs x = refl
+until-append (g ∷ gs) hs x = by (isSaid (x .output)) refl (until-append gs hs (call x g))
+  where
+    by : (b : Bool) → isSaid (x .output) ≡ b → untilSaid (call x g) (gs ++ hs) ≡ untilSaid (untilSaid (call x g) gs) hs
+        → cond b x (untilSaid (call x g) (gs ++ hs)) ≡ untilSaid (cond b x (untilSaid (call x g) gs)) hs
+    by true e h = sym (said-stops x hs e)
+    by false e h = h
+
+-- where nothing was said, every call was made
+pub until-calls : (gs : List Given) (x : AfterCall) → untilSaid x gs .output ≡ nothing → untilSaid x gs ≡ calls x gs
+until-calls [] x q = refl
+until-calls (g ∷ gs) x q = by (isSaid (x .output)) refl q (until-calls gs (call x g))
+  where
+    by : (b : Bool) → isSaid (x .output) ≡ b → cond b x (untilSaid (call x g) gs) .output ≡ nothing
+        → (untilSaid (call x g) gs .output ≡ nothing → untilSaid (call x g) gs ≡ calls (call x g) gs)
+        → cond b x (untilSaid (call x g) gs) ≡ calls (call x g) gs
+    by true e h rest = absurd (true≢false (sym e ∙ ap isSaid h))
+    by false e h rest = rest h
+
+pub quiet-is : (x : AfterCall) → x .output ≡ nothing → x ≡ quiet (x .gatherer) (x .buffer)
+quiet-is x e = ap (λ (o : Output). record { gatherer = x .gatherer; output = o; buffer = x .buffer }) e
+
+-- What is sought.
+
+pub seek-until : (w : List ℕ) (r : Reader) (g : Gatherer) (held : List ℕ) → seek r g held w .outcome ≡ untilSaid (quiet g held) (givens r w)
+seek-until [] r g held = refl
+seek-until (n ∷ w) r g held = by (isSaid (x .output)) refl (seek-until w (t .reader) (x .gatherer) (x .buffer))
+  where
+    t : Took
+    t = feedOf r n longest
+
+    x : AfterCall
+    x = call (quiet g held) (given t)
+
+    by : (b : Bool) → isSaid (x .output) ≡ b → seek (t .reader) (x .gatherer) (x .buffer) w .outcome ≡ untilSaid (quiet (x .gatherer) (x .buffer)) (givens (t .reader) w)
+        → cond b (sought (t .reader) x w) (seek (t .reader) (x .gatherer) (x .buffer) w) .outcome ≡ untilSaid x (givens (t .reader) w)
+    by true e h = sym (said-stops x (givens (t .reader) w) e)
+    by false e h = h ∙ ap (λ (y : AfterCall). untilSaid y (givens (t .reader) w)) (sym (quiet-is x (not-said (x .output) e)))
+
+pub givens-append : (v w : List ℕ) (r : Reader) → givens r (v ++ w) ≡ givens r v ++ givens (fedAll r v) w
+givens-append [] w r = refl
+givens-append (n ∷ v) w r = ap {B = List Given} (λ l. given (feedOf r n longest) ∷ l) (givens-append v w (feedOf r n longest .reader))
+
+-- The rows' buffer keeps its length.
+
+either-long : (b : Bool) (x y : AfterCall) (n : ℕ) → (b ≡ true → length (x .buffer) ≡ n) → length (y .buffer) ≡ n → length (cond b x y .buffer) ≡ n
+either-long true x y n h g = h refl
+either-long false x y n h g = g
+
+handed-long : (s : Gatherer) (l : Shown) (held : List ℕ) → length (handed s l held .buffer) ≡ length held
+unfolding handed onward keepRow completed refusedBy
+handed-long s l held = by (called VV5404 (s .judge) (l .given) .ruling)
+  where
+    j : Judge
+    j = called VV5404 (s .judge) (l .given) .judge
+
+    row : List ℕ
+    row = pixelsOf (s .order) (l .body)
+
+    fitting : (eqb (length (l .body)) width && leb (s .kept + width) (length held)) ≡ true
+        → length (take (s .kept) held ++ (row ++ drop (s .kept + width) held)) ≡ length held
+    fitting e =
+        put-length (s .kept) width held row (pixels-length (s .order) (l .body) (eqb-true _ _ (and-left _ _ e)))
+        (leb-true _ _ (and-right (eqb (length (l .body)) width) _ e))
+
+    by : (v : Ruling) → length (byRuling s l held j v .buffer) ≡ length held
+    by ruling.Waiting = refl
+    by ruling.Going =
+        either-long (isVisible (l .given .kind)) (keepRow s j (l .body) held) (quiet (moved s j (s .kept)) held) (length held)
+        (λ _. either-long (eqb (length (l .body)) width && leb (s .kept + width) (length held)) _ (refuses s noRoom held) (length held) fitting refl) refl
+    by ruling.Complete =
+        either-long (leb (s .kept) (length held)) (record { gatherer = moved s j 0; output = complete (s .kept) (take (s .kept) held); buffer = held }) (refuses s noRoom held) (length held)
+        (λ _. refl) refl
+    by (ruling.Refused n) = either-long (breaksFrame n) (quiet (moved s j 0) held) (refuses s n held) (length held) (λ _. refl) refl
+
+call-long : (x : AfterCall) (g : Given) → length (call x g .buffer) ≡ length (x .buffer)
+call-long x g = by (shown (handedLines (g .answer)) (g .held)) (call x g) (hands x g)
+  where
+    by : (ls : List Shown) (y : AfterCall) → Hands x ls y → length (y .buffer) ≡ length (x .buffer)
+    by _ _ none = refl
+    by _ _ (one l) = handed-long (x .gatherer) l (x .buffer)
+
+pub calls-long : (gs : List Given) (x : AfterCall) → length (calls x gs .buffer) ≡ length (x .buffer)
+calls-long [] x = refl
+calls-long (g ∷ gs) x = calls-long gs (call x g) ∙ call-long x g
