@@ -38,7 +38,7 @@ use Rattle.frame.specs.declared.Judged.{Judged}
 use Rattle.frame.specs.Frame.{passes, refuses, brokenKind, judgeOf}
 use Rattle.frame.specs.Calls.{called, IsFrame}
 use Rattle.frame.specs.Calls as calls
-use Rattle.frame.specs.FrameLaws.{reached-passes}
+use Rattle.frame_laws.specs.FrameLaws.{reached-passes}
 use Rattle.frame.specs.Handing.{isBrokenLine, handedLines}
 use Rattle.pgm.specs.Pgm.{size}
 use Rattle.frame_rows.specs.declared.Order.{Order}
