@@ -29,8 +29,8 @@ use Rattle.frame.specs.Calls as judged
 use Rattle.frame.specs.FrameLength.{frame-length}
 use Rattle.frame_laws.specs.FrameLaws.{frame-counted}
 use Rattle.frame.specs.Handing.{isBrokenLine, allHanded}
+use Rattle.frame_laws.specs.SentFrames.{judgedLine, allLines, AllFrames, no-frames, and-frame}
 use Rattle.slip.specs.Slip.{slipped, Inside}
-use Rattle.slip.specs.SlipFrames.{handedAs, WholeFrames, no-frame, and-frame, allLines}
 use Rattle.slip.specs.LeftHanded.{brokenOne}
 
 -- a visible line that has, after so many bytes of its body, the nibbles 1 F F 1 1 F F 0 0, a code and one nibble more
@@ -95,7 +95,7 @@ abbrev pub samplesFrom : ℕ → List Kind → List Sent
 samplesFrom n [] = []
 samplesFrom n (k ∷ ks) = sample VV5404 k n ∷ samplesFrom (n + 1) ks
 
-samples-handed : (n : ℕ) (ks : List Kind) → map handedAs (samplesFrom n ks) ≡ numberedFrom n ks
+samples-handed : (n : ℕ) (ks : List Kind) → map judgedLine (samplesFrom n ks) ≡ numberedFrom n ks
 samples-handed n [] = refl
 samples-handed n (k ∷ ks) = ap (λ (ls : List judged.Line). judged.line (kindNumber k) n ∷ ls) (samples-handed (n + 1) ks)
 
@@ -107,7 +107,7 @@ samples-writable n (k ∷ ks) h = and-line (sample-writable VV5404 k n (omega ar
 abbrev pub sampleFrame : Borders → List Sent
 sampleFrame b = samplesFrom 0 (kindsOf (layout VV5404 b))
 
-frame-whole : (b : Borders) → IsFrame VV5404 b (map handedAs (sampleFrame b))
+frame-whole : (b : Borders) → IsFrame VV5404 b (map judgedLine (sampleFrame b))
 frame-whole b = subst (IsFrame VV5404 b) (sym (samples-handed 0 (kindsOf (layout VV5404 b)))) (frame-counted VV5404 b)
 
 frame-writable : (b : Borders) → AllWritable VV5404 (sampleFrame b)
@@ -121,9 +121,9 @@ writable-both (and-line g h) k = and-line g (writable-both h k)
 abbrev pub twoFrames : List (List Sent)
 twoFrames = (sampleFrame On ∷ []) ++ (((sample VV5404 SOF 0 ∷ []) ++ (sample VV5404 BK 1 ∷ samplesFrom 2 (drop 2 (kindsOf (layout VV5404 Off))))) ∷ [])
 
-pub frames-slip : WholeFrames twoFrames × AllWritable VV5404 (allLines twoFrames) × Inside (sample VV5404 BK 1) 10 3
+pub frames-slip : AllFrames VV5404 twoFrames × AllWritable VV5404 (allLines twoFrames) × Inside (sample VV5404 BK 1) 10 3
 frames-slip = (
-  and-frame On (frame-whole On) (and-frame Off (frame-whole Off) no-frame),
+  and-frame On (frame-whole On) (and-frame Off (frame-whole Off) no-frames),
   writable-both (frame-writable On) (writable-both (frame-writable Off) no-lines),
   record { some-dropped = lit≤ tt; all-inside = lit≤ tt },
 )

@@ -26,11 +26,11 @@ use Rattle.frame.specs.Calls as judged
 use Rattle.frame.specs.Handing.{isBrokenLine, handedLines, asLines}
 use Rattle.frame.specs.declared.Handed.the-variants as hand
 use Rattle.frame.specs.Frame.{brokenKind}
+use Rattle.frame_laws.specs.SentFrames.{judgedLine}
 use Rattle.recovery.specs.Collected.{nothings, collected, collected-append, collected-nothings}
 use Rattle.recovery.specs.Resync.{stateWith, opened, becomes}
 use Rattle.recovery.specs.MarkFree.{NoGroup, no-group-empty}
 use Rattle.recovery.specs.ReadBack.{run-append, outcomes-append, marked, comes-back, read-small, gapText, no-group-gap, restTold}
-use Rattle.slip.specs.SlipFrames.{handedAs}
 
 -- what an outcome hands to the judge, and what nibbles do
 abbrev pub handedBy : Outcome → List judged.Line
@@ -104,7 +104,7 @@ pub record HandsToRest (x : State) (w : List ℕ) (ls : List judged.Line) : Type
   pub hands : HandsOver VV5404 x w ls to
   pub at-rest : AtRest to
 
-line-handed : (s : Sent) → Writable VV5404 s → (x : State) → AtRest x → HandsToRest x (written s) (handedAs s ∷ [])
+line-handed : (s : Sent) → Writable VV5404 s → (x : State) → AtRest x → HandsToRest x (written s) (judgedLine s ∷ [])
 line-handed s g x q =
     let p = VV5404 in
     let start = cleanByte (Line (s .kind)) in
@@ -118,7 +118,7 @@ line-handed s g x q =
             ∙ collected-append handedBy (outcomes p x (markOf start)) (restTold s Clean Clean)
             ∙ ap₂ _++_ (mark-handed x q start .over)
             (collected-append handedBy (nothings (content s)) _
-            ∙ ap₂ _++_ (collected-nothings handedBy refl (content s)) (ap (λ (ls : List judged.Line). handedAs s ∷ ls) (collected-nothings handedBy refl (tail s))));
+            ∙ ap₂ _++_ (collected-nothings handedBy refl (content s)) (ap (λ (ls : List judged.Line). judgedLine s ∷ ls) (collected-nothings handedBy refl (tail s))));
         leads = b .state;
       };
       at-rest = record {
@@ -128,7 +128,7 @@ line-handed s g x q =
     }
 
 -- the law: a clean stream
-pub lines-handed : {ss : List Sent} → AllWritable VV5404 ss → (x : State) → AtRest x → HandsToRest x (stream ss) (map handedAs ss)
+pub lines-handed : {ss : List Sent} → AllWritable VV5404 ss → (x : State) → AtRest x → HandsToRest x (stream ss) (map judgedLine ss)
 lines-handed no-lines x q = record { to = x; hands = record { over = refl; leads = refl }; at-rest = q }
 lines-handed (and-line {s = s} g h) x q =
     let a = line-handed s g x q in

@@ -28,7 +28,8 @@ use Rattle.frame.specs.declared.Judged.{Judged}
 use Rattle.frame.specs.Frame.{lastPlace, kindAt, standsAt, numberDue, passes, gives, refuses, judgeOf}
 use Rattle.frame.specs.Calls.{Line, line, called, after, rulings, isComplete, fits, laidFrom, IsFrame}
 use Rattle.frame_laws.specs.FrameLaws.{after-append, rulings-append, sof-not-due, frame-complete, toComplete, Effect, wrongKind, wrongNumber, waits, breaks, strays, starts, restarts, goes, ends, effect, passes-after}
-use Rattle.slip.specs.SlipFrames.{handedAs, WholeFrames, no-frame, and-frame, allLines, allComplete, atSlip, lost}
+use Rattle.frame_laws.specs.SentFrames.{judgedLine, allLines, AllFrames, no-frames, and-frame}
+use Rattle.slip.specs.SlipFrames.{allComplete, atSlip, lost}
 use Rattle.slip.specs.LeftHanded.{brokenOne}
 
 -- the judge in j answers vs to these lines, and is then in k
@@ -46,17 +47,17 @@ judging-then {j} {k} {i} {ls} {ms} p q =
 judging-one : {j k : Judge} {l : Line} {v : Ruling} → called VV5404 j l ≡ gives k v → Judging j (l ∷ []) (v ∷ []) k
 judging-one e = record { told = ap (λ (r : Judged). r .ruling ∷ []) e; leads = ap (λ (r : Judged). r .judge) e }
 
-handed-append : (ss ts : List Sent) → map handedAs (ss ++ ts) ≡ map handedAs ss ++ map handedAs ts
+handed-append : (ss ts : List Sent) → map judgedLine (ss ++ ts) ≡ map judgedLine ss ++ map judgedLine ts
 handed-append [] ts = refl
-handed-append (s ∷ ss) ts = ap (λ (ls : List Line). handedAs s ∷ ls) (handed-append ss ts)
+handed-append (s ∷ ss) ts = ap (λ (ls : List Line). judgedLine s ∷ ls) (handed-append ss ts)
 
 -- Whole frames.
 
-frames-complete : {fs : List (List Sent)} → WholeFrames fs → Judging Waiting (map handedAs (allLines fs)) (allComplete fs) Waiting
-frames-complete no-frame = record { told = refl; leads = refl }
-frames-complete (and-frame b {f} {fs} h more) =
-    let c = frame-complete VV5404 b (map handedAs f) h in
-    let first : Judging Waiting (map handedAs f) (toComplete (lastPlace VV5404)) Waiting = record { told = c .0; leads = c .1 } in
+frames-complete : {fs : List (List Sent)} → AllFrames VV5404 fs → Judging Waiting (map judgedLine (allLines fs)) (allComplete fs) Waiting
+frames-complete no-frames = record { told = refl; leads = refl }
+frames-complete (and-frame b {ss = f} {fs = fs} h more) =
+    let c = frame-complete VV5404 b (map judgedLine f) h in
+    let first : Judging Waiting (map judgedLine f) (toComplete (lastPlace VV5404)) Waiting = record { told = c .0; leads = c .1 } in
     subst (λ (ls : List Line). Judging Waiting ls (allComplete (f ∷ fs)) Waiting) (sym (handed-append f (allLines fs))) (judging-then first (frames-complete more))
 
 -- The lines before the slip.
@@ -114,12 +115,12 @@ unfolding judgeOf
 broken-due Waiting h d = absurd (true≢false (sym d))
 broken-due (Due place b) h d = simp h
 
-at-slip : (front : List Sent) → rulings VV5404 Waiting (map handedAs front) ≡ replicate (length (map handedAs front)) ruling.Going
-    → called VV5404 (after VV5404 Waiting (map handedAs front)) brokenOne ≡ gives Waiting (atSlip front)
+at-slip : (front : List Sent) → rulings VV5404 Waiting (map judgedLine front) ≡ replicate (length (map judgedLine front)) ruling.Going
+    → called VV5404 (after VV5404 Waiting (map judgedLine front)) brokenOne ≡ gives Waiting (atSlip front)
 at-slip [] e = broken-waiting
 at-slip (s ∷ ss) e =
-    broken-due (after VV5404 Waiting (handedAs s ∷ map handedAs ss)) (passes-after VV5404 Waiting (handedAs s ∷ map handedAs ss) refl)
-    (lines-due Waiting (handedAs s) (map handedAs ss) refl e)
+    broken-due (after VV5404 Waiting (judgedLine s ∷ map judgedLine ss)) (passes-after VV5404 Waiting (judgedLine s ∷ map judgedLine ss) refl)
+    (lines-due Waiting (judgedLine s) (map judgedLine ss) refl e)
 
 still-waiting : (n : ℕ) → Judging Waiting (replicate n brokenOne) (replicate n ruling.Waiting) Waiting
 still-waiting zero = record { told = refl; leads = refl }
@@ -147,12 +148,12 @@ waits-on b n l k number f =
     go SOF s h = absurd (true≢false (sym s ∙ no-sof b n l))
     go EOF s h = simp h
 
-rest-waits : (b : Borders) (n : ℕ) (ss : List Sent) → n + length ss ≤ lastPlace VV5404 → laidFrom VV5404 b (suc n) (map handedAs ss) ≡ true
-    → Judging Waiting (map handedAs ss) (replicate (length ss) ruling.Waiting) Waiting
+rest-waits : (b : Borders) (n : ℕ) (ss : List Sent) → n + length ss ≤ lastPlace VV5404 → laidFrom VV5404 b (suc n) (map judgedLine ss) ≡ true
+    → Judging Waiting (map judgedLine ss) (replicate (length ss) ruling.Waiting) Waiting
 rest-waits b n [] h f = record { told = refl; leads = refl }
 rest-waits b n (s ∷ ss) h f =
     judging-then (judging-one (waits-on b n (omega arith) (s .kind) (s .number) (and-left _ _ f)))
-    (rest-waits b (suc n) ss (omega arith) (and-right (fits VV5404 b (suc n) (handedAs s)) _ f))
+    (rest-waits b (suc n) ss (omega arith) (and-right (fits VV5404 b (suc n) (judgedLine s)) _ f))
 
 laid-drop : (b : Borders) (place n : ℕ) (ls ms : List Line) → n ≡ place + length ls → laidFrom VV5404 b place (ls ++ ms) ≡ true → laidFrom VV5404 b n ms ≡ true
 laid-drop b place n [] ms e f = subst (λ (m : ℕ). laidFrom VV5404 b m ms ≡ true) (omega arith) f
@@ -160,19 +161,19 @@ laid-drop b place n (l ∷ ls) ms e f = laid-drop b (suc place) n ls ms (omega a
 
 -- The frame that the slip fell in.
 
-frame-lost : (b : Borders) (front : List Sent) (s : Sent) (back : List Sent) → IsFrame VV5404 b (map handedAs (front ++ (s ∷ back))) → (more : ℕ)
-    → Judging Waiting (map handedAs front ++ ((brokenOne ∷ replicate more brokenOne) ++ map handedAs back)) (lost front back more) Waiting
+frame-lost : (b : Borders) (front : List Sent) (s : Sent) (back : List Sent) → IsFrame VV5404 b (map judgedLine (front ++ (s ∷ back))) → (more : ℕ)
+    → Judging Waiting (map judgedLine front ++ ((brokenOne ∷ replicate more brokenOne) ++ map judgedLine back)) (lost front back more) Waiting
 frame-lost b front s back f more =
-    let ls : List Line = map handedAs front in
-    let ms : List Line = map handedAs back in
-    let fr : IsFrame VV5404 b (ls ++ (handedAs s ∷ ms)) = subst (IsFrame VV5404 b) (handed-append front (s ∷ back)) f in
-    let g = first-going b ls (handedAs s) ms fr in
-    let e : length ls ≡ length front = length-map front handedAs in
-    let long : length ls + suc (length ms) ≡ lastPlace VV5404 + 1 = omega (arith, fr .0, length-append ls (handedAs s ∷ ms)) in
+    let ls : List Line = map judgedLine front in
+    let ms : List Line = map judgedLine back in
+    let fr : IsFrame VV5404 b (ls ++ (judgedLine s ∷ ms)) = subst (IsFrame VV5404 b) (handed-append front (s ∷ back)) f in
+    let g = first-going b ls (judgedLine s) ms fr in
+    let e : length ls ≡ length front = length-map front judgedLine in
+    let long : length ls + suc (length ms) ≡ lastPlace VV5404 + 1 = omega (arith, fr .0, length-append ls (judgedLine s ∷ ms)) in
     let first : Judging Waiting ls (replicate (length front) ruling.Going) (after VV5404 Waiting ls)
     = record { told = g ∙ ap (λ (n : ℕ). replicate n ruling.Going) e; leads = refl } in
-    let rest = rest-waits b (length front) back (omega (arith, length-map back handedAs))
-    (and-right (fits VV5404 b (length front) (handedAs s)) _ (laid-drop b 0 (length front) ls (handedAs s ∷ ms) (omega arith) (fr .1))) in
+    let rest = rest-waits b (length front) back (omega (arith, length-map back judgedLine))
+    (and-right (fits VV5404 b (length front) (judgedLine s)) _ (laid-drop b 0 (length front) ls (judgedLine s ∷ ms) (omega arith) (fr .1))) in
     let says = judging-then first (judging-then (judging-one (at-slip front g)) (judging-then (still-waiting more) rest)) in
     record {
       told =
@@ -212,30 +213,30 @@ first-waits back more = refl
 
 -- the frame f among others is whole, and so are those before it and after it
 record Around (fs : List (List Sent)) (f : List Sent) (gs : List (List Sent)) : Type 0 where
-  earlier : WholeFrames fs
+  earlier : AllFrames VV5404 fs
   borders : Borders
-  whole : IsFrame VV5404 borders (map handedAs f)
-  later : WholeFrames gs
+  whole : IsFrame VV5404 borders (map judgedLine f)
+  later : AllFrames VV5404 gs
 
-around : (fs : List (List Sent)) (f : List Sent) (gs : List (List Sent)) → WholeFrames (fs ++ (f ∷ gs)) → Around fs f gs
-around [] f gs (and-frame b h more) = record { earlier = no-frame; borders = b; whole = h; later = more }
+around : (fs : List (List Sent)) (f : List Sent) (gs : List (List Sent)) → AllFrames VV5404 (fs ++ (f ∷ gs)) → Around fs f gs
+around [] f gs (and-frame b h more) = record { earlier = no-frames; borders = b; whole = h; later = more }
 around (e ∷ fs) f gs (and-frame b h more) =
     let q = around fs f gs more in
     record { earlier = and-frame b h (q .earlier); borders = q .borders; whole = q .whole; later = q .later }
 
 -- the law
 pub one-lost : (fs : List (List Sent)) (front : List Sent) (s : Sent) (back : List Sent) (gs : List (List Sent))
-    → WholeFrames (fs ++ ((front ++ (s ∷ back)) ∷ gs)) → (more : ℕ)
-    → rulings VV5404 Waiting (map handedAs (allLines fs ++ front) ++ ((brokenOne ∷ replicate more brokenOne) ++ map handedAs (back ++ allLines gs)))
+    → AllFrames VV5404 (fs ++ ((front ++ (s ∷ back)) ∷ gs)) → (more : ℕ)
+    → rulings VV5404 Waiting (map judgedLine (allLines fs ++ front) ++ ((brokenOne ∷ replicate more brokenOne) ++ map judgedLine (back ++ allLines gs)))
     ≡ allComplete fs ++ (lost front back more ++ allComplete gs)
 one-lost fs front s back gs h more =
     let q = around fs (front ++ (s ∷ back)) gs h in
-    let F : List Line = map handedAs (allLines fs) in
-    let B : List Line = map handedAs front in
+    let F : List Line = map judgedLine (allLines fs) in
+    let B : List Line = map judgedLine front in
     let N : List Line = brokenOne ∷ replicate more brokenOne in
-    let A : List Line = map handedAs back in
-    let G : List Line = map handedAs (allLines gs) in
-    let together : map handedAs (allLines fs ++ front) ++ (N ++ map handedAs (back ++ allLines gs)) ≡ F ++ ((B ++ (N ++ A)) ++ G)
+    let A : List Line = map judgedLine back in
+    let G : List Line = map judgedLine (allLines gs) in
+    let together : map judgedLine (allLines fs ++ front) ++ (N ++ map judgedLine (back ++ allLines gs)) ≡ F ++ ((B ++ (N ++ A)) ++ G)
     = ap₂ (λ (u v : List Line). u ++ (N ++ v)) (handed-append (allLines fs) front) (handed-append back (allLines gs)) ∙ simp append-assoc in
     ap (rulings VV5404 Waiting) together
     ∙ judging-then (frames-complete (q .earlier)) (judging-then (frame-lost (q .borders) front s back (q .whole) more) (frames-complete (q .later))) .told

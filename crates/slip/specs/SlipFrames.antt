@@ -2,42 +2,27 @@
 -- Definitions only; SlipFramesLaws.antt proves it of the reader that runs.
 use mathlib.Core.Path.{_≡_}
 use mathlib.Core.Bool.{true, false}
-use mathlib.Core.List.{List, [], _∷_, _++_, map}
+use mathlib.Core.List.{List, [], _∷_, _++_}
 use Prim.Native.Nat.{ℕ, _+_}
 use lib.ListN.{length, replicate}
 use Rattle.refusal.specs.Refusal.{brokenLine}
 use Rattle.counts.specs.Counts.{counting}
 use Rattle.counts.specs.CountsLaws.{some}
-use Rattle.line_code.specs.LineCode.{kindNumber}
 use Rattle.profile.specs.declared.Profile.the-variants.{VV5404}
 use Rattle.stream.specs.declared.Answer.{Answer}
 use Rattle.stream.specs.Written.{Sent, AllWritable}
 use Rattle.reader.specs.declared.Reader.{Reader}
 use Rattle.refinement.specs.Runs.{RunCall, runResult, FinishLastRun, runsTaken}
-use Rattle.frame.specs.declared.Borders.{Borders}
 use Rattle.frame.specs.declared.Judge.the-variants as judge
 use Rattle.frame.specs.declared.Ruling.{Ruling}
 use Rattle.frame.specs.declared.Ruling.the-variants.{Waiting, Going, Refused}
 use Rattle.frame.specs.Frame.{lastPlace}
-use Rattle.frame.specs.Calls.{Line, line, rulings, isComplete, IsFrame}
+use Rattle.frame.specs.Calls.{rulings, isComplete}
 use Rattle.frame.specs.Handing.{allHanded}
 use Rattle.frame_laws.specs.FrameLaws.{toComplete}
+use Rattle.frame_laws.specs.SentFrames.{allLines, AllFrames}
 use Rattle.tally.specs.declared.Tally.{Tally}
 use Rattle.slip.specs.Slip.{slipped, Inside}
-
--- a line as sent, as it is handed to the judge
-abbrev pub handedAs : Sent → Line
-handedAs s = line (kindNumber (s .kind)) (s .number)
-
--- lists of lines, each the lines of a whole frame
-pub data WholeFrames : List (List Sent) → Type 0 where
-  no-frame : WholeFrames []
-  and-frame : (b : Borders) {f : List Sent} {fs : List (List Sent)} → IsFrame VV5404 b (map handedAs f) → WholeFrames fs → WholeFrames (f ∷ fs)
-
--- the lines of frames, one frame straight after another
-abbrev pub allLines : List (List Sent) → List Sent
-allLines [] = []
-allLines (f ∷ fs) = f ++ allLines fs
 
 -- each of these frames is Complete: the judge answers Going to each of its lines but the last, and Complete to that
 abbrev pub allComplete : List (List Sent) → List Ruling
@@ -72,7 +57,7 @@ pub record OneFrameLost (fs : List (List Sent)) (front back : List Sent) (gs : L
 abbrev pub CostsOneFrame : Reader → Type 0
 CostsOneFrame r =
     (fs : List (List Sent)) (front : List Sent) (s : Sent) (back : List Sent) (gs : List (List Sent))
-    → WholeFrames (fs ++ ((front ++ (s ∷ back)) ∷ gs))
+    → AllFrames VV5404 (fs ++ ((front ++ (s ∷ back)) ∷ gs))
     → AllWritable VV5404 (allLines (fs ++ ((front ++ (s ∷ back)) ∷ gs)))
     → (i k : ℕ)
     → Inside s i k

@@ -23,9 +23,10 @@ use Rattle.refinement.specs.Brought.{ofEach, of-each, calls-bring}
 use Rattle.frame.specs.declared.Judge.the-variants.{Waiting}
 use Rattle.frame.specs.Calls.{Line, rulings}
 use Rattle.frame.specs.Handing.{handedLines, allHanded}
+use Rattle.frame_laws.specs.SentFrames.{judgedLine, allLines}
 use Rattle.slip.specs.Slip.{slipped, Inside}
 use Rattle.slip.specs.SlipLaws.{parted, withContent, leftOf, left-short, slipped-is}
-use Rattle.slip.specs.SlipFrames.{handedAs, allLines, runsAnswers, CostsOneFrame}
+use Rattle.slip.specs.SlipFrames.{runsAnswers, CostsOneFrame}
 use Rattle.slip.specs.Handed.{handedBy, linesHanded, call-unhanded, hands-over-then, fresh-at-rest, HandsToRest, lines-handed}
 use Rattle.slip.specs.LeftHanded.{brokenOne, left-handed}
 use Rattle.slip.specs.LostRulings.{lost-incomplete, one-lost}
@@ -60,7 +61,7 @@ finished-handed {w} h true =
 
 pub record SlippedHanded (before after : List Sent) (w : List ℕ) : Type 0 where
   pub more : ℕ
-  pub all : HandsToRest fresh w (map handedAs before ++ ((brokenOne ∷ replicate more brokenOne) ++ map handedAs after))
+  pub all : HandsToRest fresh w (map judgedLine before ++ ((brokenOne ∷ replicate more brokenOne) ++ map judgedLine after))
 
 pub slipped-handed : (before : List Sent) (s : Sent) (after : List Sent) → AllWritable VV5404 (before ++ (s ∷ after)) → (i k : ℕ) → Inside s i k
     → SlippedHanded before after (slipped before s after i k)
@@ -70,11 +71,11 @@ slipped-handed before s after h i k n =
     let b = left-handed s (q .one) (leftOf s i k) (left-short VV5404 s (q .one) i k n) (a .to) (a .at-rest) in
     let c = lines-handed (q .later) (b .all .to) (b .all .at-rest) in
     let all : HandsToRest fresh (stream before ++ (withContent s (leftOf s i k) ++ stream after))
-    (map handedAs before ++ ((brokenOne ∷ replicate (b .more) brokenOne) ++ map handedAs after))
+    (map judgedLine before ++ ((brokenOne ∷ replicate (b .more) brokenOne) ++ map judgedLine after))
     = record { to = c .to; hands = hands-over-then (a .hands) (hands-over-then (b .all .hands) (c .hands)); at-rest = c .at-rest } in
     record {
       more = b .more;
-      all = subst (λ (w : List ℕ). HandsToRest fresh w (map handedAs before ++ ((brokenOne ∷ replicate (b .more) brokenOne) ++ map handedAs after)))
+      all = subst (λ (w : List ℕ). HandsToRest fresh w (map judgedLine before ++ ((brokenOne ∷ replicate (b .more) brokenOne) ++ map judgedLine after)))
           (sym (slipped-is before s after i k n)) all;
     }
 

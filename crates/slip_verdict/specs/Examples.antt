@@ -8,8 +8,8 @@ use Rattle.recovery.specs.Examples.{sample}
 use Rattle.stream.specs.Written.{Sent}
 use Rattle.frame.specs.declared.Borders.the-variants.{On, Off}
 use Rattle.frame.specs.Frame.{layout, kindsOf}
+use Rattle.frame_laws.specs.SentFrames.{allLines}
 use Rattle.slip.specs.Slip.{slipped}
-use Rattle.slip.specs.SlipFrames.{allLines}
 use Rattle.slip.specs.Examples.{samplesFrom, sampleFrame, frames-slip}
 use Rattle.verdict.specs.declared.Verdict.the-variants.{CheckTheClip}
 use Rattle.verdict_laws.specs.CleanCapture.{verdictOn}

@@ -25,9 +25,10 @@ use Rattle.frame.specs.Frame.{lastPlace}
 use Rattle.frame.specs.Calls.{Line, rulings, isComplete}
 use Rattle.frame.specs.Handing.{allHanded}
 use Rattle.frame_laws.specs.FrameLaws.{toComplete}
+use Rattle.frame_laws.specs.SentFrames.{judgedLine, allLines, AllFrames}
 use Rattle.tally.specs.Tally.{isUnfinished}
 use Rattle.slip.specs.Slip.{bodyStart, slipped, Inside}
-use Rattle.slip.specs.SlipFrames.{handedAs, WholeFrames, allLines, allComplete, lost, OneFrameLost}
+use Rattle.slip.specs.SlipFrames.{allComplete, lost, OneFrameLost}
 use Rattle.slip.specs.Handed.{handedBy}
 use Rattle.slip.specs.LeftHanded.{brokenOne}
 use Rattle.slip.specs.LostRulings.{lost-incomplete, one-lost}
@@ -128,7 +129,7 @@ broken-verdict w last lost h (f ∷ hs) e =
 
 -- the law: for every clean profile 0 stream of whole frames, and every slip inside the body of one of its lines
 pub slip-found : (fs : List (List Sent)) (front : List Sent) (s : Sent) (back : List Sent) (gs : List (List Sent))
-    → WholeFrames (fs ++ ((front ++ (s ∷ back)) ∷ gs)) → AllWritable VV5404 (allLines (fs ++ ((front ++ (s ∷ back)) ∷ gs)))
+    → AllFrames VV5404 (fs ++ ((front ++ (s ∷ back)) ∷ gs)) → AllWritable VV5404 (allLines (fs ++ ((front ++ (s ∷ back)) ∷ gs)))
     → (i k : ℕ) → Inside s i k → FoundWithSlip fs front gs (slipped (allLines fs ++ front) s (back ++ allLines gs) i k)
 slip-found fs front s back gs whole h i k n =
     let p = VV5404 in
@@ -152,8 +153,8 @@ slip-found fs front s back gs whole h i k n =
     } in
     let b : some isBroken (allHanded told) ≡ true
     = ap (some isBroken) (outcomes-handed os ∙ q .all .hands .over)
-    ∙ some-append isBroken (map handedAs before) ((brokenOne ∷ replicate (q .more) brokenOne) ++ map handedAs after)
-    ∙ or-true (some isBroken (map handedAs before)) in
+    ∙ some-append isBroken (map judgedLine before) ((brokenOne ∷ replicate (q .more) brokenOne) ++ map judgedLine after)
+    ∙ or-true (some isBroken (map judgedLine before)) in
     let v : verdictOn p w ≡ slipVerdict (fs ++ gs) = broken-verdict told last (isLost p (x .at) (length (x .text))) b (fs ++ gs) (lost-complete l) in
     let c = counts-rulings p told last in
     let small : Small w = nibbles-small (all-changed p g (bodyStart before s + i) (bodyStart before s + (i + k)) no-nibble) in
@@ -165,7 +166,7 @@ slip-found fs front s back gs whole h i k n =
 
 -- and where another frame is whole, the last line that `frames` writes is CHECK THE CLIP
 pub slip-checks-the-clip : (fs : List (List Sent)) (front : List Sent) (s : Sent) (back : List Sent) (gs : List (List Sent))
-    → WholeFrames (fs ++ ((front ++ (s ∷ back)) ∷ gs)) → AllWritable VV5404 (allLines (fs ++ ((front ++ (s ∷ back)) ∷ gs)))
+    → AllFrames VV5404 (fs ++ ((front ++ (s ∷ back)) ∷ gs)) → AllWritable VV5404 (allLines (fs ++ ((front ++ (s ∷ back)) ∷ gs)))
     → (i k : ℕ) → Inside s i k → (f : List Sent) (others : List (List Sent)) → fs ++ gs ≡ f ∷ others
     → EndsIn (endText (listAfter (freshLister Frames VV5404) (slipped (allLines fs ++ front) s (back ++ allLines gs) i k))) (ascii "CHECK THE CLIP\n")
 slip-checks-the-clip fs front s back gs whole h i k n f others e =

@@ -3,35 +3,16 @@ use mathlib.Core.Path.{_≡_}
 use mathlib.Core.List.{List, [], _∷_, _++_, map}
 use Prim.Native.Nat.{ℕ, _+_, _≤_}
 use lib.ListN.{length}
-use Rattle.line_code.specs.LineCode.{kindNumber}
 use Rattle.profile.specs.declared.Profile.{Profile}
 use Rattle.stream.specs.Answers.{answerFor}
 use Rattle.stream.specs.Stream.{State, fresh, finish, run, outcomes}
 use Rattle.stream.specs.Written.{Sent, stream}
 use Rattle.recovery.specs.Calls.{upToEnd}
-use Rattle.frame.specs.declared.Borders.{Borders}
-use Rattle.frame.specs.Calls.{Line, line, IsFrame}
+use Rattle.frame_laws.specs.SentFrames.{allLines}
 use Rattle.verdict.specs.declared.Findings.{Findings}
 use Rattle.verdict.specs.declared.Verdict.{Verdict}
 use Rattle.verdict.specs.Verdict.{isLost, verdictOf}
 use Rattle.verdict_laws.specs.CaptureVerdict.{captureFindings}
-
--- the lines of frames, one frame straight after another
-abbrev pub allLines : List (List Sent) → List Sent
-allLines [] = []
-allLines (ss ∷ fs) = ss ++ allLines fs
-
--- lines that are sent, as they are handed to the judge
-abbrev pub judgedLine : Sent → Line
-judgedLine s = line (kindNumber (s .kind)) (s .number)
-
-abbrev pub judgedLines : List Sent → List Line
-judgedLines ss = map judgedLine ss
-
--- each is a whole frame, with borders on or off
-pub data AllFrames (p : Profile) : List (List Sent) → Type 0 where
-  no-frames : AllFrames p []
-  and-frame : (b : Borders) {ss : List Sent} {fs : List (List Sent)} → IsFrame p b (judgedLines ss) → AllFrames p fs → AllFrames p (ss ∷ fs)
 
 -- the n nibbles from the place i on hold one of the frames, from the start mark of its first line through the end code of its last
 pub record HoldsFrame (fs : List (List Sent)) (i n : ℕ) : Type 0 where

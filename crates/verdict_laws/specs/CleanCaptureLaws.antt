@@ -32,6 +32,7 @@ use Rattle.frame.specs.Frame.{lastPlace}
 use Rattle.frame.specs.Calls.{Line, rulings, isComplete, isBreak, fits, laidFrom, IsFrame}
 use Rattle.frame.specs.Calls as calls
 use Rattle.frame.specs.Handing.{isBrokenLine, handedLines, allHanded}
+use Rattle.frame_laws.specs.SentFrames.{judgedLine, judgedLines, allLines, AllFrames, no-frames, and-frame}
 use Rattle.tally.specs.Tally.{isUnfinished}
 use Rattle.verdict.specs.declared.Findings.{Findings}
 use Rattle.verdict.specs.declared.Found.{Found}
@@ -41,7 +42,7 @@ use Rattle.verdict.specs.FindingsLaws.{nothing-found}
 use Rattle.verdict.specs.Verdict.{isLost, verdictOf}
 use Rattle.verdict_laws.specs.CaptureVerdict.{found, captureVerdict, beforeFirst, fromFirst, wholeLines, someOutside, isRefused, markRefused}
 use Rattle.verdict_laws.specs.CaptureVerdictLaws.{or-neither, verdicts}
-use Rattle.verdict_laws.specs.CleanCapture.{allLines, judgedLine, judgedLines, AllFrames, no-frames, and-frame, HoldsFrame, verdictOn}
+use Rattle.verdict_laws.specs.CleanCapture.{HoldsFrame, verdictOn}
 use Rattle.verdict_laws.specs.JudgedFrames.{some-append, NoStray, front-no-stray, Framed, framed-none, framed-on, frame-framed, Tail, Begins, frame-begins, InPlace, in-place}
 
 -- Which lines lie wholly in the cut.

@@ -19,8 +19,9 @@ use Rattle.frame.specs.Frame.{layout, kindsOf, lastPlace}
 use Rattle.frame.specs.Calls.{Line, line, IsFrame, numberedFrom}
 use Rattle.frame.specs.FrameLength.{frame-length}
 use Rattle.frame_laws.specs.FrameLaws.{frame-counted}
+use Rattle.frame_laws.specs.SentFrames.{judgedLines, AllFrames, no-frames, and-frame}
 use Rattle.verdict.specs.declared.Verdict.the-variants.{Good}
-use Rattle.verdict_laws.specs.CleanCapture.{judgedLines, AllFrames, no-frames, and-frame, verdictOn}
+use Rattle.verdict_laws.specs.CleanCapture.{verdictOn}
 use Rattle.verdict_laws.specs.CleanCaptureLaws.{clean-good}
 use Rattle.verdict_laws.specs.LongEnough.{holds-first}
 

@@ -35,8 +35,9 @@ use Rattle.capture_lister.specs.declared.Mode.{Mode}
 use Rattle.capture_lister.specs.declared.Mode.the-variants.{Frames}
 use Rattle.capture_lister.specs.declared.Lister.{Lister}
 use Rattle.capture_lister.specs.Listed.{freshLister, textOf, belowOf, answerTo, afterNibble, listAfter, lastAnswer, lastFound, lostAt, endText}
+use Rattle.frame_laws.specs.SentFrames.{allLines, AllFrames}
 use Rattle.verdict_laws.specs.CaptureVerdict.{found}
-use Rattle.verdict_laws.specs.CleanCapture.{allLines, AllFrames, HoldsFrame, verdictOn}
+use Rattle.verdict_laws.specs.CleanCapture.{HoldsFrame, verdictOn}
 use Rattle.verdict_laws.specs.CleanCaptureLaws.{clean-good}
 use Rattle.verdict_laws.specs.ListedVerdict.{EndsIn, listerVerdict}
 

@@ -11,7 +11,8 @@ use Rattle.profile.specs.declared.Profile.{Profile}
 use Rattle.stream.specs.Written.{Sent, AllWritable, written, stream}
 use Rattle.recovery.specs.CutStream.{cutOut}
 use Rattle.verdict.specs.declared.Verdict.the-variants.{Good}
-use Rattle.verdict_laws.specs.CleanCapture.{allLines, AllFrames, and-frame, HoldsFrame, FramesWithin, none-within, one-within, verdictOn}
+use Rattle.frame_laws.specs.SentFrames.{allLines, AllFrames, and-frame}
+use Rattle.verdict_laws.specs.CleanCapture.{HoldsFrame, FramesWithin, none-within, one-within, verdictOn}
 use Rattle.verdict_laws.specs.CleanCaptureLaws.{stream-append, tail-after, clean-good}
 
 -- a list that is not empty has a last one
