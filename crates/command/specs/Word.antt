@@ -16,11 +16,14 @@ same [] (d ∷ t) = false
 same (c ∷ s) [] = false
 same (c ∷ s) (d ∷ t) = eqb c d && same s t
 
--- what a word asks for: one that begins with - and is no option is unknown, and any other is a name
+-- what a word asks for that names no sensor: one that begins with - and is no option is unknown, and any other is a name
+unfoldable pub otherWord : List ℕ → Word
+otherWord t =
+    cond (same t (ascii "odd-pixels-first")) OddPixelsFirst
+    (cond (same t (ascii "-o")) Output (cond (same (take 1 t) (ascii "-")) Unknown Name))
+
+-- what a word asks for: the VV6404 is of the VV5404's profile
 unfoldable pub wordOf : List ℕ → Word
 wordOf t =
     cond (same t (ascii "vv5404")) (Sensor VV5404)
-    (cond (same t (ascii "vv5300")) (Sensor VV5300)
-    (cond (same t (ascii "odd-pixels-first")) OddPixelsFirst
-    (cond (same t (ascii "-o")) Output
-    (cond (same (take 1 t) (ascii "-")) Unknown Name))))
+    (cond (same t (ascii "vv6404")) (Sensor VV5404) (cond (same t (ascii "vv5300")) (Sensor VV5300) (otherWord t)))

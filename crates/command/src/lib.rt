@@ -5,7 +5,7 @@
 ghost use mathlib.Core.Path.{_≡_};
 ghost use lib.ListN.{take};
 ghost use Rattle.text.specs.Text.{ascii};
-ghost use Rattle.command.specs.Word.{same, wordOf};
+ghost use Rattle.command.specs.Word.{same, otherWord, wordOf};
 use libc::STDERR_FILENO;
 use libc::STDIN_FILENO;
 use profile::Profile;
@@ -26,9 +26,19 @@ pub fn meaning(text: &[u8]) -> Word
     if is(text, b"vv5404") {
         return Word::Sensor(Profile::VV5404);
     }
+    if is(text, b"vv6404") {
+        return Word::Sensor(Profile::VV5404);
+    }
     if is(text, b"vv5300") {
         return Word::Sensor(Profile::VV5300);
     }
+    other_meaning(text)
+}
+
+// What a word asks for that names no sensor.
+fn other_meaning(text: &[u8]) -> Word
+    ensures { λ r. ⌜ r ≡ otherWord (now (text .entry)) ⌝ }
+{
     if is(text, b"odd-pixels-first") {
         return Word::OddPixelsFirst;
     }
@@ -50,7 +60,7 @@ pub struct Asked {
     pub understood: bool,
 }
 
-// Reads the arguments `[vv5404|vv5300] [FILE]`.
+// Reads the arguments `[vv5404|vv6404|vv5300] [FILE]`.
 pub fn sensor_and_file() -> Asked {
     let profile = Profile::VV5404;
     let mut asked = Asked {
@@ -122,12 +132,21 @@ pub struct Input {
     pub length: usize,
 }
 
+// Opens the capture at a place among the arguments.
+pub fn open_capture(file: usize, name: &mut [u8]) -> Input {
+    open(
+        file,
+        b"waiting for a capture on standard input (or give a file's name)\n",
+        name,
+    )
+}
+
 // Opens the file at a place among the arguments, or standard input for 0, and puts its name at the front of a buffer. A file that can't be
 // opened is told. Where standard input is a terminal, says what is waited for.
-pub fn open(file: usize, name: &mut [u8]) -> Input {
+pub fn open(file: usize, waiting: &[u8], name: &mut [u8]) -> Input {
     if file == 0 {
         if libc::isatty(STDIN_FILENO) == 1 {
-            complain(b"waiting for a capture on standard input (or give a file's name)\n");
+            complain(waiting);
         }
         let length = name_input(name);
         return Input {
@@ -136,6 +155,10 @@ pub fn open(file: usize, name: &mut [u8]) -> Input {
         };
     }
     let length = os::arg(file, name);
+    if length == 0 {
+        tell_no_name();
+        return Input { fd: -1, length };
+    }
     let fd = os::open_read(&name[..length]);
     if fd < 0 {
         os::fail(&name[..length]);
@@ -147,6 +170,15 @@ pub fn open(file: usize, name: &mut [u8]) -> Input {
 fn name_input(name: &mut [u8]) -> usize {
     let n = put(b"standard input", name, 0);
     io::count(n as isize, name)
+}
+
+// Tells why the argument that was last asked for is no file's name: it is empty, or longer than any.
+pub fn tell_no_name() {
+    if os::errno() == 0 {
+        complain(b"the name of a file is empty\n");
+        return;
+    }
+    os::fail(b"the name of a file");
 }
 
 // Writes a line to standard error.
@@ -165,7 +197,7 @@ fn has_dash(text: &[u8]) -> bool
 }
 
 // Whether a text is this one.
-fn is(text: &[u8], that: &[u8]) -> bool
+pub fn is(text: &[u8], that: &[u8]) -> bool
     ensures { λ r. ⌜ r ≡ same (now (text .entry)) (now (that .entry)) ⌝ }
 {
     if text.len() != that.len() {

@@ -3,5 +3,8 @@
 use capture_lister::Mode;
 
 fn main() {
-    standard::run(Mode::Frames, b"usage: frames [vv5404|vv5300] [FILE]\n");
+    standard::run(
+        Mode::Frames,
+        b"usage: frames [vv5404|vv6404|vv5300] [FILE]\n",
+    );
 }

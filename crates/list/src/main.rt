@@ -2,5 +2,5 @@
 use capture_lister::Mode;
 
 fn main() {
-    standard::run(Mode::Rows, b"usage: list [vv5404|vv5300] [FILE]\n");
+    standard::run(Mode::Rows, b"usage: list [vv5404|vv6404|vv5300] [FILE]\n");
 }

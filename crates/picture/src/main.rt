@@ -143,8 +143,12 @@ fn show(asked: Asked) {
             return;
         }
     }
+    if is_capture(asked.picture, asked.capture) {
+        command::complain(b"the picture would replace its capture: give another name after -o\n");
+        return;
+    }
     let mut name = io::buffer();
-    let input = command::open(asked.capture, &mut name);
+    let input = command::open_capture(asked.capture, &mut name);
     if input.fd < 0 {
         return;
     }
@@ -157,12 +161,32 @@ fn show(asked: Asked) {
     libc::close(input.fd);
 }
 
+// Whether the picture's name is the capture's.
+fn is_capture(picture: usize, capture: usize) -> bool {
+    if picture == 0 {
+        return false;
+    }
+    if capture == 0 {
+        return false;
+    }
+    let mut name = io::buffer();
+    let n = os::arg(capture, &mut name);
+    let mut other = io::buffer();
+    let m = os::arg(picture, &mut other);
+    if m == 0 {
+        return false;
+    }
+    command::is(&other[..m], &name[..n])
+}
+
 fn grab(order: Order, picture: usize, fd: i32, name: &[u8]) {
     let mut rows = [0u8; pgm::MOST_PIXELS];
     let found = seek(order, fd, name, &mut rows);
     match found {
         Found::Rows(n) => write(&rows, n, picture),
-        Found::Nothing => command::complain(b"no complete frame in the capture\n"),
+        Found::Nothing => command::complain(
+            b"no complete frame of a VV5404 or VV6404 in the capture: no other sensor has a picture\n",
+        ),
         Found::Failed => {}
     }
 }
@@ -229,6 +253,10 @@ fn put(file: &[u8], length: usize, picture: usize) {
 fn save(file: &[u8], picture: usize) {
     let mut name = io::buffer();
     let n = os::arg(picture, &mut name);
+    if n == 0 {
+        command::tell_no_name();
+        return;
+    }
     let fd = os::open_overwrite(&name[..n]);
     if fd < 0 {
         os::fail(&name[..n]);

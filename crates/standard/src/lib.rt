@@ -20,7 +20,7 @@ pub fn run(mode: Mode, usage: &[u8]) {
 
 fn list_asked(mode: Mode, asked: Asked) {
     let mut name = io::buffer();
-    let input = command::open(asked.file, &mut name);
+    let input = command::open_capture(asked.file, &mut name);
     if input.fd < 0 {
         return;
     }
@@ -34,16 +34,39 @@ fn list_asked(mode: Mode, asked: Asked) {
     libc::close(input.fd);
 }
 
-// Lists the whole of an input.
+// Lists the whole of an input. Its first piece is read before the head is written: an input that can't be read is told, and nothing is listed.
 fn list_input(lister: Lister, fd: i32, name: &[u8]) {
+    let mut buf = io::large_buffer();
+    let got = libc::read(fd, &mut buf);
+    if got < 0 {
+        os::fail(name);
+        return;
+    }
+    let n = io::count(got, &buf);
+    if write_head(lister) {
+        list_from(lister, &buf[..n], fd, name);
+    }
+}
+
+fn write_head(lister: Lister) -> bool {
     let mut out = io::buffer();
     let used = lister.head(&mut out);
-    write(&out[..used]);
-    let end = list_all(lister, fd, name);
+    write(&out[..used])
+}
+
+// Lists an input of which the first piece has been read.
+fn list_from(lister: Lister, piece: &[u8], fd: i32, name: &[u8]) {
+    let begun = list_piece(lister, piece);
+    let end = list_rest(begun, fd, name);
     if end.failed {
         return;
     }
     let lister = end.lister;
+    write_end(lister);
+}
+
+fn write_end(lister: Lister) {
+    let mut out = io::buffer();
     let last = lister.finish(&mut out);
     let used = last.used;
     write(&out[..used]);
@@ -56,13 +79,9 @@ struct Turn {
     failed: bool,
 }
 
-// Lists the input. Nothing says that an input ends, so the loop counts its turns down, from a number that no run uses up.
-fn list_all(lister: Lister, fd: i32, name: &[u8]) -> Turn {
-    let mut turn = Turn {
-        lister,
-        more: true,
-        failed: false,
-    };
+// Lists the rest of an input. Nothing says that an input ends, so the loop counts its turns down, from a number that no run uses up.
+fn list_rest(begun: Turn, fd: i32, name: &[u8]) -> Turn {
+    let mut turn = begun;
     let mut turns = u64::MAX;
     while turns > 0 {
         let l = turn.lister;
@@ -82,24 +101,13 @@ fn list_some(lister: Lister, fd: i32, name: &[u8]) -> Turn {
     let got = libc::read(fd, &mut buf);
     if got < 0 {
         os::fail(name);
-        return Turn {
-            lister,
-            more: false,
-            failed: true,
-        };
-    }
-    if got == 0 {
-        return Turn {
-            lister,
-            more: false,
-            failed: false,
-        };
+        return failed(lister);
     }
     let n = io::count(got, &buf);
     list_piece(lister, &buf[..n])
 }
 
-// Lists a piece, nibble after nibble, and writes its text as often as it fills the buffer.
+// Lists a piece, nibble after nibble, and writes its text as often as it fills the buffer. An empty piece is the input's end.
 fn list_piece(lister: Lister, piece: &[u8]) -> Turn {
     let mut out = io::large_buffer();
     let mut l = lister;
@@ -119,7 +127,7 @@ fn list_piece(lister: Lister, piece: &[u8]) -> Turn {
     }
     Turn {
         lister: l,
-        more: true,
+        more: 0 < piece.len(),
         failed: false,
     }
 }

@@ -1,4 +1,4 @@
--- The tests in order, each by its answer.
+-- The tests in order, each by its answer; a word that names no sensor is told by the rest.
 use Rattle.command.specs.Word.{wordOf}
 use borrow.Author.Needs.{needs}
 use Rattle.command.proofs.meaning.Statement.{statement}
@@ -10,23 +10,39 @@ returns c = simp (← c .before .is .ensures, c .if1 .taken)
 
 returns-2 : tie.Need-returns-2
 unfolding wordOf
-returns-2 c = simp (← c .before .before .before .before .is .ensures, c .before .before .before .if1 .left, ← c .before .is2 .ensures, c .if2 .taken)
+returns-2 c =
+    let first = c .before .before .before in
+    simp (← first .before .is .ensures, first .if1 .left, ← c .before .is2 .ensures, c .if2 .taken)
 
 returns-3 : tie.Need-returns-3
 unfolding wordOf
-returns-3 c = simp (← c .before .before .before .before .before .before .before .is .ensures, c .before .before .before .before .before .before .if1 .left, ← c .before .before .before .before .is2 .ensures, c .before .before .before .if2 .left, ← c .before .is3 .ensures, c .if3 .taken)
+returns-3 c =
+    let second = c .before .before .before in
+    let first = second .before .before .before in
+    simp (
+      ← first .before .is .ensures,
+      first .if1 .left,
+      ← second .before .is2 .ensures,
+      second .if2 .left,
+      ← c .before .is3 .ensures,
+      c .if3 .taken,
+    )
 
 returns-4 : tie.Need-returns-4
 unfolding wordOf
-returns-4 c = simp (← c .before .before .before .before .before .before .before .before .before .before .is .ensures, c .before .before .before .before .before .before .before .before .before .if1 .left, ← c .before .before .before .before .before .before .before .is2 .ensures, c .before .before .before .before .before .before .if2 .left, ← c .before .before .before .before .is3 .ensures, c .before .before .before .if3 .left, ← c .before .is4 .ensures, c .if4 .taken)
-
-returns-5 : tie.Need-returns-5
-unfolding wordOf
-returns-5 c = simp (← c .before .before .before .before .before .before .before .before .before .before .before .before .is .ensures, c .before .before .before .before .before .before .before .before .before .before .before .if1 .left, ← c .before .before .before .before .before .before .before .before .before .is2 .ensures, c .before .before .before .before .before .before .before .before .if2 .left, ← c .before .before .before .before .before .before .is3 .ensures, c .before .before .before .before .before .if3 .left, ← c .before .before .before .is4 .ensures, c .before .before .if4 .left, ← c .before .has-dash .ensures, c .if5 .taken)
-
-returns-6 : tie.Need-returns-6
-unfolding wordOf
-returns-6 c = simp (← c .before .before .before .before .before .before .before .before .before .before .before .before .is .ensures, c .before .before .before .before .before .before .before .before .before .before .before .if1 .left, ← c .before .before .before .before .before .before .before .before .before .is2 .ensures, c .before .before .before .before .before .before .before .before .if2 .left, ← c .before .before .before .before .before .before .is3 .ensures, c .before .before .before .before .before .if3 .left, ← c .before .before .before .is4 .ensures, c .before .before .if4 .left, ← c .before .has-dash .ensures, c .if5 .left)
+returns-4 c =
+    let third = c .before in
+    let second = third .before .before .before in
+    let first = second .before .before .before in
+    simp (
+      ← first .before .is .ensures,
+      first .if1 .left,
+      ← second .before .is2 .ensures,
+      second .if2 .left,
+      ← third .before .is3 .ensures,
+      third .if3 .left,
+    )
+    (c .other-meaning .ensures)
 
 pub meaning-spec : {M : Type 1} → statement M
 meaning-spec =
@@ -41,9 +57,5 @@ meaning-spec =
     (λ c. search needs)
     (λ c κs. search needs)
     returns-3
-    (λ c. search needs)
     (λ c κs. search needs)
-    returns-4
-    (λ c κs. search needs)
-    returns-5
-    returns-6)
+    returns-4)
