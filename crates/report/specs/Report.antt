@@ -13,6 +13,7 @@ use Rattle.signal.specs.declared.Spacing.{Spacing}
 use Rattle.verdict.specs.declared.Findings.{Findings}
 use Rattle.verdict.specs.declared.Verdict.{Verdict}
 use Rattle.verdict.specs.declared.Verdict.the-variants.{Good, CheckTheClip, NotGood, NoSignal}
+use Rattle.verdict.specs.Verdict.{inOrder}
 
 -- a line with a count: the words before it, the count, the words after it
 unfoldable pub countLine : List ℕ → ℕ → List ℕ → List ℕ
@@ -77,18 +78,24 @@ rangeWords s = decimal (s .least) ++ (ascii " to " ++ (decimal (s .greatest) ++ 
 abbrev pub othersLine : Spacing → List ℕ
 othersLine s = cond (eqb (s .others) 0) [] (ascii "other periods: " ++ (decimal (s .others) ++ (ascii ", " ++ rangeWords s)))
 
+abbrev pub linesNoun : ℕ → List ℕ
+linesNoun n = cond (eqb n 1) (ascii " line") (ascii " lines")
+
+unfoldable pub periodLine : ℕ → List ℕ → List ℕ
+periodLine n rate = countLine (ascii "period: ") n (linesNoun n ++ rate)
+
 unfoldable pub periodLines : Spacing → List ℕ
 periodLines s =
-    countLine (ascii "period: ") (s .thirty) (ascii " lines at 30 frames a second\n")
-    ++ (countLine (ascii "period: ") (s .twentyfive) (ascii " lines at 25 frames a second\n") ++ othersLine s)
+    periodLine (s .thirty) (ascii " at 30 frames a second\n")
+    ++ (periodLine (s .twentyfive) (ascii " at 25 frames a second\n") ++ othersLine s)
 
 abbrev pub lostLine : Bool → List ℕ
 lostLine lost = cond lost (ascii "signal lost: no mark in the last part of the capture\n") []
 
 -- marks, and no line: the capture may be the other sensor's
 abbrev pub otherSensor : Profile → List ℕ
-otherSensor VV5404 = ascii "no line of a VV5404; for a VV5300 head: frames vv5300\n"
-otherSensor VV5300 = ascii "no line of a VV5300; for a VV5404 head: frames vv5404\n"
+otherSensor VV5404 = ascii "no line of a VV5404; for a VV5300 head put vv5300 after frames\n"
+otherSensor VV5300 = ascii "no line of a VV5300; for a VV5404 head put vv5404 after frames\n"
 
 abbrev pub byFirst : Profile → First → List ℕ
 byFirst p Unseen = []
@@ -98,12 +105,28 @@ byFirst p Other = otherSensor p
 unfoldable pub hintLine : Profile → ℕ → First → List ℕ
 hintLine p lines first = cond (ltb 0 lines) [] (byFirst p first)
 
--- what to do, and the verdict in the last line
-abbrev pub verdictLines : Verdict → List ℕ
-verdictLines Good = ascii "GOOD\n"
-verdictLines CheckTheClip = ascii "something is out of order: take another capture before anyone takes the head\nCHECK THE CLIP\n"
-verdictLines NotGood = ascii "no frame is complete: seat the clip again and take another capture\nNOT GOOD\n"
-verdictLines NoSignal = ascii "no mark at all: is the head powered, and the clip on its bus?\nNO SIGNAL\n"
+-- no frame is complete: a capture in which nothing is out of order is too short
+abbrev pub noFrameLine : Bool → List ℕ
+noFrameLine ordered =
+    cond ordered (ascii "nothing is out of order, but no whole frame came: take a longer capture\n")
+    (ascii "no frame is complete: seat the clip again and take another capture\n")
+
+-- what to do, by the verdict and whether nothing is out of order
+abbrev pub adviceLine : Verdict → Bool → List ℕ
+adviceLine Good ordered = []
+adviceLine CheckTheClip ordered = ascii "something is out of order: take another capture before anyone takes the head\n"
+adviceLine NotGood ordered = noFrameLine ordered
+adviceLine NoSignal ordered = ascii "no mark at all: is the head powered, and the clip on its bus?\n"
+
+-- the verdict, in the last line
+abbrev pub verdictLine : Verdict → List ℕ
+verdictLine Good = ascii "GOOD\n"
+verdictLine CheckTheClip = ascii "CHECK THE CLIP\n"
+verdictLine NotGood = ascii "NOT GOOD\n"
+verdictLine NoSignal = ascii "NO SIGNAL\n"
+
+abbrev pub verdictLines : Verdict → Bool → List ℕ
+verdictLines v ordered = adviceLine v ordered ++ verdictLine v
 
 -- the whole report
 unfoldable pub reportOf : Findings → Bool → Verdict → List ℕ
@@ -112,7 +135,7 @@ reportOf f lost v =
     ++ (refusedLines (f .signal .refused)
     ++ (repairedLines (f .signal .repaired)
     ++ (periodLines (f .signal .spacing)
-    ++ (lostLine lost ++ (hintLine (f .tally .profile) (f .signal .lines) (f .signal .first) ++ verdictLines v)))))
+    ++ (lostLine lost ++ (hintLine (f .tally .profile) (f .signal .lines) (f .signal .first) ++ verdictLines v (inOrder f lost))))))
 
 -- The room.
 

@@ -15,7 +15,8 @@ use Rattle.signal.specs.declared.Spacing.{Spacing}
 use Rattle.verdict.specs.declared.Findings.{Findings}
 use Rattle.verdict.specs.declared.Verdict.{Verdict}
 use Rattle.verdict.specs.declared.Verdict.the-variants.{Good, CheckTheClip, NotGood, NoSignal}
-use Rattle.report.specs.Report.{countLine, frameCounts, framesLines, refusedCodes, brokenLines, refusedEnds, refusedLines, lowBits, highBits, repairedLines, rangeWords, othersLine, periodLines, lostLine, otherSensor, byFirst, hintLine, verdictLines, reportOf, reportRoom}
+use Rattle.verdict.specs.Verdict.{inOrder}
+use Rattle.report.specs.Report.{countLine, frameCounts, framesLines, refusedCodes, brokenLines, refusedEnds, refusedLines, lowBits, highBits, repairedLines, rangeWords, othersLine, linesNoun, periodLine, periodLines, lostLine, otherSensor, byFirst, hintLine, adviceLine, verdictLine, reportOf, reportRoom}
 
 -- a line with a count: its words and at most 20 digits
 count-short : (before : List ℕ) (n : ℕ) (after : List ℕ) → length (countLine before n after) ≤ length before + 20 + length after
@@ -79,14 +80,23 @@ others-short s = either (eqb (s .others) 0)
     either true = omega arith
     either false = simp length-append (omega (arith, decimal-short (s .others), decimal-short (s .least), decimal-short (s .greatest)))
 
+period-short : (n : ℕ) (rate : List ℕ) → length (periodLine n rate) ≤ 34 + length rate
+unfolding periodLine
+period-short n rate =
+    omega (arith, count-short (ascii "period: ") n (linesNoun n ++ rate), length-append (linesNoun n) rate, noun-short (eqb n 1))
+  where
+    noun-short : (b : Bool) → length (cond b (ascii " line") (ascii " lines")) ≤ 6
+    noun-short true = omega arith
+    noun-short false = omega arith
+
 periods-short : (s : Spacing) → length (periodLines s) ≤ 220
 unfolding periodLines
 periods-short s =
     simp length-append
     (omega (
       arith,
-      count-short (ascii "period: ") (s .thirty) (ascii " lines at 30 frames a second\n"),
-      count-short (ascii "period: ") (s .twentyfive) (ascii " lines at 25 frames a second\n"),
+      period-short (s .thirty) (ascii " at 30 frames a second\n"),
+      period-short (s .twentyfive) (ascii " at 25 frames a second\n"),
       others-short s,
     ))
 
@@ -94,21 +104,28 @@ lost-short : (lost : Bool) → length (lostLine lost) ≤ 60
 lost-short true = omega arith
 lost-short false = omega arith
 
-sensor-short : (p : Profile) → length (otherSensor p) ≤ 60
+sensor-short : (p : Profile) → length (otherSensor p) ≤ 70
 sensor-short VV5404 = omega arith
 sensor-short VV5300 = omega arith
 
-hint-short : (p : Profile) (lines : ℕ) (f : First) → length (hintLine p lines f) ≤ 60
+hint-short : (p : Profile) (lines : ℕ) (f : First) → length (hintLine p lines f) ≤ 70
 unfolding hintLine
 hint-short p lines f = either (ltb 0 lines) f
   where
-    either : (b : Bool) (f : First) → length (cond b [] (byFirst p f)) ≤ 60
+    either : (b : Bool) (f : First) → length (cond b [] (byFirst p f)) ≤ 70
     either true f = omega arith
     either false Unseen = omega arith
     either false InsideLine = sensor-short p
     either false Other = sensor-short p
 
-verdict-short : (v : Verdict) → length (verdictLines v) ≤ 110
+advice-short : (v : Verdict) (ordered : Bool) → length (adviceLine v ordered) ≤ 90
+advice-short Good ordered = omega arith
+advice-short CheckTheClip ordered = omega arith
+advice-short NotGood true = omega arith
+advice-short NotGood false = omega arith
+advice-short NoSignal ordered = omega arith
+
+verdict-short : (v : Verdict) → length (verdictLine v) ≤ 20
 verdict-short Good = omega arith
 verdict-short CheckTheClip = omega arith
 verdict-short NotGood = omega arith
@@ -127,5 +144,6 @@ report-short f lost v =
       periods-short (f .signal .spacing),
       lost-short lost,
       hint-short (f .tally .profile) (f .signal .lines) (f .signal .first),
+      advice-short v (inOrder f lost),
       verdict-short v,
     ))

@@ -5,7 +5,7 @@
 // Cost: linear in the report.
 ghost use lib.ListN.{length};
 ghost use Rattle.text.specs.Put.{Puts, AtFront};
-ghost use Rattle.report.specs.Report.{countLine, frameCounts, framesLines, refusedCodes, brokenLines, refusedEnds, refusedLines, lowBits, highBits, repairedLines, rangeWords, periodLines, lostLine, otherSensor, hintLine, verdictLines, reportOf, reportIfRoom};
+ghost use Rattle.report.specs.Report.{countLine, frameCounts, framesLines, refusedCodes, brokenLines, refusedEnds, refusedLines, lowBits, highBits, repairedLines, rangeWords, linesNoun, periodLine, periodLines, lostLine, otherSensor, hintLine, noFrameLine, adviceLine, verdictLines, reportOf, reportIfRoom};
 use profile::Profile;
 use signal::First;
 use signal::Signal;
@@ -35,7 +35,8 @@ pub fn put_report(findings: Findings, lost: bool, verdict: Verdict, out: &mut [u
     let tally = findings.tally;
     let profile = tally.profile;
     let at = put_hint(profile, signal, out, at);
-    put_verdict(verdict, out, at)
+    let ordered = findings.in_order(lost);
+    put_verdict(verdict, ordered, out, at)
 }
 
 // A line with a count, where that is not 0: the words before it, the count, the words after it.
@@ -165,20 +166,8 @@ fn put_high_bits(signal: Signal, out: &mut [u8], at: usize) -> usize
 fn put_periods(spacing: Spacing, out: &mut [u8], at: usize) -> usize
     ensures { λ r. ⌜ Puts (now (out .entry)) at (periodLines spacing) r (now (out .exit)) ⌝ }
 {
-    let at = put_count(
-        b"period: ",
-        spacing.thirty,
-        b" lines at 30 frames a second\n",
-        out,
-        at,
-    );
-    let at = put_count(
-        b"period: ",
-        spacing.twentyfive,
-        b" lines at 25 frames a second\n",
-        out,
-        at,
-    );
+    let at = put_period(spacing.thirty, b" at 30 frames a second\n", out, at);
+    let at = put_period(spacing.twentyfive, b" at 25 frames a second\n", out, at);
     if spacing.others == 0 {
         return at;
     }
@@ -186,6 +175,29 @@ fn put_periods(spacing: Spacing, out: &mut [u8], at: usize) -> usize
     let at = put_decimal(spacing.others, out, at);
     let at = put(b", ", out, at);
     put_range(spacing, out, at)
+}
+
+// The lines at a period that has a name.
+fn put_period(count: u64, rate: &[u8], out: &mut [u8], at: usize) -> usize
+    ensures { λ r. ⌜ Puts (now (out .entry)) at (periodLine count (now (rate .entry))) r (now (out .exit)) ⌝ }
+{
+    if count == 0 {
+        return at;
+    }
+    let at = put(b"period: ", out, at);
+    let at = put_decimal(count, out, at);
+    let at = put_noun(count, out, at);
+    put(rate, out, at)
+}
+
+// What is counted: one line, or lines.
+fn put_noun(count: u64, out: &mut [u8], at: usize) -> usize
+    ensures { λ r. ⌜ Puts (now (out .entry)) at (linesNoun count) r (now (out .exit)) ⌝ }
+{
+    if count == 1 {
+        return put(b" line", out, at);
+    }
+    put(b" lines", out, at)
 }
 
 // The least and the greatest of the other periods.
@@ -231,12 +243,12 @@ fn put_other_sensor(profile: Profile, out: &mut [u8], at: usize) -> usize
 {
     match profile {
         Profile::VV5404 => put(
-            b"no line of a VV5404; for a VV5300 head: frames vv5300\n",
+            b"no line of a VV5404; for a VV5300 head put vv5300 after frames\n",
             out,
             at,
         ),
         Profile::VV5300 => put(
-            b"no line of a VV5300; for a VV5404 head: frames vv5404\n",
+            b"no line of a VV5300; for a VV5404 head put vv5404 after frames\n",
             out,
             at,
         ),
@@ -244,25 +256,51 @@ fn put_other_sensor(profile: Profile, out: &mut [u8], at: usize) -> usize
 }
 
 // What to do, and the verdict in the last line.
-fn put_verdict(verdict: Verdict, out: &mut [u8], at: usize) -> usize
-    ensures { λ r. ⌜ Puts (now (out .entry)) at (verdictLines verdict) r (now (out .exit)) ⌝ }
+fn put_verdict(verdict: Verdict, ordered: bool, out: &mut [u8], at: usize) -> usize
+    ensures { λ r. ⌜ Puts (now (out .entry)) at (verdictLines verdict ordered) r (now (out .exit)) ⌝ }
 {
+    let at = put_advice(verdict, ordered, out, at);
     match verdict {
         Verdict::Good => put(b"GOOD\n", out, at),
+        Verdict::CheckTheClip => put(b"CHECK THE CLIP\n", out, at),
+        Verdict::NotGood => put(b"NOT GOOD\n", out, at),
+        Verdict::NoSignal => put(b"NO SIGNAL\n", out, at),
+    }
+}
+
+fn put_advice(verdict: Verdict, ordered: bool, out: &mut [u8], at: usize) -> usize
+    ensures { λ r. ⌜ Puts (now (out .entry)) at (adviceLine verdict ordered) r (now (out .exit)) ⌝ }
+{
+    match verdict {
+        Verdict::Good => at,
         Verdict::CheckTheClip => put(
-            b"something is out of order: take another capture before anyone takes the head\nCHECK THE CLIP\n",
+            b"something is out of order: take another capture before anyone takes the head\n",
             out,
             at,
         ),
-        Verdict::NotGood => put(
-            b"no frame is complete: seat the clip again and take another capture\nNOT GOOD\n",
-            out,
-            at,
-        ),
+        Verdict::NotGood => put_no_frame(ordered, out, at),
         Verdict::NoSignal => put(
-            b"no mark at all: is the head powered, and the clip on its bus?\nNO SIGNAL\n",
+            b"no mark at all: is the head powered, and the clip on its bus?\n",
             out,
             at,
         ),
     }
+}
+
+// Where no frame is complete: a capture in which nothing is out of order is too short.
+fn put_no_frame(ordered: bool, out: &mut [u8], at: usize) -> usize
+    ensures { λ r. ⌜ Puts (now (out .entry)) at (noFrameLine ordered) r (now (out .exit)) ⌝ }
+{
+    if ordered {
+        return put(
+            b"nothing is out of order, but no whole frame came: take a longer capture\n",
+            out,
+            at,
+        );
+    }
+    put(
+        b"no frame is complete: seat the clip again and take another capture\n",
+        out,
+        at,
+    )
 }

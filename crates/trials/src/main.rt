@@ -29,6 +29,7 @@ fn main() {
     cut_frames(&mut bytes);
     slipped_clip(&mut bytes);
     other_sensor(&mut bytes);
+    short_captures(&mut bytes);
 }
 
 fn clean_vv5404(bytes: &mut [u8]) {
@@ -120,6 +121,19 @@ fn other_sensor(bytes: &mut [u8]) {
     judge(b"a VV5300 taken for a VV5404", Profile::VV5404, bytes, n);
     let n = put_lines(Profile::VV5404, true, 1, 304, bytes, 0);
     judge(b"a frame without its start", Profile::VV5404, bytes, n);
+}
+
+fn short_captures(bytes: &mut [u8]) {
+    let n = put_lines(Profile::VV5404, true, 0, 2, bytes, 0);
+    judge(b"two lines", Profile::VV5404, bytes, n);
+    let at = put_lines(Profile::VV5300, true, 40, 147, bytes, 0);
+    let n = put_lines(Profile::VV5300, true, 0, 100, bytes, at);
+    judge(
+        b"the end of a frame and the start of the next",
+        Profile::VV5300,
+        bytes,
+        n,
+    );
 }
 
 // Judges the first nibbles of some bytes, and writes the report below a title.

@@ -131,7 +131,7 @@ impl Findings {
     }
 
     // Whether nothing is out of order.
-    fn in_order(self, lost: bool) -> bool
+    pub fn in_order(self, lost: bool) -> bool
         ensures { λ r. ⌜ r ≡ inOrder self lost ⌝ }
     {
         if lost {

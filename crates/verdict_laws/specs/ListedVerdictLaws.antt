@@ -29,8 +29,8 @@ use Rattle.refinement.specs.Refine.{Follows, fresh-follows, feed-steps, finish-
 use Rattle.verdict.specs.declared.Findings.{Findings}
 use Rattle.verdict.specs.declared.Verdict.{Verdict}
 use Rattle.verdict.specs.Findings.{noFindings, takeOf, closeOf}
-use Rattle.verdict.specs.Verdict.{isLost, verdictOf}
-use Rattle.report.specs.Report.{framesLines, refusedLines, repairedLines, periodLines, lostLine, hintLine, verdictLines, reportOf}
+use Rattle.verdict.specs.Verdict.{isLost, inOrder, verdictOf}
+use Rattle.report.specs.Report.{framesLines, refusedLines, repairedLines, periodLines, lostLine, hintLine, adviceLine, verdictLine, reportOf}
 use Rattle.capture_lister.specs.declared.Mode.{Mode}
 use Rattle.capture_lister.specs.declared.Mode.the-variants.{Frames}
 use Rattle.capture_lister.specs.declared.Lister.{Lister}
@@ -99,27 +99,28 @@ lister-verdict p m {w} q =
     ∙ ap₂ (λ (k : Mark) (n : ℕ). isLost p k n) (s .at-same) (s .count-same)
     ∙ lost-held p (x .at) (length (x .text)))
 
-report-ends : (f : Findings) (lost : Bool) (v : Verdict) → EndsIn (reportOf f lost v) (verdictLines v)
+report-ends : (f : Findings) (lost : Bool) (v : Verdict) → EndsIn (reportOf f lost v) (verdictLine v)
 unfolding reportOf
 report-ends f lost v =
     ends-on (framesLines f)
     (ends-on (refusedLines (f .signal .refused))
     (ends-on (repairedLines (f .signal .repaired))
     (ends-on (periodLines (f .signal .spacing))
-    (ends-on (lostLine lost) (ends-on (hintLine (f .tally .profile) (f .signal .lines) (f .signal .first)) ([], refl))))))
+    (ends-on (lostLine lost)
+    (ends-on (hintLine (f .tally .profile) (f .signal .lines) (f .signal .first)) (adviceLine v (inOrder f lost), refl))))))
 
-end-ends : (l : Lister) → l .mode ≡ Frames → EndsIn (endText l) (verdictLines (listerVerdict l))
+end-ends : (l : Lister) → l .mode ≡ Frames → EndsIn (endText l) (verdictLine (listerVerdict l))
 unfolding belowOf
 end-ends l e =
     ends-on (textOf (l .mode) (lastFound l) (lastAnswer l))
-    (subst (λ (m : Mode). EndsIn (belowOf m (lastFound l .findings) (lostAt l)) (verdictLines (listerVerdict l))) (sym e)
+    (subst (λ (m : Mode). EndsIn (belowOf m (lastFound l .findings) (lostAt l)) (verdictLine (listerVerdict l))) (sym e)
     (report-ends (lastFound l .findings) (lostAt l) (listerVerdict l)))
 
--- the law: whatever the nibbles, the text of `frames` ends in the lines of the verdict on them
-pub verdict-told : (p : Profile) {w : List ℕ} → Small w → EndsIn (endText (listAfter (freshLister Frames p) w)) (verdictLines (verdictOn p w))
+-- the law: whatever the nibbles, the text of `frames` ends in the line of the verdict on them
+pub verdict-told : (p : Profile) {w : List ℕ} → Small w → EndsIn (endText (listAfter (freshLister Frames p) w)) (verdictLine (verdictOn p w))
 verdict-told p {w} q =
     let l : Lister = listAfter (freshLister Frames p) w in
-    subst (λ (v : Verdict). EndsIn (endText l) (verdictLines v)) (lister-verdict p Frames q)
+    subst (λ (v : Verdict). EndsIn (endText l) (verdictLine v)) (lister-verdict p Frames q)
     (end-ends l (holds p Frames q (noFindings p) (freshReader p) fresh (fresh-follows p) .mode-same))
 
 -- a clean stream's nibbles are nibbles
@@ -133,4 +134,4 @@ pub good-told : (p : Profile) {fs : List (List Sent)} → AllFrames p fs → All
 good-told p {fs} h g i n c =
     let w : List ℕ = cutOut (allLines fs) i n in
     let small : Small w = small-take (small-drop (nibbles-small (all-changed p g 0 0 no-nibble)) i) n in
-    subst (λ (v : Verdict). EndsIn (endText (listAfter (freshLister Frames p) w)) (verdictLines v)) (clean-good p h g i n c) (verdict-told p small)
+    subst (λ (v : Verdict). EndsIn (endText (listAfter (freshLister Frames p) w)) (verdictLine v)) (clean-good p h g i n c) (verdict-told p small)

@@ -10,9 +10,9 @@ returns : tie.Need-returns
 unfolding periodLines
 returns c =
     let twenty-five = c .before .before .before .before in
-    let thirty = twenty-five .before .before .before .before .before .before in
+    let thirty = twenty-five .before .before .before .before .before in
     simp (eq-eqb _ _ (c .if1 .taken))
-    (then (thirty .put-count .ensures) (then (twenty-five .put-count2 .ensures) (puts-none _ _)))
+    (then (thirty .put-period .ensures) (then (twenty-five .put-period2 .ensures) (puts-none _ _)))
 
 returns-2 : tie.Need-returns-2
 unfolding periodLines
@@ -22,18 +22,16 @@ returns-2 c =
     let count = words .before .before .before .before .before in
     let word = count .before .before .before .before in
     let twenty-five = word .before .before .before .before .before .before .before in
-    let thirty = twenty-five .before .before .before .before .before .before in
+    let thirty = twenty-five .before .before .before .before .before in
     simp (ne-eqb _ _ (word .before .before .before .if1 .left))
-    (then (thirty .put-count .ensures) (then (twenty-five .put-count2 .ensures) (then (word .put .ensures) (then (count .put-decimal .ensures) (then (words .put2 .ensures) (range .put-range .ensures))))))
+    (then (thirty .put-period .ensures) (then (twenty-five .put-period2 .ensures) (then (word .put .ensures) (then (count .put-decimal .ensures) (then (words .put2 .ensures) (range .put-range .ensures))))))
 
 pub put-periods-spec : {M : Type 1} → statement M
 put-periods-spec =
     tie.close
     (tie.spec
     (λ c. search needs)
-    (λ c. search needs)
     (λ c κs. search needs)
-    (λ c. search needs)
     (λ c. search needs)
     (λ c κs. search needs)
     (λ c. search needs)
