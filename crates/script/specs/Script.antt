@@ -1,19 +1,20 @@
 -- A script as a list of characters: where it stands, the text for each line, and the text for the whole.
 use mathlib.Core.Path.{_≡_}
-use mathlib.Core.Bool.{cond}
+use mathlib.Core.Bool.{Bool, true, false, cond}
 use mathlib.Core.List.{List, [], _∷_, _++_}
-use Prim.Native.Nat.{ℕ, _+_}
+use Prim.Native.Nat.{ℕ, _+_, _-_}
 use lib.Dec.{eqb, leb, ltb}
-use lib.ListN.{length, take}
-use Rattle.text.specs.Text.{newline}
+use lib.ListN.{length, take, getD}
+use Rattle.text.specs.Text.{space, newline}
 use Rattle.text.specs.Put.{AtFront}
 use Rattle.profile.specs.declared.Profile.{Profile}
 use Rattle.two_wire.specs.declared.Sensor.{Sensor}
 use Rattle.two_wire.specs.Registers.{fresh}
-use Rattle.two_wire_text.specs.declared.Told.{Told}
-use Rattle.two_wire_text.specs.Explained.{TellsIn}
+use Rattle.setting.specs.Number.{isBlank}
 use Rattle.script.specs.declared.Script.{Script}
-use Rattle.script.specs.Line.{tooLongText, textOf, sensorOf}
+use Rattle.script.specs.declared.Fed.{Fed}
+use Rattle.script.specs.declared.Reply.{Reply}
+use Rattle.script.specs.Line.{tooLongText, textOf, refusedOf, sensorOf, Replies}
 
 -- a sensor and its state, the number of the line, the room for it, and its characters so far
 pub record Place : Type 0 where
@@ -38,6 +39,9 @@ unfoldable pub lineText : Place → List ℕ
 lineText p =
     cond (leb (p .room) (length (p .kept))) (tooLongText (p .number) (p .room)) (textOf (p .profile) (p .sensor) (p .number) (p .kept))
 
+unfoldable pub lineRefused : Place → Bool
+lineRefused p = cond (leb (p .room) (length (p .kept))) true (refusedOf (p .profile) (p .kept))
+
 unfoldable pub lineSensor : Place → Sensor
 lineSensor p = cond (leb (p .room) (length (p .kept))) (p .sensor) (sensorOf (p .profile) (p .sensor) (p .kept))
 
@@ -48,8 +52,16 @@ lineAfter n = cond (ltb n 0xFFFFFFFFFFFFFFFF) (n + 1) n
 -- ---- a character
 
 -- the characters kept with one more, as far as there is room
-abbrev pub keptAfter : ℕ → List ℕ → ℕ → List ℕ
-keptAfter room kept c = take room (kept ++ (c ∷ []))
+abbrev pub appended : ℕ → List ℕ → ℕ → List ℕ
+appended room kept c = take room (kept ++ (c ∷ []))
+
+-- with a blank more: a space after a word, and nothing before the first word or after a space
+unfoldable pub blankAfter : ℕ → List ℕ → List ℕ
+blankAfter room kept =
+    cond (eqb (length kept) 0) kept (cond (eqb (getD kept (length kept - 1) 0) space) kept (appended room kept space))
+
+unfoldable pub keptAfter : ℕ → List ℕ → ℕ → List ℕ
+keptAfter room kept c = cond (isBlank c) (blankAfter room kept) (appended room kept c)
 
 abbrev pub onLine : Place → ℕ → Place
 onLine p c =
@@ -58,24 +70,32 @@ onLine p c =
 abbrev pub nextLine : Place → Place
 nextLine p = record { profile = p .profile; sensor = lineSensor p; number = lineAfter (p .number); room = p .room; kept = [] }
 
--- a newline ends the line, and gives its text
+-- a newline ends the line, and gives its text, and whether it is refused
 unfoldable pub placeAfter : Place → ℕ → Place
 placeAfter p c = cond (eqb c newline) (nextLine p) (onLine p c)
 
 unfoldable pub textOn : Place → ℕ → List ℕ
 textOn p c = cond (eqb c newline) (lineText p) []
 
+unfoldable pub refusedOn : Place → ℕ → Bool
+refusedOn p c = cond (eqb c newline) (lineRefused p) false
+
 -- ---- the whole
 
--- the text for a script; its end ends its last line
-abbrev pub scriptText : Place → List ℕ → List ℕ
-scriptText p [] = lineText p
-scriptText p (c ∷ script) = textOn p c ++ scriptText (placeAfter p c) script
+-- a line's text, where refused lines are asked for (true) and it is one, or where the others are (false) and it is not
+abbrev pub textWhere : Bool → Bool → List ℕ → List ℕ
+textWhere true refused text = cond refused text []
+textWhere false refused text = cond refused [] text
 
--- the text for a piece of a script that goes on, and where it stands then
-abbrev pub pieceText : Place → List ℕ → List ℕ
-pieceText p [] = []
-pieceText p (c ∷ piece) = textOn p c ++ pieceText (placeAfter p c) piece
+-- the text for the refused lines of a script, or for the others; its end ends its last line
+abbrev pub scriptText : Bool → Place → List ℕ → List ℕ
+scriptText asked p [] = textWhere asked (lineRefused p) (lineText p)
+scriptText asked p (c ∷ script) = textWhere asked (refusedOn p c) (textOn p c) ++ scriptText asked (placeAfter p c) script
+
+-- for a piece of a script that goes on, and where it stands then
+abbrev pub pieceText : Bool → Place → List ℕ → List ℕ
+pieceText asked p [] = []
+pieceText asked p (c ∷ piece) = textWhere asked (refusedOn p c) (textOn p c) ++ pieceText asked (placeAfter p c) piece
 
 abbrev pub afterPiece : Place → List ℕ → Place
 afterPiece p [] = p
@@ -83,16 +103,27 @@ afterPiece p (c ∷ piece) = afterPiece (placeAfter p c) piece
 
 -- ---- calls
 
--- the text for a line at the front of a buffer, as far as it has room, and the state after it
-abbrev pub TellsLine : Place → List ℕ → List ℕ → Told → Type 0
-TellsLine p = TellsIn (lineSensor p) (lineText p)
+-- the reply to a line
+abbrev pub RepliesLine : Place → List ℕ → List ℕ → Reply → Type 0
+RepliesLine p = Replies (lineSensor p) (lineRefused p) (lineText p)
 
--- a character kept in a buffer: how many are kept then, and the room
-pub record Keeps (c : ℕ) (before : List ℕ) (n : ℕ) (after : List ℕ) (r : ℕ) : Type 0 where
-  pub kept : take r after ≡ keptAfter (length before) (take n before) c
+-- characters kept at the front of a buffer, and its room
+pub record Keeps (kept before after : List ℕ) (r : ℕ) : Type 0 where
+  pub keeps : take r after ≡ kept
   pub room : length after ≡ length before
 
--- a character fed: where the script then stands, and the text at the front of a buffer
-pub record Feeds (p : Place) (c : ℕ) (before : List ℕ) (q : Place) (r : ℕ) (after : List ℕ) : Type 0 where
+-- those that a buffer has, with one more; with a blank more; with a character of a line more
+abbrev pub Appends : ℕ → List ℕ → ℕ → List ℕ → ℕ → Type 0
+Appends c before n = Keeps (appended (length before) (take n before) c) before
+
+abbrev pub KeepsBlank : List ℕ → ℕ → List ℕ → ℕ → Type 0
+KeepsBlank before n = Keeps (blankAfter (length before) (take n before)) before
+
+abbrev pub KeepsCharacter : ℕ → List ℕ → ℕ → List ℕ → ℕ → Type 0
+KeepsCharacter c before n = Keeps (keptAfter (length before) (take n before) c) before
+
+-- a character fed: where the script then stands, whether a line is refused, and the text at the front of a buffer
+pub record Feeds (p : Place) (c : ℕ) (before : List ℕ) (q : Place) (r : Fed) (after : List ℕ) : Type 0 where
   pub moves : q ≡ placeAfter p c
-  pub tells : AtFront (textOn p c) r before after
+  pub refuses : r .refused ≡ refusedOn p c
+  pub tells : AtFront (textOn p c) (r .length) before after

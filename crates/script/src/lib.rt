@@ -1,29 +1,28 @@
 // A script of settings and messages, in lines of text: what the program `registers` writes for its input.
 //
-// In: the script a character at a time, a lent buffer that keeps the line so far, and a lent buffer for the text. Out: at a newline and at the
-// script's end the text for the line, at the front of that buffer; and where the script then stands. In a line # starts a comment, and it and
-// the spaces, tabs and carriage returns before it are left out; a line with nothing else has no text.
+// In: the script a character at a time, its end as a newline, a lent buffer that keeps the line so far, and a lent buffer for the text. Out: at a
+// newline the text for the line, at the front of that buffer, and whether the line is refused; and where the script then stands. In a line #
+// starts a comment, which is left out. Blanks (spaces, tabs, carriage returns) before the first word and after the last are left out too, and
+// those between two words count as one space. A line with nothing else has no text.
 // - A setting of the sensor (crate setting): its messages in hex, one to a line. A setting leaves the sensor's state as it is.
 // - A message in hex (crate two_wire_text) is read against the state: `WRITE 32 1 ok`, `REFUSED 27, read data differs`.
-// - Any other line is told with its number and why: `line 3: coarse takes 0 to 302`. So is one that fills the buffer that keeps it.
+// - Any other line is refused, and told with its number and why: `line 3: coarse takes 0 to 302`. So is one that fills the buffer that keeps it.
 // Cost: constant for a character, linear in the line at its end.
 ghost use mathlib.Core.Path.{_≡_};
 ghost use mathlib.Core.Bool.{cond};
 ghost use lib.ListN.{take};
-ghost use Rattle.text.specs.Put.{Puts, AtFront};
-ghost use Rattle.two_wire_text.specs.Explained.{TellsIn};
+ghost use Rattle.text.specs.Put.{Puts};
 ghost use Rattle.setting.specs.declared.Setting.the-variants.{Unknown};
 ghost use Rattle.setting.specs.Setting.{settingOf};
 ghost use Rattle.setting.specs.Number.{isBlank};
 ghost use Rattle.script.specs.Bare.{bareLength};
-ghost use Rattle.script.specs.Line.{lineHead, beyondText, noGainText, unknownText, tooLongText, textOf, sensorOf, TellsBy};
-ghost use Rattle.script.specs.Script.{start, placeOf, lineText, lineAfter, TellsLine, Keeps, Feeds};
+ghost use Rattle.script.specs.Line.{lineHead, beyondText, noGainText, unknownText, tooLongText, RepliesTo, RepliesBy};
+ghost use Rattle.script.specs.Script.{start, placeOf, lineAfter, RepliesLine, Appends, KeepsBlank, KeepsCharacter, Feeds};
 use profile::Profile;
 use setting::Setting;
 use text::put;
 use text::put_decimal;
 use two_wire::Sensor;
-use two_wire_text::Told;
 use two_wire_text::put_message;
 
 // Where a script stands: the sensor that it is for and its state, the number of the line, and how many of its characters are kept.
@@ -34,10 +33,18 @@ pub struct Script {
     pub length: usize,
 }
 
-// Where a script stands after a character, and the length of the text.
+// Where a script stands after a character, the length of the text, and whether that tells why a line is refused.
 pub struct Fed {
     pub script: Script,
     pub length: usize,
+    pub refused: bool,
+}
+
+// What a line gives: the sensor's state after it, the length of its text, and whether it is refused.
+struct Reply {
+    sensor: Sensor,
+    length: usize,
+    refused: bool,
 }
 
 impl Script {
@@ -55,12 +62,12 @@ impl Script {
 
     // A character more.
     pub fn feed(self, c: u8, line: &mut [u8], out: &mut [u8; 128]) -> Fed
-        ensures { λ r. ⌜ Feeds (placeOf self (now (line .entry))) c (now (out .entry)) (placeOf (r .script) (now (line .exit))) (r .length) (now (out .exit)) ⌝ }
+        ensures { λ r. ⌜ Feeds (placeOf self (now (line .entry))) c (now (out .entry)) (placeOf (r .script) (now (line .exit))) r (now (out .exit)) ⌝ }
     {
         let profile = self.profile;
         if c == b'\n' {
-            let told = answer(self, line, out);
-            let sensor = told.sensor;
+            let reply = answer(self, line, out);
+            let sensor = reply.sensor;
             return Fed {
                 script: Script {
                     profile,
@@ -68,7 +75,8 @@ impl Script {
                     number: following(self.number),
                     length: 0,
                 },
-                length: told.length,
+                length: reply.length,
+                refused: reply.refused,
             };
         }
         let sensor = self.sensor;
@@ -81,15 +89,8 @@ impl Script {
                 length: kept,
             },
             length: 0,
+            refused: false,
         }
-    }
-
-    // The script's end: the text for a line that has no newline, and its length.
-    pub fn finish(self, line: &[u8], out: &mut [u8; 128]) -> usize
-        ensures { λ r. ⌜ AtFront (lineText (placeOf self (now (line .entry)))) r (now (out .entry)) (now (out .exit)) ⌝ }
-    {
-        let told = answer(self, line, out);
-        told.length
     }
 }
 
@@ -105,7 +106,33 @@ fn following(number: u64) -> u64
 
 // Keeps a character, where the buffer has room, and gives how many are kept.
 fn keep(c: u8, line: &mut [u8], length: usize) -> usize
-    ensures { λ r. ⌜ Keeps c (now (line .entry)) length (now (line .exit)) r ⌝ }
+    ensures { λ r. ⌜ KeepsCharacter c (now (line .entry)) length (now (line .exit)) r ⌝ }
+{
+    if setting::is_blank(c) {
+        return keep_blank(line, length);
+    }
+    append(c, line, length)
+}
+
+// Keeps a blank as a space after a word, and no second one.
+fn keep_blank(line: &mut [u8], length: usize) -> usize
+    ensures { λ r. ⌜ KeepsBlank (now (line .entry)) length (now (line .exit)) r ⌝ }
+{
+    if length == 0 {
+        return 0;
+    }
+    if line.len() <= length {
+        return length;
+    }
+    if line[length - 1] == b' ' {
+        return length;
+    }
+    append(b' ', line, length)
+}
+
+// Keeps a character as it is.
+fn append(c: u8, line: &mut [u8], length: usize) -> usize
+    ensures { λ r. ⌜ Appends c (now (line .entry)) length (now (line .exit)) r ⌝ }
 {
     if length < line.len() {
         line[length] = c;
@@ -115,66 +142,100 @@ fn keep(c: u8, line: &mut [u8], length: usize) -> usize
 }
 
 // The text for the line that is kept, as far as a buffer has room, and the sensor's state after it.
-fn answer(script: Script, line: &[u8], out: &mut [u8]) -> Told
-    ensures { λ r. ⌜ TellsLine (placeOf script (now (line .entry))) (now (out .entry)) (now (out .exit)) r ⌝ }
+fn answer(script: Script, line: &[u8], out: &mut [u8]) -> Reply
+    ensures { λ r. ⌜ RepliesLine (placeOf script (now (line .entry))) (now (out .entry)) (now (out .exit)) r ⌝ }
 {
     let profile = script.profile;
     let sensor = script.sensor;
     let n = script.length;
     if line.len() <= n {
         let length = put_too_long(script.number, line.len(), out);
-        return Told { sensor, length };
+        return Reply {
+            sensor,
+            length,
+            refused: true,
+        };
     }
     tell(profile, sensor, script.number, &line[..n], out)
 }
 
 // The text for a line, and the state after it.
-fn tell(profile: Profile, sensor: Sensor, number: u64, line: &[u8], out: &mut [u8]) -> Told
-    ensures { λ r. ⌜ TellsIn (sensorOf profile sensor (now (line .entry))) (textOf profile sensor number (now (line .entry))) (now (out .entry)) (now (out .exit)) r ⌝ }
+fn tell(profile: Profile, sensor: Sensor, number: u64, line: &[u8], out: &mut [u8]) -> Reply
+    ensures { λ r. ⌜ RepliesTo profile sensor number (now (line .entry)) (now (out .entry)) (now (out .exit)) r ⌝ }
 {
     let n = bare_length(line);
     if n == 0 {
-        return Told { sensor, length: 0 };
+        return Reply {
+            sensor,
+            length: 0,
+            refused: false,
+        };
     }
     tell_bare(profile, sensor, number, &line[..n], out)
 }
 
 // The text for a line without its comment, and the state after it.
-fn tell_bare(profile: Profile, sensor: Sensor, number: u64, line: &[u8], out: &mut [u8]) -> Told
-    ensures { λ r. ⌜ TellsBy (settingOf profile (now (line .entry))) profile sensor number (now (line .entry)) (now (out .entry)) (now (out .exit)) r ⌝ }
+fn tell_bare(profile: Profile, sensor: Sensor, number: u64, line: &[u8], out: &mut [u8]) -> Reply
+    ensures { λ r. ⌜ RepliesBy (settingOf profile (now (line .entry))) profile sensor number (now (line .entry)) (now (out .entry)) (now (out .exit)) r ⌝ }
 {
     let asked = setting::read(profile, line);
     match asked {
         Setting::Single(index, value) => {
             let length = put_message(index, value, out, 0);
-            Told { sensor, length }
+            Reply {
+                sensor,
+                length,
+                refused: false,
+            }
         }
         Setting::Double(index, high, next, low) => {
             let at = put_message(index, high, out, 0);
             let length = put_message(next, low, out, at);
-            Told { sensor, length }
+            Reply {
+                sensor,
+                length,
+                refused: false,
+            }
         }
         Setting::Beyond(at, limit) => {
             let length = put_beyond(number, line, at, limit, out);
-            Told { sensor, length }
+            Reply {
+                sensor,
+                length,
+                refused: true,
+            }
         }
         Setting::NoGain => {
             let length = put_no_gain(number, out);
-            Told { sensor, length }
+            Reply {
+                sensor,
+                length,
+                refused: true,
+            }
         }
         Setting::Unknown => explain(profile, sensor, number, line, out),
     }
 }
 
 // The text for a line that is no setting, and the state after it.
-fn explain(profile: Profile, sensor: Sensor, number: u64, line: &[u8], out: &mut [u8]) -> Told
-    ensures { λ r. ⌜ TellsBy Unknown profile sensor number (now (line .entry)) (now (out .entry)) (now (out .exit)) r ⌝ }
+fn explain(profile: Profile, sensor: Sensor, number: u64, line: &[u8], out: &mut [u8]) -> Reply
+    ensures { λ r. ⌜ RepliesBy Unknown profile sensor number (now (line .entry)) (now (out .entry)) (now (out .exit)) r ⌝ }
 {
     if two_wire_text::is_message(line) {
-        return two_wire_text::explain(sensor, line, out);
+        let told = two_wire_text::explain(sensor, line, out);
+        let sensor = told.sensor;
+        return Reply {
+            sensor,
+            length: told.length,
+            refused: false,
+        };
     }
     let length = put_unknown(profile, number, out);
-    Told { sensor, length }
+    Reply {
+        sensor,
+        length,
+        refused: true,
+    }
 }
 
 // How many characters of a line stand before its comment and the blanks there.

@@ -4,16 +4,16 @@ use native.Mathlib.Omega.{arith}
 use borrow.Author.Needs.{needs}
 use lib.Seq.{length-take-le}
 use Rattle.script.specs.ScriptLaws.{fills, fits}
-use Rattle.script.specs.Script.{lineText, lineSensor}
+use Rattle.script.specs.Script.{lineText, lineRefused, lineSensor}
 use Rattle.script.proofs.answer.Statement.{statement}
 use Rattle.script.proofs.answer.Tie as tie
 
 returns : tie.Need-returns
-unfolding lineText lineSensor
+unfolding lineText lineRefused lineSensor
 returns c =
     let test = c .before .before .before .before in
     let a = test .before .before .before .before .args in
-    simp (fills (a .line .now) (a .script .length) (test .if1 .taken)) (refl, c .before .before .put-too-long .ensures)
+    simp (fills (a .line .now) (a .script .length) (test .if1 .taken)) (record { leaves = refl; refuses = refl; tells = c .before .before .put-too-long .ensures })
 
 slice-aggregate-tell : tie.Need-slice-aggregate-tell
 slice-aggregate-tell c =
@@ -21,7 +21,7 @@ slice-aggregate-tell c =
     sym (length-take-le (a .script .length) (a .line .now) (omega (arith, c .before .if1 .left)))
 
 returns-2 : tie.Need-returns-2
-unfolding lineText lineSensor
+unfolding lineText lineRefused lineSensor
 returns-2 c =
     let test = c .before .before .before .before .before in
     let a = test .before .before .before .before .args in

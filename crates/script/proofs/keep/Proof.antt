@@ -1,14 +1,29 @@
--- Where there is room the character is stored after those kept; where there is none the buffer stays.
+-- A blank is kept as one, any other character as it is.
 use borrow.Author.Needs.{needs}
-use Rattle.script.specs.ScriptLaws.{keeps-one, keeps-none}
+use Rattle.script.specs.Script.{keptAfter}
 use Rattle.script.proofs.keep.Statement.{statement}
 use Rattle.script.proofs.keep.Tie as tie
 
 returns : tie.Need-returns
-returns c = keeps-one _ _ _ (c .if1 .taken)
+unfolding keptAfter
+returns c =
+    let test = c .before .before .before .before in
+    simp (← test .before .is-blank .ensures, test .if1 .taken) (c .before .before .keep-blank .ensures)
 
 returns-2 : tie.Need-returns-2
-returns-2 c = keeps-none _ _ _ (c .if1 .left)
+unfolding keptAfter
+returns-2 c =
+    let test = c .before .before .before .before in
+    simp (← test .before .is-blank .ensures, test .if1 .left) (c .before .before .append .ensures)
 
 pub keep-spec : {M : Type 1} → statement M
-keep-spec = tie.close (tie.spec (λ c. search needs) (λ c. search needs) (λ c. search needs) returns returns-2)
+keep-spec =
+    tie.close
+    (tie.spec
+    (λ c κs. search needs)
+    (λ c κs. search needs)
+    (λ c. search needs)
+    returns
+    (λ c κs. search needs)
+    (λ c. search needs)
+    returns-2)

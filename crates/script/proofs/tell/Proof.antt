@@ -6,13 +6,13 @@ use borrow.Author.Needs.{needs}
 use lib.Seq.{length-take-le}
 use Rattle.text.specs.PutLaws.{puts-none}
 use Rattle.script.specs.BareLaws.{bare-within}
-use Rattle.script.specs.Line.{textOf, sensorOf}
+use Rattle.script.specs.Line.{textOf, refusedOf, sensorOf}
 use Rattle.script.proofs.tell.Statement.{statement}
 use Rattle.script.proofs.tell.Tie as tie
 
 returns : tie.Need-returns
-unfolding textOf sensorOf
-returns c = simp (← c .before .bare-length .ensures, eq-eqb _ _ (c .if1 .taken)) (refl, puts-none _ 0)
+unfolding textOf refusedOf sensorOf
+returns c = simp (← c .before .bare-length .ensures, eq-eqb _ _ (c .if1 .taken)) (record { leaves = refl; refuses = refl; tells = puts-none _ 0 })
 
 slice-aggregate-tell-bare : tie.Need-slice-aggregate-tell-bare
 slice-aggregate-tell-bare c =
@@ -20,7 +20,7 @@ slice-aggregate-tell-bare c =
     sym (length-take-le _ line (omega (arith, bare-within line, c .before .before .bare-length .ensures)))
 
 returns-2 : tie.Need-returns-2
-unfolding textOf sensorOf
+unfolding textOf refusedOf sensorOf
 returns-2 c = simp (← c .before .before .before .before .before .before .bare-length .ensures, ne-eqb _ _ (c .before .before .before .before .before .if1 .left)) (c .before .before .tell-bare .ensures)
 
 pub tell-spec : {M : Type 1} → statement M

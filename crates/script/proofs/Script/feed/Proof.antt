@@ -4,32 +4,34 @@ use native.Mathlib.Omega.{arith}
 use borrow.Author.Needs.{needs}
 use borrow.Author.Tests.{eq-eqb, ne-eqb}
 use Rattle.text.specs.PutLaws.{puts-front}
-use Rattle.script.specs.Script.{placeOf, placeAfter, textOn}
+use Rattle.script.specs.Script.{placeOf, placeAfter, textOn, refusedOn}
 use Rattle.script.specs.ScriptLaws.{line-short}
 use Rattle.script.proofs.Script.feed.Statement.{statement}
 use Rattle.script.proofs.Script.feed.Tie as tie
 
 returns : tie.Need-returns
-unfolding placeAfter textOn
+unfolding placeAfter textOn refusedOn
 returns c =
     let told = c .before .before in
     let test = told .before .before .before in
     let a = test .before .before .args in
     let ended = eq-eqb _ _ (test .if1 .taken) in
     record {
-      moves = simp (ended, told .answer .ensures .0, c .following .ensures);
+      moves = simp (ended, told .answer .ensures .leaves, c .following .ensures);
+      refuses = simp ended (told .answer .ensures .refuses);
       tells = simp ended
-          (puts-front (told .answer .ensures .1)
+          (puts-front (told .answer .ensures .tells)
           (omega (arith, line-short (placeOf (a .self) (a .line .now)), told .before .answer-arg2 .given .0 .1)));
     }
 
 returns-2 : tie.Need-returns-2
-unfolding placeAfter textOn
+unfolding placeAfter textOn refusedOn
 returns-2 c =
     let keep = c .before .before in
     let on = ne-eqb _ _ (keep .before .before .before .if1 .left) in
     record {
-      moves = simp (on, keep .keep .ensures .kept, keep .keep .ensures .room);
+      moves = simp (on, keep .keep .ensures .keeps, keep .keep .ensures .room);
+      refuses = simp on;
       tells = simp on (record { count = refl; leaves = refl });
     }
 
