@@ -112,3 +112,7 @@ wrongData = 27
 -- two-wire: an index past 127
 abbrev pub pastLastRegister : ℕ
 pastLastRegister = 28
+
+-- 02, A13: the numbers of a list don't rise strictly
+abbrev pub numbersNotRising : ℕ
+numbersNotRising = 35

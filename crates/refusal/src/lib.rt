@@ -61,3 +61,6 @@ pub const WRONG_INDEX: u8 = 26;
 pub const WRONG_DATA: u8 = 27;
 
 pub const PAST_LAST_REGISTER: u8 = 28;
+
+// Two lists compared.
+pub const NUMBERS_NOT_RISING: u8 = 35;

@@ -1,0 +1,30 @@
+-- Five bytes for kinds that differ, seven for each place.
+use native.Mathlib.Omega.{arith}
+use Rattle.line_list.specs.Lines.{frontLine}
+use Rattle.difference.specs.DifferenceLaws.{between-size}
+use borrow.Author.Needs.{needs}
+use Rattle.difference.proofs.between_size.Statement.{statement}
+use Rattle.difference.proofs.between_size.Tie as tie
+
+returns : tie.Need-returns
+unfolding frontLine
+returns c = omega (arith, between-size (frontLine (c .before .before .before .before .before .before .before .before .args .a .now)) (frontLine (c .before .before .before .before .before .before .before .before .args .b .now)))
+
+pub between-size-spec : {M : Type 1} → statement M
+between-size-spec =
+    tie.close
+    (tie.spec
+    (λ c. search needs)
+    (λ c. search needs)
+    (λ c κs. search needs)
+    (λ c. search needs)
+    (λ c. search needs)
+    (λ c. search needs)
+    (λ c. search needs)
+    (λ c. search needs)
+    (λ c. search needs)
+    (λ c. search needs)
+    (λ c κs. search needs)
+    (λ c. search needs)
+    (λ c. search needs)
+    returns)

@@ -1,0 +1,10 @@
+pub mod Applied
+pub mod Meaning
+pub mod EachLaws
+pub mod MergeLaws
+pub mod ApplyLaws
+pub mod OrderLaws
+pub mod BytesLaws
+pub mod MeaningLaws
+pub mod UniqueLaws
+pub mod CompareLaws
