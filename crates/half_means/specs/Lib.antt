@@ -1,0 +1,3 @@
+pub mod HalfMeans
+pub mod Sixtyfourths
+pub mod HalfMeansLaws
