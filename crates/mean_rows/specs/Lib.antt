@@ -1,0 +1,2 @@
+pub mod MeanRows
+pub mod MeanRowsLaws
