@@ -1,0 +1,2 @@
+pub mod MeanLister
+pub mod MeanListerLaws

@@ -1,0 +1,138 @@
+-- A table of half-line means of a VV5300 capture (02, A10): a row for each visible line, and how far a lent buffer lasts.
+use mathlib.Core.Path.{_≡_}
+use mathlib.Core.Bool.{cond}
+use mathlib.Core.List.{List, [], _∷_, _++_}
+use Prim.Native.Nat.{ℕ, suc, _-_}
+use lib.Dec.{ltb}
+use lib.ListN.{length, take, replicate}
+use Rattle.line_code.specs.declared.Kind.{Kind}
+use Rattle.line_code.specs.declared.Kind.the-variants.{BL, BK, VL, SOF, EOF}
+use Rattle.line_code.specs.LineCode.{kindNumber}
+use Rattle.profile.specs.declared.Profile.the-variants.{VV5300}
+use Rattle.profile.specs.Profile.{profileNumber, bodyLength, longest}
+use Rattle.stream.specs.declared.LineFacts.{LineFacts}
+use Rattle.stream.specs.declared.GapFacts.{GapFacts}
+use Rattle.stream.specs.declared.Answer.{Answer}
+use Rattle.stream.specs.declared.Answer.the-variants as answer
+use Rattle.stream.specs.Answers.{Outcome, answerFor, bufferAfter}
+use Rattle.reader.specs.Reader.{Took, passes, freshReader, feedOf, finishOf}
+use Rattle.text.specs.Put.{onFront}
+use Rattle.half_means.specs.HalfMeans.{halvesOf}
+use Rattle.mean_rows.specs.MeanRows.{refusedRow, meansRow, meansRoom}
+use Rattle.mean_lister.specs.declared.Awaits.{Awaits}
+use Rattle.mean_lister.specs.declared.Awaits.the-variants as awaits
+use Rattle.mean_lister.specs.declared.MeanLister.{MeanLister}
+use Rattle.mean_lister.specs.declared.MeansListed.{MeansListed}
+
+-- a fresh VV5300 reader, an empty line buffer, and a line awaited
+abbrev pub freshLister : MeanLister
+freshLister = record { reader = freshReader VV5300; line = replicate longest 0; awaits = awaits.Line }
+
+-- What an answer brings.
+
+-- the gap of a visible line is awaited after it
+abbrev pub afterKind : Kind → ℕ → Awaits
+afterKind BL n = awaits.Line
+afterKind BK n = awaits.Line
+afterKind VL n = awaits.Gap n
+afterKind SOF n = awaits.Line
+afterKind EOF n = awaits.Line
+
+abbrev pub afterLine : LineFacts → Awaits
+afterLine f = afterKind (f .kind) (f .number)
+
+unfoldable pub awaitsAfter : Awaits → Answer → Awaits
+awaitsAfter w answer.Nothing = w
+awaitsAfter w (answer.Line f) = afterLine f
+awaitsAfter w (answer.Gap g) = awaits.Line
+awaitsAfter w (answer.Refused n) = awaits.Line
+
+-- the row of the visible line with a number, whose body is at the front of the line buffer: a good gap holds the sensor's means
+unfoldable pub gapRow : ℕ → GapFacts → List ℕ → List ℕ
+gapRow number g line =
+    meansRow number (g .first) (g .second)
+    (halvesOf (profileNumber VV5300) (kindNumber VL) (take (bodyLength VV5300) line) (g .first) (g .second))
+
+-- by its gap's answer; one that is refused has a row that says so
+unfoldable pub answerRow : ℕ → Answer → List ℕ → List ℕ
+answerRow number answer.Nothing line = []
+answerRow number (answer.Line f) line = []
+answerRow number (answer.Gap g) line = gapRow number g line
+answerRow number (answer.Refused n) line = refusedRow number n
+
+unfoldable pub textOf : Awaits → Answer → List ℕ → List ℕ
+textOf awaits.Line a line = []
+textOf (awaits.Gap number) a line = answerRow number a line
+
+-- One nibble.
+
+-- the reader after it, and what it answers; it is lent the line buffer
+abbrev pub fed : MeanLister → ℕ → Took
+fed l n = feedOf (l .reader) n longest
+
+-- the lister after an outcome, and the outcome's text
+abbrev pub withOutcome : MeanLister → Took → MeanLister
+withOutcome l t =
+    record { reader = t .reader; line = bufferAfter (t .outcome) (l .line); awaits = awaitsAfter (l .awaits) (answerFor (t .outcome)) }
+
+abbrev pub outcomeText : MeanLister → Outcome → List ℕ
+outcomeText l o = textOf (l .awaits) (answerFor o) (bufferAfter o (l .line))
+
+unfoldable pub afterNibble : MeanLister → ℕ → MeanLister
+afterNibble l n = withOutcome l (fed l n)
+
+unfoldable pub nibbleText : MeanLister → ℕ → List ℕ
+nibbleText l n = outcomeText l (fed l n .outcome)
+
+-- Many nibbles.
+
+-- the lister after them
+abbrev pub listAfter : MeanLister → List ℕ → MeanLister
+listAfter l [] = l
+listAfter l (n ∷ w) = listAfter (afterNibble l n) w
+
+-- their text
+abbrev pub listText : MeanLister → List ℕ → List ℕ
+listText l [] = []
+listText l (n ∷ w) = nibbleText l n ++ listText (afterNibble l n) w
+
+-- With a buffer.
+
+-- how many nibbles are taken of a reader that passes its own test: as long as there is room for one row more
+abbrev pub takenFrom : MeanLister → ℕ → List ℕ → ℕ
+takenFrom l room [] = 0
+takenFrom l room (n ∷ w) = cond (ltb room meansRoom) 0 (suc (takenFrom (afterNibble l n) (room - length (nibbleText l n)) w))
+
+-- none of any other
+abbrev pub takenOf : MeanLister → ℕ → List ℕ → ℕ
+takenOf l room w = cond (passes (l .reader .head)) (takenFrom l room w) 0
+
+-- a lister after a call, how many nibbles it took, and the text it put
+pub record MeansText : Type 0 where
+  pub lister : MeanLister
+  pub taken : ℕ
+  pub text : List ℕ
+
+-- the lister after so many nibbles, and their text
+abbrev pub listedUpTo : MeanLister → List ℕ → ℕ → MeansText
+listedUpTo l w k = record { lister = listAfter l (take k w); taken = k; text = listText l (take k w) }
+
+unfoldable pub listedOf : MeanLister → ℕ → List ℕ → MeansText
+listedOf l room w = listedUpTo l w (takenOf l room w)
+
+-- Finish.
+
+-- the last mark's answer completes a row, or none
+abbrev pub lastText : MeanLister → List ℕ
+lastText l = textOf (l .awaits) (answerFor (finishOf (l .reader) .outcome)) (l .line)
+
+-- where the buffer has room for a row, a lister with the reader that finish leaves, and a line awaited; else the lister as it was, and no text
+unfoldable pub finishedOf : MeanLister → ℕ → MeansText
+finishedOf l room =
+    cond (ltb room meansRoom) (record { lister = l; taken = 0; text = [] })
+    (record { lister = record { reader = finishOf (l .reader) .reader; line = l .line; awaits = awaits.Line }; taken = 0; text = lastText l })
+
+-- what a call gives back, as one sentence: the lister and the count as the definition has them, and its text at the front of the buffer
+pub record ListsMeans (g : MeansText) (r : MeansListed) (before after : List ℕ) : Type 0 where
+  pub next : r ≡ record { lister = g .lister; taken = g .taken; used = length (g .text) }
+  pub leaves : after ≡ onFront (g .text) before
