@@ -46,7 +46,7 @@ pub fn decode(high: u8, low: u8) -> Decoded
 }
 
 // Whether a byte is a number byte.
-fn is_good(byte: u8) -> bool
+pub fn is_good(byte: u8) -> bool
     ensures { λ r. ⌜ r ≡ numberGood byte ⌝ }
 {
     if byte < 128 {

@@ -85,7 +85,7 @@ impl Profile {
     }
 
     // What a body of this kind may hold at a place; past the body's end: the filler.
-    fn rule_at(self, kind: Kind, place: usize) -> Rule
+    pub fn rule_at(self, kind: Kind, place: usize) -> Rule
         ensures { λ r. ⌜ r ≡ getD (rules self kind) place Filler ⌝ }
     {
         match kind {
@@ -135,7 +135,7 @@ impl Profile {
 
 impl Rule {
     // Whether a place under this rule may hold the byte.
-    fn allows(self, byte: u8) -> bool
+    pub fn allows(self, byte: u8) -> bool
         ensures { λ r. ⌜ r ≡ allows self byte ⌝ }
     {
         match self {

@@ -113,6 +113,10 @@ wrongData = 27
 abbrev pub pastLastRegister : ℕ
 pastLastRegister = 28
 
--- 02, A13: the numbers of a list don't rise strictly
+-- two lists of lines: the numbers of one don't rise strictly
 abbrev pub numbersNotRising : ℕ
 numbersNotRising = 35
+
+-- a run that is to be explained doesn't begin with a mark
+abbrev pub noMarkFirst : ℕ
+noMarkFirst = 36

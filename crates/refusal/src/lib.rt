@@ -64,3 +64,6 @@ pub const PAST_LAST_REGISTER: u8 = 28;
 
 // Two lists compared.
 pub const NUMBERS_NOT_RISING: u8 = 35;
+
+// A run that is to be explained, and does not begin with a mark.
+pub const NO_MARK_FIRST: u8 = 36;
