@@ -1,0 +1,4 @@
+pub mod Sums
+pub mod Explanation
+pub mod ExplanationLaws
+pub mod Valued

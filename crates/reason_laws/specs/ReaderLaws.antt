@@ -1,0 +1,150 @@
+-- The number is the reader's own (02, A9): read after any nibbles from a fresh state, the run's first mark is answered with the reason's number;
+-- so answer the meaning and the reader that runs.
+use mathlib.Core.Path.{_≡_, refl, _∙_, ap, ap₂, sym}
+use mathlib.Core.Bool.{true, false, true≢false}
+use mathlib.Core.List.{List, [], _∷_, _++_, append-assoc}
+use Prim.Native.Nat.{ℕ, suc, _+_, _*_, _≤_}
+use native.Mathlib.Omega.{arith}
+use lib.Dec.{leb}
+use lib.ListN.{length, drop, length-append}
+use lib.Seq.{drop-append-seam}
+use borrow.Author.Tests.{le-leb, leb-true}
+use Rattle.bits.specs.Every.{and-left, and-right}
+use Rattle.line_code.specs.declared.LineKind.{LineKind}
+use Rattle.line_code.specs.LineCode.{kindNumbered, meaningOf, readingOf}
+use Rattle.profile.specs.declared.Profile.{Profile}
+use Rattle.profile.specs.declared.Profile.the-variants.{VV5404, VV5300}
+use Rattle.profile.specs.Profile.{profileNumbered, profileNumber, bodyLength}
+use Rattle.stream.specs.Answers.{Outcome, turned, answerOf}
+use Rattle.stream.specs.Stream.{State, Completed, not-yet, mark, fresh, detect, kindAt, advance, step, finish, run, outcomes}
+use Rattle.recovery.specs.Marks.{onto, isMark, completes, marks-are-places}
+use Rattle.recovery.specs.Calls.{markNibbles}
+use Rattle.recovery.specs.CutTexts.{onto-append}
+use Rattle.recovery.specs.Resync.{stateWith}
+use Rattle.recovery.specs.ReadBack.{run-append, outcomes-append}
+use Rattle.reader.specs.Reader.{freshReader}
+use Rattle.reader_laws.specs.Passing.{Small, small-none, small-more}
+use Rattle.reader_laws.specs.SmallLaws.{small-append}
+use Rattle.refinement.specs.Refine.{fresh-follows, fedReader, fed-follows, refines, finish-refines}
+use Rattle.reason.specs.ExplanationLaws.{begun}
+use Rattle.reason.specs.Explanation.{opener, beginsMark, textIn, nextIn, firstReason, afterOpener, nibblesOnly, lastKind, runReason, explanation}
+use Rattle.reason_laws.specs.Short.{inShort, shortOf, codeOr, kindBefore, firstAnswer, answerGiven, readerGives}
+use Rattle.reason_laws.specs.NumberLaws.{reason-said}
+use Rattle.reason_laws.specs.MarkLaws.{answerFrom, open-answer, Opened, first-opens}
+
+-- a run that is not refused is explained by its first mark
+pub explanation-first : (p : Profile) (k : ℕ) (w : List ℕ) → k ≤ lastKind → nibblesOnly w ≡ true → beginsMark w ≡ true
+    → explanation (profileNumber p) k w ≡ firstReason p (kindNumbered k) (afterOpener w)
+unfolding explanation runReason profileNumbered
+explanation-first VV5404 k w h n b = simp (le-leb k lastKind h, n, b)
+explanation-first VV5300 k w h n b = simp (le-leb k lastKind h, n, b)
+
+told-length : (p : Profile) (s : State) (w : List ℕ) → length (outcomes p s w) ≡ length w
+told-length p s [] = refl
+told-length p s (n ∷ w) = ap suc (told-length p (step p s n .state) w)
+
+-- what comes after nibbles u, if k is how many these are
+module _ (p : Profile) (u v : List ℕ) (k : ℕ) (e : length u ≡ k) where
+  after-nibbles : firstAnswer (drop k (outcomes p fresh (u ++ v))) (finish p (run p fresh (u ++ v)) .outcome) ≡ answerFrom p (run p fresh u) v
+  after-nibbles =
+      ap₂ (λ (os : List Outcome) (s : State). firstAnswer os (finish p s .outcome))
+      (ap₂ (λ (n : ℕ) (os : List Outcome). drop n os) (sym (told-length p fresh u ∙ e)) (outcomes-append p fresh u v)
+      ∙ drop-append-seam (outcomes p fresh u) (outcomes p (run p fresh u) v))
+      (run-append p fresh u v)
+
+-- the meaning's answer to a run's first mark, by what the mark before was
+given : (p : Profile) (w₀ : List ℕ) (x y : ℕ) (rest : List ℕ)
+    → (o : Opened p (kindBefore p w₀) (16 * x + y) x y (run p fresh (w₀ ++ (opener ++ (x ∷ y ∷ [])))))
+    → answerGiven p w₀ (opener ++ (x ∷ y ∷ rest))
+    ≡ answerOf p (o .before) (16 * x + y) (turned (textIn (x ∷ y ∷ rest)) []) (codeOr (nextIn (x ∷ y ∷ rest)))
+given p w₀ x y rest o =
+    let u : List ℕ = w₀ ++ (opener ++ (x ∷ y ∷ [])) in
+    ap (λ (l : List ℕ). firstAnswer (drop (length w₀ + markNibbles) (outcomes p fresh l)) (finish p (run p fresh l) .outcome))
+    (sym (append-assoc w₀ (opener ++ (x ∷ y ∷ [])) rest))
+    ∙ after-nibbles p u rest (length w₀ + markNibbles) (length-append w₀ (opener ++ (x ∷ y ∷ [])))
+    ∙ ap (λ (s : State). answerFrom p s rest) (o .state)
+    ∙ open-answer p (o .before) (16 * x + y) x y rest
+
+-- the number is the meaning's
+pub number-of-the-meaning : (p : Profile) (w₀ : List ℕ) (k : ℕ) (w : List ℕ) → k ≤ lastKind → nibblesOnly w ≡ true → beginsMark w ≡ true
+    → kindBefore p w₀ ≡ kindNumbered k → inShort (answerGiven p w₀ w) ≡ shortOf (explanation (profileNumber p) k w)
+unfolding firstReason
+number-of-the-meaning p w₀ k w h n b e =
+    let g = begun w b in
+    let u : List ℕ = g .high ∷ g .low ∷ g .rest in
+    let c : ℕ = 16 * g .high + g .low in
+    let o = first-opens p w₀ (g .high) (g .low) in
+    ap (λ (l : List ℕ). inShort (answerGiven p w₀ l)) (g .is)
+    ∙ ap inShort (given p w₀ (g .high) (g .low) (g .rest) o)
+    ∙ reason-said p (o .before) c (textIn u) (nextIn u)
+    ∙ ap (λ (q : LineKind). shortOf (firstReason p q u)) (o .kind-is ∙ e)
+    ∙ ap (λ (l : List ℕ). shortOf (firstReason p (kindNumbered k) (afterOpener l))) (sym (g .is))
+    ∙ ap shortOf (sym (explanation-first p k w h n b))
+
+small : (w : List ℕ) → nibblesOnly w ≡ true → Small w
+small [] h = small-none
+small (n ∷ w) h =
+    let k = leb-true n 15 (and-left (leb n 15) (nibblesOnly w) h) in
+    small-more {n = n} (omega arith) (small w (and-right (leb n 15) (nibblesOnly w) h))
+
+-- the number is the reader's own: fed w₀ and then the run, a nibble a call, with a buffer long enough lent to each, and finished
+pub number-of-the-reader : (p : Profile) (room : ℕ → ℕ) → ((i : ℕ) → bodyLength p ≤ room i) → (w₀ w : List ℕ) (k : ℕ)
+    → nibblesOnly w₀ ≡ true → k ≤ lastKind → nibblesOnly w ≡ true → beginsMark w ≡ true → kindBefore p w₀ ≡ kindNumbered k
+    → inShort (readerGives room p w₀ w) ≡ shortOf (explanation (profileNumber p) k w)
+number-of-the-reader p room roomy w₀ w k n₀ h n b e =
+    let s = small-append (small w₀ n₀) (small w n) in
+    ap inShort
+    (ap₂ (λ (os : List Outcome) (o : Outcome). firstAnswer (drop (length w₀ + markNibbles) os) o) (refines p room roomy s) (finish-refines p room roomy s))
+    ∙ number-of-the-meaning p w₀ k w h n b e
+
+-- the kind of the mark before is the one that the reader itself keeps
+pub kind-of-the-reader : (p : Profile) (room : ℕ → ℕ) → ((i : ℕ) → bodyLength p ≤ room i) → (w₀ : List ℕ) → nibblesOnly w₀ ≡ true
+    → kindAt (fedReader room (freshReader p) (w₀ ++ opener) .head .at) ≡ kindBefore p w₀
+kind-of-the-reader p room roomy w₀ n₀ =
+    ap kindAt (fed-follows p room roomy (small-append (small w₀ n₀) (small opener refl)) (freshReader p) fresh (fresh-follows p) .same .head-same .at-same)
+
+-- The kind of the mark before is that of the last mark in w₀, unless a mark's code is still due when w₀ ends.
+pub kind-before : (p : Profile) (w₀ : List ℕ) → completes (15 ∷ onto [] w₀) ≡ false → completes (15 ∷ 15 ∷ onto [] w₀) ≡ false
+    → kindBefore p w₀ ≡ kindAt (run p fresh w₀ .at)
+kind-before p w₀ h₁ h₂ = ap (λ (s : State). kindAt (s .at)) (run-append p fresh w₀ opener ∙ quiet)
+  where
+    s : State
+    s = run p fresh w₀
+
+    t : List ℕ
+    t = s .text
+
+    one : (d : Completed) → isMark d ≡ false → advance p (s .at) (15 ∷ t) d .state ≡ stateWith (s .at) (15 ∷ t)
+    one not-yet h = refl
+    one (mark a b before) h = absurd (true≢false h)
+
+    first : step p s 15 .state ≡ stateWith (s .at) (15 ∷ t)
+    first = one (detect (15 ∷ t)) (marks-are-places p w₀ 15 ∙ h₁)
+
+    after : run p fresh (w₀ ++ (15 ∷ [])) ≡ stateWith (s .at) (15 ∷ t)
+    after = run-append p fresh w₀ (15 ∷ []) ∙ first
+
+    quiet₂ : isMark (detect (15 ∷ 15 ∷ t)) ≡ false
+    quiet₂ =
+        ap (λ (q : State). completes (15 ∷ q .text)) (sym after)
+        ∙ marks-are-places p (w₀ ++ (15 ∷ [])) 15
+        ∙ ap (λ (l : List ℕ). completes (15 ∷ l)) (onto-append [] w₀ (15 ∷ []))
+        ∙ h₂
+
+    two : (d : Completed) → isMark d ≡ false → advance p (s .at) (15 ∷ 15 ∷ t) d .state ≡ stateWith (s .at) (15 ∷ 15 ∷ t)
+    two not-yet h = refl
+    two (mark a b before) h = absurd (true≢false h)
+
+    second : step p (stateWith (s .at) (15 ∷ t)) 15 .state ≡ stateWith (s .at) (15 ∷ 15 ∷ t)
+    second = two (detect (15 ∷ 15 ∷ t)) quiet₂
+
+    quiet : run p s opener ≡ stateWith (s .at) (0 ∷ 0 ∷ 15 ∷ 15 ∷ 15 ∷ 15 ∷ t)
+    quiet =
+        ap (λ (q : State). run p q (15 ∷ 15 ∷ 15 ∷ 0 ∷ 0 ∷ [])) first
+        ∙ ap (λ (q : State). run p q (15 ∷ 15 ∷ 0 ∷ 0 ∷ [])) second
+
+-- where one is due, the two may differ: after 9D (BL) and F F F F 0 0 the last mark so far is a BL; the next F F are a code, which is no line's
+pub code-still-due : (p : Profile)
+    → (kindAt (run p fresh (opener ++ (9 ∷ 13 ∷ opener)) .at) ≡ kindNumbered 1) × (kindBefore p (opener ++ (9 ∷ 13 ∷ opener)) ≡ kindNumbered 0)
+unfolding readingOf meaningOf kindNumbered
+code-still-due p = (refl, refl)
