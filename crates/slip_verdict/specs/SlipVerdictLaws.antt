@@ -2,7 +2,7 @@
 -- something is out of order; and every other frame is complete.
 use mathlib.Core.Path.{_≡_, refl, _∙_, ap, ap₂, sym, subst}
 use mathlib.Core.Bool.{Bool, true, false, true≢false, _&&_, _||_, not, cond, or-true}
-use mathlib.Core.List.{List, [], _∷_, _++_, append-assoc, append-nil, map}
+use mathlib.Core.List.{List, [], _∷_, _++_, append-nil, map}
 use mathlib.Core.Option.{none}
 use Prim.Native.Nat.{ℕ, _+_}
 use lib.ListN.{length, replicate}
@@ -35,9 +35,8 @@ use Rattle.slip.specs.LostRulings.{lost-incomplete, one-lost}
 use Rattle.slip.specs.SlipFramesLaws.{slipped-handed, lines-around}
 use Rattle.slip.specs.SlipTally.{lost-counted}
 use Rattle.verdict.specs.declared.Verdict.{Verdict}
-use Rattle.verdict.specs.declared.Verdict.the-variants.{CheckTheClip}
 use Rattle.verdict.specs.Verdict.{isLost}
-use Rattle.report.specs.Report.{verdictLines}
+use Rattle.report.specs.Report.{verdictLine}
 use Rattle.capture_lister.specs.declared.Mode.the-variants.{Frames}
 use Rattle.capture_lister.specs.Listed.{freshLister, listAfter, endText}
 use Rattle.verdict_laws.specs.CaptureVerdict.{captureVerdict, captureRulings, frameComplete, frameBroken, fewBefore, lineOutside, markRefused}
@@ -161,7 +160,7 @@ slip-found fs front s back gs whole h i k n =
     record {
       one-uncounted = lost-counted l (findingsOn p w .tally) (c .complete) (c .broken);
       verdict-is = v;
-      verdict-told = subst (λ (u : Verdict). EndsIn (endText (listAfter (freshLister Frames p) w)) (verdictLines u)) v (verdict-told p small);
+      verdict-told = subst (λ (u : Verdict). EndsIn (endText (listAfter (freshLister Frames p) w)) (verdictLine u)) v (verdict-told p small);
     }
 
 -- and where another frame is whole, the last line that `frames` writes is CHECK THE CLIP
@@ -171,11 +170,5 @@ pub slip-checks-the-clip : (fs : List (List Sent)) (front : List Sent) (s : Sent
     → EndsIn (endText (listAfter (freshLister Frames VV5404) (slipped (allLines fs ++ front) s (back ++ allLines gs) i k))) (ascii "CHECK THE CLIP\n")
 slip-checks-the-clip fs front s back gs whole h i k n f others e =
     let w : List ℕ = slipped (allLines fs ++ front) s (back ++ allLines gs) i k in
-    last-line (subst (λ (hs : List (List Sent)). EndsIn (endText (listAfter (freshLister Frames VV5404) w)) (verdictLines (slipVerdict hs))) e
-    (slip-found fs front s back gs whole h i k n .verdict-told))
-  where
-    advice : List ℕ
-    advice = ascii "something is out of order: take another capture before anyone takes the head\n"
-
-    last-line : {text : List ℕ} → EndsIn text (verdictLines CheckTheClip) → EndsIn text (ascii "CHECK THE CLIP\n")
-    last-line (above, e) = (above ++ advice, e ∙ sym (append-assoc above advice (ascii "CHECK THE CLIP\n")))
+    subst (λ (hs : List (List Sent)). EndsIn (endText (listAfter (freshLister Frames VV5404) w)) (verdictLine (slipVerdict hs))) e
+    (slip-found fs front s back gs whole h i k n .verdict-told)
