@@ -1,5 +1,6 @@
 -- A frame as the writer writes it, and the picture of it. Definitions only.
 use mathlib.Core.Path.{_≡_}
+use mathlib.Core.Bool.{Bool, true, _&&_, not}
 use mathlib.Core.List.{List, [], _∷_, _++_, map}
 use Prim.Native.Nat.{ℕ, _≤_}
 use lib.ListN.{length}
@@ -8,8 +9,10 @@ use Rattle.line_code.specs.declared.Kind.the-variants.{BL, BK, VL, SOF, EOF}
 use Rattle.line_code.specs.LineCode.{kindNumber}
 use Rattle.profile.specs.declared.Profile.the-variants.{VV5404}
 use Rattle.stream.specs.Written.{Sent, AllWritable}
+use Rattle.recovery.specs.Calls.{LineOut}
 use Rattle.lent_buffer.specs.Filled.{used}
 use Rattle.frame.specs.declared.Borders.{Borders}
+use Rattle.frame.specs.Frame.{opens}
 use Rattle.frame.specs.Calls.{line, IsFrame}
 use Rattle.pgm.specs.Pgm.{size, imageOf, writeOf}
 use Rattle.frame_rows.specs.declared.Order.{Order}
@@ -24,6 +27,11 @@ shownLine s = record { given = line (kindNumber (s .kind)) (s .number); body = s
 pub record FrameSent (b : Borders) (ss : List Sent) : Type 0 where
   pub whole : IsFrame VV5404 b (linesOf (map shownLine ss))
   pub writable : AllWritable VV5404 ss
+
+-- no line of these opens a frame: none is an SOF numbered 0
+abbrev pub opensNone : List LineOut → Bool
+opensNone [] = true
+opensNone (l ∷ ls) = not (opens (kindNumber (l .kind)) (l .number)) && opensNone ls
 
 -- The picture.
 

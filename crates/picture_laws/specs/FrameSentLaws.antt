@@ -27,6 +27,7 @@ use Rattle.recovery.specs.Calls.{lineIn}
 use Rattle.recovery.specs.Collected.{nothings, collected, collected-append, collected-nothings}
 use Rattle.recovery.specs.CleanAnswers.{lineRead}
 use Rattle.recovery.specs.WrittenLaws.{AllNibbles, no-nibble, and-nibble, all-changed}
+use Rattle.recovery.specs.Resync.{lines}
 use Rattle.recovery.specs.ReadBack.{seven, outcomes-append, restTold}
 use Rattle.recovery.specs.Gaps.{after, back, sentGap, next-told}
 use Rattle.refinement.specs.Refine.{Follows, fresh-follows, feed-steps}
@@ -53,13 +54,11 @@ use Rattle.frame_rows.specs.WholeFrameLaws.{frame-shown-on}
 use Rattle.frame_grabber.specs.FrameGrabber.{freshGrabber, blank, isSaid, After, grabOf}
 use Rattle.frame_grabber.specs.Pieces.{joined, grabPieces, givens, fedAll}
 use Rattle.frame_grabber.specs.PieceLaws.{grab-is, pieces-whole}
-use Rattle.picture_laws.specs.FrameSent.{shownLine, FrameSent, sentRow, sentRows, FramePictured}
-use Rattle.picture_laws.specs.UntilSaidLaws.{untilSaid, until-goes, said-stops, until-append, until-calls, quiet-is, seek-until, givens-append, calls-long}
+use Rattle.picture_laws.specs.FrameSent.{shownLine, FrameSent, opensNone, sentRow, sentRows, FramePictured}
+use Rattle.picture_laws.specs.UntilSaidLaws.{givenOf, untilSaid, until-goes, said-stops, until-append, until-calls, quiet-is, seek-until, givens-append, calls-long}
+use Rattle.picture_laws.specs.UnopenedLaws.{unopened-waits}
 
 -- What the gatherer is given, by the meaning's outcomes.
-
-abbrev givenOf : Outcome → Given
-givenOf o = record { answer = answerFor o; held = bufferAfter o blank }
 
 given-outcomes : {w : List ℕ} → Small w → (r : Reader) (x : State) → Follows VV5404 r x → givens r w ≡ map givenOf (outcomes VV5404 x w)
 given-outcomes small-none r x h = refl
@@ -327,9 +326,9 @@ sent-completes o b {ss} f =
       used = sym n;
     }
 
--- the law: whatever nibbles come before a frame as the writer writes it, if a fresh grabber says nothing of them; whatever comes after it; and in
--- whatever pieces the capture is taken: a fresh grabber whose buffer has room for the picture says complete, with exactly the pixels of the frame's
--- visible lines in the order sent, and their file is written
+-- whatever nibbles come before a frame as the writer writes it, if a fresh grabber says nothing of them; whatever comes after it; and in whatever
+-- pieces the capture is taken: a fresh grabber whose buffer has room for the picture says complete, with exactly the pixels of the frame's visible
+-- lines in the order sent, and their file is written
 pub frame-pictured : (o : Order) (b : Borders) {ss : List Sent} → FrameSent b ss → (held : List ℕ) → size (pictureOf b) ≤ length held
     → {before : List ℕ} → Small before → grabOf (freshGrabber o) before held .output ≡ rows.nothing
     → (later : List ℕ) (pieces : List (List ℕ)) → joined pieces ≡ (before ++ stream ss) ++ later
@@ -343,7 +342,16 @@ frame-pictured o b {ss} f held room {before} small none later pieces e =
       written = λ n. rows-written o (map shownLine ss) (size (pictureOf b)) (sentRows o ss) (sent-completes o b f) n (sent-laid (f .writable));
     }
 
--- so of a capture that is the frame alone
-pub frame-alone : (o : Order) (b : Borders) {ss : List Sent} → FrameSent b ss → (held : List ℕ) → size (pictureOf b) ≤ length held
-    → (pieces : List (List ℕ)) → joined pieces ≡ stream ss → FramePictured o b ss (grabPieces (freshGrabber o) held pieces .output)
-frame-alone o b {ss} f held room pieces e = frame-pictured o b f held room small-none (says-until o held []) [] pieces (e ∙ sym (append-nil (stream ss)))
+nothing-said : (o : Order) (held : List ℕ) {before : List ℕ} → Small before → opensNone (lines VV5404 fresh before) ≡ true
+    → grabOf (freshGrabber o) before held .output ≡ rows.nothing
+nothing-said o held {before} small e =
+    says-until o held before
+    ∙ ap (λ (gs : List Given). untilSaid (start o held) gs .output) (given-outcomes small (freshReader VV5404) fresh (fresh-follows VV5404))
+    ∙ unopened-waits before fresh (start o held) e (refl, refl) .0
+
+-- the law: so the first frame of a capture is pictured, at whatever nibble the capture starts: where no line that comes out before it opens a frame
+pub first-frame-pictured : (o : Order) (b : Borders) {ss : List Sent} → FrameSent b ss → (held : List ℕ) → size (pictureOf b) ≤ length held
+    → {before : List ℕ} → Small before → opensNone (lines VV5404 fresh before) ≡ true
+    → (later : List ℕ) (pieces : List (List ℕ)) → joined pieces ≡ (before ++ stream ss) ++ later
+    → FramePictured o b ss (grabPieces (freshGrabber o) held pieces .output)
+first-frame-pictured o b f held room small e = frame-pictured o b f held room small (nothing-said o held small e)

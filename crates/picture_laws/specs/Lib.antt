@@ -1,3 +1,5 @@
 pub mod FrameSent
 pub mod UntilSaidLaws
+pub mod UnopenedLaws
 pub mod FrameSentLaws
+pub mod Examples

@@ -10,6 +10,7 @@ use Rattle.bits.specs.Every.{and-left, and-right}
 use Rattle.refusal.specs.Refusal.{noRoom}
 use Rattle.profile.specs.declared.Profile.the-variants.{VV5404}
 use Rattle.profile.specs.Profile.{longest, width}
+use Rattle.stream.specs.Answers.{Outcome, answerFor, bufferAfter}
 use Rattle.reader.specs.declared.Reader.{Reader}
 use Rattle.reader.specs.Reader.{Took, feedOf}
 use Rattle.frame.specs.declared.Judge.{Judge}
@@ -23,9 +24,13 @@ use Rattle.frame_rows.specs.FrameRows.{Shown, Output, nothing, complete, AfterC
 use Rattle.frame_rows.specs.Gathering.{Given, call, calls, shown}
 use Rattle.frame_rows.specs.FrameRowsLaws.{pixels-length, put-length, Hands, none, one, hands}
 use Rattle.frame_rows.specs.WholeFrameLaws.{KeepsCalling}
-use Rattle.frame_grabber.specs.FrameGrabber.{given, isSaid, sought, seek}
+use Rattle.frame_grabber.specs.FrameGrabber.{blank, given, isSaid, sought, seek}
 use Rattle.frame_grabber.specs.Pieces.{givens, fedAll}
 use Rattle.frame_grabber.specs.SeekLaws.{not-said}
+
+-- what the gatherer is given of an outcome, with the blank line buffer that was lent
+abbrev pub givenOf : Outcome → Given
+givenOf o = record { answer = answerFor o; held = bufferAfter o blank }
 
 -- calls that go on while nothing is said
 abbrev pub untilSaid : AfterCall → List Given → AfterCall

@@ -110,7 +110,7 @@ sampleFrame b = samplesFrom 0 (kindsOf (layout VV5404 b))
 frame-whole : (b : Borders) → IsFrame VV5404 b (map judgedLine (sampleFrame b))
 frame-whole b = subst (IsFrame VV5404 b) (sym (samples-handed 0 (kindsOf (layout VV5404 b)))) (frame-counted VV5404 b)
 
-frame-writable : (b : Borders) → AllWritable VV5404 (sampleFrame b)
+pub frame-writable : (b : Borders) → AllWritable VV5404 (sampleFrame b)
 frame-writable b = samples-writable 0 (kindsOf (layout VV5404 b)) (omega (arith, frame-length VV5404 b))
 
 writable-both : {ss ts : List Sent} → AllWritable VV5404 ss → AllWritable VV5404 ts → AllWritable VV5404 (ss ++ ts)

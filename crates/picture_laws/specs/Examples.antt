@@ -1,0 +1,49 @@
+-- The law at work, at either border setting: a capture that starts within a byte, and then holds a frame. No hypothesis is empty.
+use mathlib.Core.Path.{_≡_, refl, sym, ap, subst}
+use mathlib.Core.List.{List, [], _∷_, _++_, map}
+use Prim.Native.Nat.{ℕ, _+_}
+use native.Mathlib.Omega.{arith}
+use lib.Dec.{lit≤}
+use lib.ListN.{replicate, length-replicate}
+use Rattle.line_code.specs.declared.Kind.{Kind}
+use Rattle.line_code.specs.LineCode.{kindNumber}
+use Rattle.profile.specs.declared.Profile.the-variants.{VV5404}
+use Rattle.stream.specs.Written.{stream}
+use Rattle.reader_laws.specs.Passing.{Small, small-none, small-more}
+use Rattle.frame.specs.declared.Borders.{Borders}
+use Rattle.frame.specs.Frame.{layout, kindsOf}
+use Rattle.frame.specs.Calls.{Line, line, IsFrame, numberedFrom}
+use Rattle.frame_laws.specs.FrameLaws.{frame-counted}
+use Rattle.slip.specs.Examples.{samplesFrom, sampleFrame, frame-writable}
+use Rattle.pgm.specs.Pgm.{size}
+use Rattle.frame_rows.specs.declared.Order.{Order}
+use Rattle.frame_rows.specs.Gathering.{linesOf, pictureOf}
+use Rattle.frame_grabber.specs.FrameGrabber.{freshGrabber}
+use Rattle.frame_grabber.specs.Pieces.{grabPieces}
+use Rattle.picture_laws.specs.FrameSent.{shownLine, FrameSent, FramePictured}
+use Rattle.picture_laws.specs.FrameSentLaws.{first-frame-pictured}
+
+samples-lines : (n : ℕ) (ks : List Kind) → linesOf (map shownLine (samplesFrom n ks)) ≡ numberedFrom n ks
+samples-lines n [] = refl
+samples-lines n (k ∷ ks) = ap {B = List Line} (λ ls. line (kindNumber k) n ∷ ls) (samples-lines (n + 1) ks)
+
+sample-sent : (b : Borders) → FrameSent b (sampleFrame b)
+sample-sent b =
+    record {
+      whole = subst (IsFrame VV5404 b) (sym (samples-lines 0 (kindsOf (layout VV5404 b)))) (frame-counted VV5404 b);
+      writable = frame-writable b;
+    }
+
+-- three nibbles of fillers, so that the frame's bytes do not start with the capture's
+abbrev before : List ℕ
+before = 7 ∷ 0 ∷ 7 ∷ []
+
+before-small : Small before
+before-small = small-more (lit≤ tt) (small-more (lit≤ tt) (small-more (lit≤ tt) small-none))
+
+pub sample-pictured : (o : Order) (b : Borders)
+    → FramePictured o b (sampleFrame b)
+    (grabPieces (freshGrabber o) (replicate (size (pictureOf b)) 0) ((before ++ stream (sampleFrame b)) ∷ []) .output)
+sample-pictured o b =
+    let held : List ℕ = replicate (size (pictureOf b)) 0 in
+    first-frame-pictured o b (sample-sent b) held (omega (arith, length-replicate {A = ℕ} (size (pictureOf b)) 0)) before-small refl [] ((before ++ stream (sampleFrame b)) ∷ []) refl
