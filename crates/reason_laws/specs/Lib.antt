@@ -5,3 +5,4 @@ pub mod MarkLaws
 pub mod ReaderLaws
 pub mod TrueLaws
 pub mod Examples
+pub mod AfterEnd

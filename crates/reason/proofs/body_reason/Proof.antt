@@ -32,21 +32,37 @@ pair-at-requires c κs = (c .before .before .before .before .pre .0, omega (arit
 
 loop-again : tie.Need-loop-again Inv-loop μ-loop
 loop-again c =
-    let l = c .before .before .before .before .before .loop in
-    let a = c .before .before .before .before .before .before .before .before .args in
-    (search needs, l .inv .1, l .inv .2 ∙ body-goes-on (a .profile) (a .kind) (a .text .now) (nextReason (a .next)) (l .i) (c .before .before .before .before .before .before .before .before .pre .1) (omega (arith, l .inv .1, c .before .before .before .before .loop-test .taken)) (c .before .before .before .pair-at .result) (c .before .before .before .pair-at .ensures) (c .before .before .rule-at .result) (c .before .before .rule-at .ensures) (sym (c .before .allows .ensures) ∙ c .if1 .taken))
+    let rule = c .before .before in
+    let byte = rule .before in
+    let l = byte .before .before .loop in
+    let start = byte .before .before .before .before .before in
+    let a = start .args in (
+      search needs,
+      l .inv .1,
+      l .inv .2
+          ∙ body-goes-on (a .profile) (a .kind) (a .text .now) (nextReason (a .next)) (l .i) (start .pre .1) (omega (arith, l .inv .1, byte .before .loop-test .taken))
+          (byte .pair-at .result) (byte .pair-at .ensures) (rule .rule-at .result) (rule .rule-at .ensures) (sym (c .before .allows .ensures) ∙ c .if1 .taken),
+    )
 
 returns : tie.Need-returns Inv-loop μ-loop
 returns c =
-    let l = c .before .before .before .before .before .loop in
-    let a = c .before .before .before .before .before .before .before .before .args in
-    sym (l .inv .2 ∙ body-stops (a .profile) (a .kind) (a .text .now) (nextReason (a .next)) (l .i) (c .before .before .before .before .before .before .before .before .pre .1) (omega (arith, l .inv .1, c .before .before .before .before .loop-test .taken)) (c .before .before .before .pair-at .result) (c .before .before .before .pair-at .ensures) (c .before .before .rule-at .result) (c .before .before .rule-at .ensures) (sym (c .before .allows .ensures) ∙ c .if1 .left))
+    let rule = c .before .before in
+    let byte = rule .before in
+    let l = byte .before .before .loop in
+    let start = byte .before .before .before .before .before in
+    let a = start .args in
+    sym (l .inv .2
+    ∙ body-stops (a .profile) (a .kind) (a .text .now) (nextReason (a .next)) (l .i) (start .pre .1) (omega (arith, l .inv .1, byte .before .loop-test .taken))
+    (byte .pair-at .result) (byte .pair-at .ensures) (rule .rule-at .result) (rule .rule-at .ensures) (sym (c .before .allows .ensures) ∙ c .if1 .left))
 
 returns-2 : tie.Need-returns-2 Inv-loop μ-loop
 returns-2 c =
     let l = c .before .before .loop in
     let a = c .before .before .before .before .before .args in
-    c .next-reason .ensures ∙ sym (l .inv .2 ∙ body-end (rules (a .profile) (a .kind)) (bytesIn (drop 6 (a .text .now))) (l .i) (nextReason (a .next)) (omega (arith, l .inv .1, rules-length (a .profile) (a .kind), c .before .loop-test .left)))
+    c .next-reason .ensures
+    ∙ sym (l .inv .2
+    ∙ body-end (rules (a .profile) (a .kind)) (bytesIn (drop 6 (a .text .now))) (l .i) (nextReason (a .next))
+    (omega (arith, l .inv .1, rules-length (a .profile) (a .kind), c .before .loop-test .left)))
 
 pub body-reason-spec : {M : Type 1} → statement M
 body-reason-spec =

@@ -10,21 +10,35 @@ use Rattle.reason.proofs.number_reason.Tie as tie
 
 returns : tie.Need-returns
 returns c =
-    let a = c .before .before .before .before .before .before .before .before .args in
+    let second = c .before in
+    let first = second .before .before in
+    let bytes = first .before .before in
+    let a = bytes .before .before .before .args in
     let t = a .text .now in
-    c .body-reason .ensures ∙ sym (numbers-good (pairAt t 2) (pairAt t 4) (lineFromBody (a .profile) (a .kind) t (a .next)) (ap numberGood (sym (c .before .before .before .before .before .before .pair-at .ensures)) ∙ sym (c .before .before .before .before .is-good .ensures) ∙ c .before .before .before .if1 .taken) (ap numberGood (sym (c .before .before .before .before .before .pair-at2 .ensures)) ∙ sym (c .before .before .is-good2 .ensures) ∙ c .before .if2 .taken))
+    c .body-reason .ensures
+    ∙ sym (numbers-good (pairAt t 2) (pairAt t 4) (lineFromBody (a .profile) (a .kind) t (a .next))
+    (ap numberGood (sym (bytes .before .pair-at .ensures)) ∙ sym (first .before .is-good .ensures) ∙ first .if1 .taken)
+    (ap numberGood (sym (bytes .pair-at2 .ensures)) ∙ sym (second .before .is-good2 .ensures) ∙ second .if2 .taken))
 
 returns-2 : tie.Need-returns-2
 returns-2 c =
-    let a = c .before .before .before .before .before .before .before .args in
+    let first = c .before .before in
+    let bytes = first .before .before in
+    let a = bytes .before .before .before .args in
     let t = a .text .now in
-    sym (second-bad (pairAt t 2) (pairAt t 4) (lineFromBody (a .profile) (a .kind) t (a .next)) (ap numberGood (sym (c .before .before .before .before .before .pair-at .ensures)) ∙ sym (c .before .before .before .is-good .ensures) ∙ c .before .before .if1 .taken) (ap numberGood (sym (c .before .before .before .before .pair-at2 .ensures)) ∙ sym (c .before .is-good2 .ensures) ∙ c .if2 .left) ∙ ap (BadNumber 1) (sym (c .before .before .before .before .pair-at2 .ensures)))
+    sym (second-bad (pairAt t 2) (pairAt t 4) (lineFromBody (a .profile) (a .kind) t (a .next))
+    (ap numberGood (sym (bytes .before .pair-at .ensures)) ∙ sym (first .before .is-good .ensures) ∙ first .if1 .taken)
+    (ap numberGood (sym (bytes .pair-at2 .ensures)) ∙ sym (c .before .is-good2 .ensures) ∙ c .if2 .left)
+    ∙ ap (BadNumber 1) (sym (bytes .pair-at2 .ensures)))
 
 returns-3 : tie.Need-returns-3
 returns-3 c =
-    let a = c .before .before .before .before .before .args in
+    let bytes = c .before .before in
+    let a = bytes .before .before .before .args in
     let t = a .text .now in
-    sym (first-bad (pairAt t 2) (pairAt t 4) (lineFromBody (a .profile) (a .kind) t (a .next)) (ap numberGood (sym (c .before .before .before .pair-at .ensures)) ∙ sym (c .before .is-good .ensures) ∙ c .if1 .left) ∙ ap (BadNumber 0) (sym (c .before .before .before .pair-at .ensures)))
+    sym (first-bad (pairAt t 2) (pairAt t 4) (lineFromBody (a .profile) (a .kind) t (a .next))
+    (ap numberGood (sym (bytes .before .pair-at .ensures)) ∙ sym (c .before .is-good .ensures) ∙ c .if1 .left)
+    ∙ ap (BadNumber 0) (sym (bytes .before .pair-at .ensures)))
 
 pub number-reason-spec : {M : Type 1} → statement M
 number-reason-spec =

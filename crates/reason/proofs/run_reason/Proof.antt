@@ -23,27 +23,37 @@ part-first-reason-start c =
 
 first-reason-requires : tie.Need-first-reason-requires
 first-reason-requires c κs =
-    let w = c .before .before .before .before .before .before .before .before .args .run .now in
-    let h = c .before .before .before .begins-mark .ensures .1 (c .before .before .if3 .taken) in
-    (nibbles-rest w 6 (sym (c .before .before .before .before .before .nibbles-only .ensures) ∙ c .before .before .before .before .if2 .taken), omega (arith, ap length (part-rest w 6), length-drop 6 w))
+    let begins = c .before .before in
+    let nibbles = begins .before .before in
+    let w = nibbles .before .before .before .before .args .run .now in
+    let h = begins .before .begins-mark .ensures .1 (begins .if3 .taken) in
+    (nibbles-rest w 6 (sym (nibbles .before .nibbles-only .ensures) ∙ nibbles .if2 .taken), omega (arith, ap length (part-rest w 6), length-drop 6 w))
 
 returns-2 : tie.Need-returns-2
 returns-2 c =
-    let a = c .before .before .before .before .before .before .before .before .before .args in
+    let begins = c .before .before .before in
+    let nibbles = begins .before .before in
+    let kind = nibbles .before .before in
+    let a = kind .before .before .args in
     let w = a .run .now in
-    c .first-reason .ensures ∙ ap₂ (firstReason (a .profile)) (c .before .before .numbered .ensures) (part-rest w 6) ∙ sym (run-first (a .profile) (a .before) w (c .before .before .before .before .before .before .before .if1 .left) (sym (c .before .before .before .before .before .before .nibbles-only .ensures) ∙ c .before .before .before .before .before .if2 .taken) (sym (c .before .before .before .before .begins-mark .ensures .0) ∙ c .before .before .before .if3 .taken))
+    c .first-reason .ensures
+    ∙ ap₂ (firstReason (a .profile)) (c .before .before .numbered .ensures) (part-rest w 6)
+    ∙ sym (run-first (a .profile) (a .before) w (kind .if1 .left) (sym (nibbles .before .nibbles-only .ensures) ∙ nibbles .if2 .taken)
+    (sym (begins .before .begins-mark .ensures .0) ∙ begins .if3 .taken))
 
 returns-3 : tie.Need-returns-3
 returns-3 c =
-    let a = c .before .before .before .before .before .before .args in
-    let w = a .run .now in
-    sym (run-36 (a .profile) (a .before) w (c .before .before .before .before .if1 .left) (sym (c .before .before .before .nibbles-only .ensures) ∙ c .before .before .if2 .taken) (sym (c .before .begins-mark .ensures .0) ∙ c .if3 .left))
+    let nibbles = c .before .before in
+    let kind = nibbles .before .before in
+    let a = kind .before .before .args in
+    sym (run-36 (a .profile) (a .before) (a .run .now) (kind .if1 .left) (sym (nibbles .before .nibbles-only .ensures) ∙ nibbles .if2 .taken)
+    (sym (c .before .begins-mark .ensures .0) ∙ c .if3 .left))
 
 returns-4 : tie.Need-returns-4
 returns-4 c =
-    let a = c .before .before .before .before .args in
-    let w = a .run .now in
-    sym (run-10 (a .profile) (a .before) w (c .before .before .if1 .left) (sym (c .before .nibbles-only .ensures) ∙ c .if2 .left))
+    let kind = c .before .before in
+    let a = kind .before .before .args in
+    sym (run-10 (a .profile) (a .before) (a .run .now) (kind .if1 .left) (sym (c .before .nibbles-only .ensures) ∙ c .if2 .left))
 
 pub run-reason-spec : {M : Type 1} → statement M
 run-reason-spec =

@@ -10,13 +10,39 @@ returns : tie.Need-returns
 returns c = sym (gap-short (c .before .before .args .kind) (c .before .before .args .gap .now) (c .if1 .taken))
 
 returns-2 : tie.Need-returns-2
-returns-2 c = c .stray-reason .ensures ∙ sym (two-good (c .before .before .before .before .before .before .before .before .before .before .args .kind) (c .before .before .before .before .before .before .before .before .before .before .args .gap .now) (c .before .before .before .before .before .before .before .before .if1 .left) (ap₂ allows (sym (c .before .before .before .before .before .gap-rule .ensures)) (sym (c .before .before .before .before .before .before .before .pair-at .ensures)) ∙ sym (c .before .before .before .before .allows .ensures) ∙ c .before .before .before .if2 .taken) (ap₂ allows (sym (c .before .before .before .before .before .gap-rule .ensures)) (sym (c .before .before .before .before .before .before .pair-at2 .ensures)) ∙ sym (c .before .before .allows2 .ensures) ∙ c .before .if3 .taken))
+returns-2 c =
+    let second = c .before in
+    let first = second .before .before in
+    let rule = first .before .before in
+    let bytes = rule .before in
+    let long = bytes .before .before in
+    let a = long .before .before .args in
+    c .stray-reason .ensures
+    ∙ sym (two-good (a .kind) (a .gap .now) (long .if1 .left)
+    (ap₂ allows (sym (rule .gap-rule .ensures)) (sym (bytes .before .pair-at .ensures)) ∙ sym (first .before .allows .ensures) ∙ first .if2 .taken)
+    (ap₂ allows (sym (rule .gap-rule .ensures)) (sym (bytes .pair-at2 .ensures)) ∙ sym (second .before .allows2 .ensures) ∙ second .if3 .taken))
 
 returns-3 : tie.Need-returns-3
-returns-3 c = sym (two-second (c .before .before .before .before .before .before .before .before .before .before .args .kind) (c .before .before .before .before .before .before .before .before .before .before .args .gap .now) (c .before .before .before .before .before .before .before .before .if1 .left) (ap₂ allows (sym (c .before .before .before .before .before .gap-rule .ensures)) (sym (c .before .before .before .before .before .before .before .pair-at .ensures)) ∙ sym (c .before .before .before .before .allows .ensures) ∙ c .before .before .before .if2 .taken) (ap₂ allows (sym (c .before .before .before .before .before .gap-rule .ensures)) (sym (c .before .before .before .before .before .before .pair-at2 .ensures)) ∙ sym (c .before .before .allows2 .ensures) ∙ c .before .if3 .left))
+returns-3 c =
+    let second = c .before in
+    let first = second .before .before in
+    let rule = first .before .before in
+    let bytes = rule .before in
+    let long = bytes .before .before in
+    let a = long .before .before .args in
+    sym (two-second (a .kind) (a .gap .now) (long .if1 .left)
+    (ap₂ allows (sym (rule .gap-rule .ensures)) (sym (bytes .before .pair-at .ensures)) ∙ sym (first .before .allows .ensures) ∙ first .if2 .taken)
+    (ap₂ allows (sym (rule .gap-rule .ensures)) (sym (bytes .pair-at2 .ensures)) ∙ sym (second .before .allows2 .ensures) ∙ second .if3 .left))
 
 returns-4 : tie.Need-returns-4
-returns-4 c = sym (two-first (c .before .before .before .before .before .before .before .before .args .kind) (c .before .before .before .before .before .before .before .before .args .gap .now) (c .before .before .before .before .before .before .if1 .left) (ap₂ allows (sym (c .before .before .before .gap-rule .ensures)) (sym (c .before .before .before .before .before .pair-at .ensures)) ∙ sym (c .before .before .allows .ensures) ∙ c .before .if2 .left))
+returns-4 c =
+    let first = c .before in
+    let rule = first .before .before in
+    let bytes = rule .before in
+    let long = bytes .before .before in
+    let a = long .before .before .args in
+    sym (two-first (a .kind) (a .gap .now) (long .if1 .left)
+    (ap₂ allows (sym (rule .gap-rule .ensures)) (sym (bytes .before .pair-at .ensures)) ∙ sym (first .before .allows .ensures) ∙ first .if2 .left))
 
 pub two-bytes-reason-spec : {M : Type 1} → statement M
 two-bytes-reason-spec =
