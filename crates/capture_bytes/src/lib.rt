@@ -107,7 +107,7 @@ fn run_portion(
 }
 
 // Puts the nibbles of bytes at the front of a buffer, and gives how many bytes it had room for.
-fn unpack(bytes: &[u8], to: &mut [u8]) -> usize
+pub fn unpack(bytes: &[u8], to: &mut [u8]) -> usize
     ensures { λ r. ⌜ (r ≡ fitting (length (now (bytes .entry))) (length (now (to .entry)))) × (now (to .exit) ≡ unpacked (now (bytes .entry)) (now (to .entry)) r) ⌝ }
 {
     let n = lesser(bytes.len(), to.len() / 2);

@@ -1,0 +1,45 @@
+-- The bytes before, the one in brackets, and the bytes after, one after another.
+use Rattle.text.specs.PutLaws.{then}
+use Rattle.reason_text.specs.ReasonText.{around}
+use borrow.Author.Needs.{needs}
+use Rattle.reason_text.proofs.put_bytes_around.Statement.{statement}
+use Rattle.reason_text.proofs.put_bytes_around.Tie as tie
+
+returns : tie.Need-returns
+unfolding around
+returns c =
+    let after = c .before .before in
+    let close = after .before .before .before .before .before in
+    let byte = close .before .before .before .before .before in
+    let bracket = byte .before .before .before .before .before in
+    let bytes = bracket .before .before .before .before .before in
+    let to = bytes .before .before .before in
+    simp (← to .before .lesser .ensures, ← to .lesser2 .ensures)
+    (then (bytes .put-bytes .ensures) (then (bracket .put .ensures) (then (byte .put-hex .ensures) (then (close .put2 .ensures) (after .put-bytes2 .ensures)))))
+
+pub put-bytes-around-spec : {M : Type 1} → statement M
+put-bytes-around-spec =
+    tie.close
+    (tie.spec
+    (λ c κs. search needs)
+    (λ c. search needs)
+    (λ c. search needs)
+    (λ c. search needs)
+    (λ c κs. search needs)
+    (λ c. search needs)
+    (λ c. search needs)
+    (λ c. search needs)
+    (λ c κs. search needs)
+    (λ c. search needs)
+    (λ c κs. search needs)
+    (λ c. search needs)
+    (λ c κs. search needs)
+    (λ c. search needs)
+    (λ c κs. search needs)
+    (λ c. search needs)
+    (λ c. search needs)
+    (λ c. search needs)
+    (λ c. search needs)
+    (λ c κs. search needs)
+    (λ c. search needs)
+    returns)

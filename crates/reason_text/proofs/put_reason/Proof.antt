@@ -1,0 +1,143 @@
+-- The words of each reason.
+use Rattle.reason_text.specs.ReasonText.{reasonWords}
+use borrow.Author.Needs.{needs}
+use Rattle.reason_text.proofs.put_reason.Statement.{statement}
+use Rattle.reason_text.proofs.put_reason.Tie as tie
+
+returns : tie.Need-returns
+unfolding reasonWords
+returns c =
+    let told = c .before .before .before .before .before in
+    simp (told .enum-told .given .1) (c .before .before .put-line .ensures)
+
+returns-2 : tie.Need-returns-2
+unfolding reasonWords
+returns-2 c =
+    let told = c .before .before .before .before in
+    simp (told .enum-told2 .given .1) (c .before .before .put-good-gap .ensures)
+
+returns-3 : tie.Need-returns-3
+unfolding reasonWords
+returns-3 c =
+    let told = c .before .before .before .before .before in
+    simp (told .why .given .1) (c .before .before .put-damaged .ensures)
+
+returns-4 : tie.Need-returns-4
+unfolding reasonWords
+returns-4 c =
+    let told = c .before .before .before .before in
+    simp (told .enum-told3 .given .1) (c .before .before .put-reserved .ensures)
+
+returns-5 : tie.Need-returns-5
+unfolding reasonWords
+returns-5 c =
+    let told = c .before .before .before .before in
+    simp (told .enum-told4 .given .1) (c .before .before .put-unfinished .ensures)
+
+returns-6 : tie.Need-returns-6
+unfolding reasonWords
+returns-6 c =
+    let told = c .before .before .before .before .before in
+    simp (told .why2 .given .1) (c .before .before .put-length .ensures)
+
+returns-7 : tie.Need-returns-7
+unfolding reasonWords
+returns-7 c =
+    let told = c .before .before .before .before .before in
+    simp (told .why3 .given .1) (c .before .before .put-number .ensures)
+
+returns-8 : tie.Need-returns-8
+unfolding reasonWords
+returns-8 c =
+    let told = c .before .before .before .before .before in
+    simp (told .why4 .given .1) (c .before .before .put-body .ensures)
+
+returns-9 : tie.Need-returns-9
+unfolding reasonWords
+returns-9 c =
+    let told = c .before .before .before .before .before in
+    simp (told .why5 .given .1) (c .before .before .put-end .ensures)
+
+returns-10 : tie.Need-returns-10
+unfolding reasonWords
+returns-10 c =
+    let told = c .before .before .before .before .before in
+    simp (told .enum-told5 .given .1) (c .before .before .put .ensures)
+
+returns-11 : tie.Need-returns-11
+unfolding reasonWords
+returns-11 c =
+    let told = c .before .before .before .before .before in
+    simp (told .why6 .given .1) (c .before .before .put-gap .ensures)
+
+returns-12 : tie.Need-returns-12
+unfolding reasonWords
+returns-12 c =
+    let told = c .before .before .before .before .before in
+    simp (told .why7 .given .1) (c .before .before .put-short .ensures)
+
+returns-13 : tie.Need-returns-13
+unfolding reasonWords
+returns-13 c =
+    let told = c .before .before .before .before .before in
+    simp (told .why8 .given .1) (c .before .before .put-other .ensures)
+
+pub put-reason-spec : {M : Type 1} → statement M
+put-reason-spec =
+    tie.close
+    (tie.spec
+    (λ c. search needs)
+    (λ c. search needs)
+    (λ c κs. search needs)
+    (λ c. search needs)
+    (λ c κs. search needs)
+    (λ c. search needs)
+    (λ c κs. search needs)
+    (λ c. search needs)
+    (λ c κs. search needs)
+    (λ c. search needs)
+    (λ c κs. search needs)
+    (λ c. search needs)
+    (λ c κs. search needs)
+    (λ c. search needs)
+    (λ c κs. search needs)
+    (λ c. search needs)
+    (λ c κs. search needs)
+    (λ c. search needs)
+    (λ c κs. search needs)
+    (λ c. search needs)
+    (λ c. search needs)
+    (λ c κs. search needs)
+    (λ c. search needs)
+    (λ c κs. search needs)
+    (λ c. search needs)
+    (λ c κs. search needs)
+    (λ c. search needs)
+    (λ c. search needs)
+    (λ c κs. search needs)
+    (λ c. search needs)
+    returns
+    (λ c. search needs)
+    returns-2
+    (λ c. search needs)
+    returns-3
+    (λ c. search needs)
+    returns-4
+    (λ c. search needs)
+    returns-5
+    (λ c. search needs)
+    returns-6
+    (λ c. search needs)
+    returns-7
+    (λ c. search needs)
+    returns-8
+    (λ c. search needs)
+    returns-9
+    (λ c. search needs)
+    returns-10
+    (λ c. search needs)
+    returns-11
+    (λ c. search needs)
+    returns-12
+    (λ c. search needs)
+    returns-13)

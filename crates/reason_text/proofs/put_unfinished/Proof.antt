@@ -1,0 +1,37 @@
+-- By whether the line is longer than what is looked at.
+use Rattle.text.specs.PutLaws.{then}
+use Rattle.reason_text.specs.ReasonText.{unfinishedWords}
+use borrow.Author.Needs.{needs}
+use Rattle.reason_text.proofs.put_unfinished.Statement.{statement}
+use Rattle.reason_text.proofs.put_unfinished.Tie as tie
+
+returns : tie.Need-returns
+unfolding unfinishedWords
+returns c =
+    let second = c .before .before in
+    let first = second .before .before .before .before .before in
+    simp (c .before .before .before .before .before .before .before .before .before .before .if1 .taken) (then (first .put-line .ensures) (second .put .ensures))
+
+returns-2 : tie.Need-returns-2
+unfolding unfinishedWords
+returns-2 c =
+    let second = c .before .before in
+    let first = second .before .before .before .before .before in
+    simp (c .before .before .before .before .before .before .before .before .before .before .if1 .left) (then (first .put-line2 .ensures) (second .put2 .ensures))
+
+pub put-unfinished-spec : {M : Type 1} → statement M
+put-unfinished-spec =
+    tie.close
+    (tie.spec
+    (λ c. search needs)
+    (λ c κs. search needs)
+    (λ c. search needs)
+    (λ c κs. search needs)
+    (λ c. search needs)
+    returns
+    (λ c. search needs)
+    (λ c κs. search needs)
+    (λ c. search needs)
+    (λ c κs. search needs)
+    (λ c. search needs)
+    returns-2)

@@ -1,0 +1,151 @@
+-- How long the line on a mark can be; and the bytes in hex one at a time.
+use mathlib.Core.Path.{_≡_, refl, ap, ap₂, sym, subst, _∙_}
+use mathlib.Core.Bool.{Bool, true, false, cond}
+use mathlib.Core.List.{List, [], _∷_, _++_}
+use Prim.Native.Nat.{ℕ, zero, suc, _+_, _-_, _*_, _/_, _≤_, _<_, min}
+use native.Mathlib.Omega.{arith}
+use lib.Dec.{leb, ltb}
+use lib.ListN.{length, take, drop, getD, length-append, length-take, length-drop}
+use lib.Seq.{take-all}
+use borrow.Author.Tests.{leb-true, leb-false}
+use Rattle.text.specs.Text.{ascii}
+use Rattle.text.specs.Put.{Puts}
+use Rattle.text.specs.TextLaws.{decimal-short}
+use Rattle.line_code.specs.declared.Kind.{Kind}
+use Rattle.line_code.specs.declared.Kind.the-variants.{BL, BK, VL, SOF, EOF}
+use Rattle.line_code.specs.declared.LineKind.{LineKind}
+use Rattle.line_code.specs.declared.LineKind.the-variants.{NotLine, LineOf}
+use Rattle.line_code.specs.LineCode.{readingOf, kindOf}
+use Rattle.stream.specs.Written.{nibbles}
+use Rattle.stream.specs.NibblesLaws.{nibbles-length}
+use Rattle.capture_bytes.specs.Unpacked.{unpacked}
+use Rattle.capture_bytes.specs.UnpackedLaws.{front-nibbles, drop-most}
+use Rattle.reason.specs.declared.FailedSums.{FailedSums}
+use Rattle.reason.specs.declared.Reason.{Reason}
+use Rattle.reason.specs.declared.Reason.the-variants.{GoodLine, GoodGap, DamagedCode, ReservedCode, UnfinishedLine, WrongLength, BadNumber, BadBody, NoEndOfLine, EndWithoutLine, BadGap, ShortGap, Refused}
+use Rattle.reason_text.specs.declared.Located.{Located}
+use Rattle.reason_text.specs.ReasonText.{mostBytes, nibblesBefore, runIn, reasonIn, codeIn, isCut, kindName, lineName, markWords, withLine, sumWord, sumWords, damagedWords, reservedWords, unfinishedWords, lengthWords, numberWords, bodyWords, endWords, gapWords, shortWords, goodGapWords, otherWords, reasonWords, badPlace, spaced, hexes, part, shown, around, aroundWords, markLine, lineRoom}
+
+kind-short : (k : Kind) → length (kindName k) ≤ 20
+kind-short BL = omega arith
+kind-short BK = omega arith
+kind-short VL = omega arith
+kind-short SOF = omega arith
+kind-short EOF = omega arith
+
+name-short : (k : LineKind) → length (lineName k) ≤ 20
+name-short NotLine = omega arith
+name-short (LineOf k) = kind-short k
+
+line-short : (words : List ℕ) (code : ℕ) → length (withLine words code) ≤ length words + 20
+unfolding withLine
+line-short words code = simp length-append (omega (arith, name-short (kindOf (readingOf code))))
+
+either-short : (b : Bool) (v w : List ℕ) (n : ℕ) → length v ≤ n → length w ≤ n → length (cond b v w) ≤ n
+either-short true v w n h g = h
+either-short false v w n h g = g
+
+sum-short : (b : Bool) (name : List ℕ) → length (sumWord b name) ≤ length name
+unfolding sumWord
+sum-short true name = omega arith
+sum-short false name = omega arith
+
+sums-short : (s : FailedSums) → length (sumWords s) ≤ 12
+unfolding sumWords
+sums-short s =
+    simp length-append
+    (omega (arith, sum-short (s .p0) (ascii " P0"), sum-short (s .p1) (ascii " P1"), sum-short (s .p2) (ascii " P2"), sum-short (s .p3) (ascii " P3")))
+
+reason-short : (cut : Bool) (code : ℕ) (r : Reason) → length (reasonWords cut code r) ≤ 120
+unfolding reasonWords goodGapWords damagedWords reservedWords unfinishedWords lengthWords numberWords bodyWords endWords gapWords shortWords otherWords
+reason-short cut code GoodLine = omega (arith, line-short (ascii "good ") code)
+reason-short cut code GoodGap = either-short cut _ _ 120 (omega arith) (omega arith)
+reason-short cut code (DamagedCode byte sums) = simp length-append (omega (arith, sums-short sums))
+reason-short cut code ReservedCode = simp length-append (omega arith)
+reason-short cut code UnfinishedLine =
+    either-short cut _ _ 120 (simp length-append (omega (arith, line-short (ascii "refused: ") code)))
+    (simp length-append (omega (arith, line-short (ascii "refused 3: ") code)))
+reason-short cut code (WrongLength found wanted) =
+    simp length-append (omega (arith, line-short (ascii "refused 4: ") code, decimal-short found, decimal-short wanted))
+reason-short cut code (BadNumber place byte) = simp length-append (omega (arith, line-short (ascii "refused 5: ") code, decimal-short place))
+reason-short cut code (BadBody place byte) = simp length-append (omega (arith, line-short (ascii "refused 6: ") code, decimal-short place))
+reason-short cut code (NoEndOfLine next) = simp length-append (omega (arith, line-short (ascii "refused 7: ") code))
+reason-short cut code EndWithoutLine = omega arith
+reason-short cut code (BadGap place nibble) = simp length-append (omega (arith, decimal-short place))
+reason-short cut code (ShortGap nibbles) = simp length-append (omega (arith, decimal-short nibbles))
+reason-short cut code (Refused number) = simp length-append (omega (arith, decimal-short number))
+
+-- Bytes in hex.
+
+hexes-length : (bs : List ℕ) → length (hexes bs) ≡ 3 * length bs
+hexes-length [] = refl
+hexes-length (b ∷ bs) = let e = hexes-length bs in omega arith
+
+take-short : (n : ℕ) (w : List ℕ) → length (take n w) ≤ n
+take-short zero w = omega arith
+take-short (suc n) [] = omega arith
+take-short (suc n) (x ∷ w) = let h = take-short n w in omega arith
+
+around-short : (bytes : List ℕ) (i : ℕ) → length (around bytes i) ≤ 29
+unfolding around
+around-short bytes i =
+    let before = part bytes (i - min i shown) i in
+    let after = part bytes (i + 1) (min (length bytes) (i + 1 + shown)) in
+    simp length-append
+    (omega (arith, hexes-length before, hexes-length after, take-short (i - (i - min i shown)) (drop (i - min i shown) bytes), take-short (min (length bytes) (i + 1 + shown) - (i + 1)) (drop (i + 1) bytes)))
+
+around-words-short : (bytes : List ℕ) (low : Bool) (place : ℕ) → length (aroundWords bytes low place) ≤ 37
+unfolding aroundWords
+around-words-short bytes low place =
+    let i = (nibblesBefore low + place) / 2 in
+    either-short (ltb 0 place) _ _ 37
+    (either-short (ltb i (length bytes)) _ _ 37 (simp length-append (omega (arith, around-short bytes i))) (omega arith))
+    (omega arith)
+
+-- no line is longer than the room that is asked for it
+pub mark-line-short : (m : Located) (bytes : List ℕ) → length (markLine m bytes) ≤ lineRoom
+unfolding markLine markWords
+mark-line-short m bytes =
+    simp length-append
+    (omega (arith, decimal-short (m .number), decimal-short (m .place), reason-short (isCut bytes) (codeIn (m .low) bytes) (reasonIn m bytes), around-words-short bytes (m .low) (badPlace (m .profile) (reasonIn m bytes))))
+
+-- one byte more, and all of them
+pub hexes-more : (bs : List ℕ) (i : ℕ) → i < length bs → hexes (take (suc i) bs) ≡ hexes (take i bs) ++ spaced (getD bs i 0)
+hexes-more [] i h = absurd (omega arith)
+hexes-more (b ∷ bs) zero h = refl
+hexes-more (b ∷ bs) (suc i) h = ap (λ (l : List ℕ). spaced b ++ l) (hexes-more bs i (omega arith))
+
+pub hexes-whole : (bs : List ℕ) (i : ℕ) {d d₁ : List ℕ} {at r : ℕ} → length bs ≤ i → Puts d at (hexes (take i bs)) r d₁ → Puts d at (hexes bs) r d₁
+hexes-whole bs i {d} {d₁} {at} {r} h p = subst (λ (t : List ℕ). Puts d at (hexes t) r d₁) (take-all i bs h) p
+
+-- The run that is explained.
+
+take-min : (l : List ℕ) (n r : ℕ) → r ≡ min (length l) n → take r l ≡ take n l
+take-min l n r e = go (leb n (length l)) refl
+  where
+    go : (b : Bool) → leb n (length l) ≡ b → take r l ≡ take n l
+    go true f = let h = leb-true n (length l) f in ap (λ (k : ℕ). take k l) (let z : r ≡ n = omega arith in z)
+    go false f = let h = leb-false n (length l) f in take-all r l (omega arith) ∙ sym (take-all n l (omega arith))
+
+-- bytes that were taken apart, as many as are looked at: their nibbles from the mark on
+pub run-is : (bs d w : List ℕ) (r i : ℕ) (low : Bool) → r ≡ min (length bs) mostBytes → w ≡ unpacked bs d r → i ≡ min (nibblesBefore low) (2 * r)
+    → take (length (take (2 * r) w) - i) (drop i (take (2 * r) w)) ≡ runIn low bs
+run-is bs d w r i low e f g =
+    ap₂ (λ (v : List ℕ) (k : ℕ). take (length v - k) (drop k v)) all skip
+    ∙ take-all (length X - m) (drop m X) (omega (arith, length-drop m X))
+    ∙ drop-most (nibblesBefore low) X
+  where
+    X : List ℕ
+    X = nibbles (take mostBytes bs)
+
+    m : ℕ
+    m = min (nibblesBefore low) (length X)
+
+    all : take (2 * r) w ≡ X
+    all = ap (take (2 * r)) f ∙ front-nibbles bs r (omega arith) d ∙ ap nibbles (take-min bs mostBytes r e)
+
+    long : length X ≡ 2 * r
+    long = omega (arith, nibbles-length (take mostBytes bs), length-take mostBytes bs)
+
+    skip : i ≡ m
+    skip = g ∙ ap (min (nibblesBefore low)) (sym long)
