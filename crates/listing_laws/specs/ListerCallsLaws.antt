@@ -72,6 +72,13 @@ calls-list (one-call l piece pieces from room m text c) =
       ap (λ (v : List ℕ). listText l (take k w) ++ v) (q .1) ∙ sym (text-append (take k w) rest l) ∙ ap (listText l) e,
     )
 
+-- so a capture in pieces is listed as it is whole, rows or frames: the lister after the calls, and their texts
+pub pieces-listed : {l m : Lister} {pieces : List (List ℕ)} {text : List ℕ} → ListerCalls l pieces 0 m text
+    → (m ≡ listAfter l (nibbles (endToEnd pieces))) × (text ≡ listText l (nibbles (endToEnd pieces)))
+pieces-listed {l} {m} {pieces} {text} c =
+    let q = calls-list c in
+    (q .0 ∙ ap (listAfter l) (ahead-bytes pieces), q .1 ∙ ap (listText l) (ahead-bytes pieces))
+
 -- Rows.
 
 -- the row of an answer, and those after it
@@ -136,9 +143,7 @@ pub rows-listed : (p : Profile) (pieces : List (List ℕ)) → ((i : ℕ) → ge
     → rowIfRoom above (headText Rows) ++ (text ++ finishedOf m below .text) ≡ listingOf p (nibbles (endToEnd pieces))
 unfolding oneMore
 rows-listed p pieces bytes {m} {text} c above below a z =
-    let l : Lister = freshLister Rows p in
-    let q = calls-list c in
+    let q = pieces-listed c in
     ap₂ (λ (h e : List ℕ). h ++ (text ++ e)) (head-text above a) (finished-text m below z)
     ∙ ap₂ (λ (v : List ℕ) (y : Lister). headerRow ++ (v ++ endText y)) (q .1) (q .0)
-    ∙ ap (λ (v : List ℕ). headerRow ++ (listText l v ++ endText (listAfter l v))) (ahead-bytes pieces)
     ∙ ap (λ (v : List ℕ). headerRow ++ v) (rows-told p (nibbles-small (endToEnd pieces) bytes) (noFindings p) (freshReader p) fresh (fresh-follows p))
