@@ -1,0 +1,12 @@
+-- The front is as long as its count says, which was tested.
+use mathlib.Core.Path.{sym}
+use lib.Seq.{length-take-le}
+use borrow.Author.Needs.{needs}
+use Rattle.why.proofs.write_front.Statement.{statement}
+use Rattle.why.proofs.write_front.Tie as tie
+
+slice-aggregate-write : tie.Need-slice-aggregate-write
+slice-aggregate-write c = sym (length-take-le _ _ (c .before .if1 .left))
+
+pub write-front-spec : {M : Type 1} → statement M
+write-front-spec = tie.close (tie.spec (λ c. search needs) slice-aggregate-write (λ c κs. search needs) (λ c. search needs))
