@@ -33,7 +33,7 @@ fn is_for_means(asked: Asked) -> bool {
 // Writes the table of the file at a place among the arguments, or of standard input for 0.
 fn table(file: usize) {
     let mut name = io::buffer();
-    let input = command::open(file, &mut name);
+    let input = command::open_capture(file, &mut name);
     if input.fd < 0 {
         return;
     }

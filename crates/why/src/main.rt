@@ -141,7 +141,7 @@ fn not_understood(asked: Asked) -> Asked {
 
 fn seek_asked(asked: Asked) {
     let mut name = io::buffer();
-    let input = command::open(asked.file, &mut name);
+    let input = command::open_capture(asked.file, &mut name);
     if input.fd < 0 {
         return;
     }

@@ -8,7 +8,9 @@ use Rattle.difference.proofs.between_size.Tie as tie
 
 returns : tie.Need-returns
 unfolding frontLine
-returns c = omega (arith, between-size (frontLine (c .before .before .before .before .before .before .before .before .args .a .now)) (frontLine (c .before .before .before .before .before .before .before .before .args .b .now)))
+returns c =
+    let args = c .before .before .before .before .before .before .before .before .args in
+    omega (arith, between-size (frontLine (args .a .now)) (frontLine (args .b .now)))
 
 pub between-size-spec : {M : Type 1} → statement M
 between-size-spec =

@@ -20,7 +20,9 @@ loop-holds : tie.Need-loop-holds Inv-loop μ-loop
 loop-holds c = (search needs, search needs, omega arith)
 
 loop-again : tie.Need-loop-again Inv-loop μ-loop
-loop-again c = (search needs, search needs, omega (arith, different-step (c .before .before .before .before .before .before .before .args .a .now) (c .before .before .before .before .before .before .before .args .b .now) (c .before .before .before .before .loop .p) (c .before .before .before .loop-test .taken) (omega arith)))
+loop-again c =
+    let args = c .before .before .before .before .before .before .before .args in
+    (search needs, search needs, omega (arith, different-step (args .a .now) (args .b .now) (c .before .before .before .before .loop .p) (c .before .before .before .loop-test .taken) (omega arith)))
 
 returns : tie.Need-returns Inv-loop μ-loop
 returns c = let a = c .before .before .before .before .args in

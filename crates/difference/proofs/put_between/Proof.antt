@@ -9,8 +9,10 @@ use Rattle.difference.proofs.put_between.Tie as tie
 
 returns : tie.Need-returns
 returns c =
+    let given = c .before .before .before .before .before .before .before .before .before .before .before .before .before .before .before .pre in
+    let put-kinds = c .before .before .before .before .before .before .before .before .put-kinds in
     let a = c .before .before .before .before .before .before .before .before .before .before .before .before .before .before .before .args in
-    puts-is (sym (between-is (a .a .now) (a .b .now) (a .n) (c .before .before .before .before .before .before .before .before .before .before .before .before .before .before .before .pre .2))) (then (c .before .before .before .before .before .before .before .before .put-kinds .ensures) (c .before .before .put-places .ensures))
+    puts-is (sym (between-is (a .a .now) (a .b .now) (a .n) (given .2))) (then (put-kinds .ensures) (c .before .before .put-places .ensures))
 
 pub put-between-spec : {M : Type 1} → statement M
 put-between-spec =

@@ -7,7 +7,10 @@ use Rattle.difference.proofs.put_line.Tie as tie
 
 returns : tie.Need-returns
 unfolding frontLine
-returns c = simp (← c .before .before .before .before .before .before .before .before .before .before .before .before .before .pre .1) (then (c .before .before .before .before .before .before .before .put .ensures) (c .before .before .put2 .ensures))
+returns c =
+    let given = c .before .before .before .before .before .before .before .before .before .before .before .before .before .pre in
+    let put = c .before .before .before .before .before .before .before .put in
+    simp (← given .1) (then (put .ensures) (c .before .before .put2 .ensures))
 
 pub put-line-spec : {M : Type 1} → statement M
 put-line-spec =

@@ -21,7 +21,9 @@ put-line-requires-2 c κs = lesser-line (c .before .before .before .next-number2
 
 returns-2 : tie.Need-returns-2
 unfolding encoded
-returns-2 c = puts-is (sym (ap encodedAll (next-second (c .before .before .before .before .before .before .before .next-number .ensures) (c .before .before .before .before .before .before .next-number2 .ensures) (c .before .before .before .before .if2 .taken)) ∙ append-nil _)) (c .before .before .put-line2 .ensures)
+returns-2 c =
+    let next-number = c .before .before .before .before .before .before .before .next-number in
+    puts-is (sym (ap encodedAll (next-second (next-number .ensures) (c .before .before .before .before .before .before .next-number2 .ensures) (c .before .before .before .before .if2 .taken)) ∙ append-nil _)) (c .before .before .put-line2 .ensures)
 
 put-between-requires : tie.Need-put-between-requires
 put-between-requires c κs =
@@ -29,7 +31,10 @@ put-between-requires c κs =
     (a .0, next-line (c .before .before .before .before .next-number2 .ensures) (search needs) .0, a .1, a .2)
 
 returns-3 : tie.Need-returns-3
-returns-3 c = puts-is (sym (ap encodedAll (next-both (c .before .before .before .before .before .before .before .before .next-number .ensures) (c .before .before .before .before .before .before .before .next-number2 .ensures) (c .before .before .before .before .before .if2 .left) (c .before .before .before .before .before .before .if1 .left) (c .before .before .before .before .if3 .taken)))) (c .before .before .put-between .ensures)
+returns-3 c =
+    let next-number = c .before .before .before .before .before .before .before .before .next-number in
+    let next-number2 = c .before .before .before .before .before .before .before .next-number2 in
+    puts-is (sym (ap encodedAll (next-both (next-number .ensures) (next-number2 .ensures) (c .before .before .before .before .before .if2 .left) (c .before .before .before .before .before .before .if1 .left) (c .before .before .before .before .if3 .taken)))) (c .before .before .put-between .ensures)
 
 returns-4 : tie.Need-returns-4
 returns-4 c = puts-is (sym (ap encodedAll (next-none (c .before .before .before .before .next-number .ensures) (c .before .before .before .next-number2 .ensures) (c .before .if2 .left) (c .before .before .if1 .left) (c .if3 .left)))) (puts-none _ _)

@@ -29,7 +29,9 @@ add-if1 c =
     omega (arith, c .before .how-far .ensures, c .how-far2 .ensures, in-first (a .first .now) (a .second .now) (l .i) (l .j) _ _ p q, in-second (a .first .now) (a .second .now) (l .i) (l .j) _ _ p q)
 
 same-length : tie.Need-same-length Inv-loop μ-loop
-same-length c = c .before .before .before .before .before .before .before .loop .inv .2 .kept
+same-length c =
+    let loop-at = c .before .before .before .before .before .before .before .loop in
+    loop-at .inv .2 .kept
 
 returns : tie.Need-returns Inv-loop μ-loop
 returns c =
@@ -39,15 +41,19 @@ returns c =
 
 add-i : tie.Need-add-i Inv-loop μ-loop
 add-i c =
+    let next-number = c .before .before .before .before .before .before .before .before .next-number in
+    let next-number2 = c .before .before .before .before .before .before .before .next-number2 in
     let a = c .before .before .before .before .before .before .before .before .before .before .before .before .before .before .before .args in
     let l = c .before .before .before .before .before .before .before .before .before .before .before .loop in
-    omega (arith, l .inv .0, c .before .before .before .before .before .before .how-far .ensures, in-first (a .first .now) (a .second .now) (l .i) (l .j) _ _ (c .before .before .before .before .before .before .before .before .next-number .ensures) (c .before .before .before .before .before .before .before .next-number2 .ensures))
+    omega (arith, l .inv .0, c .before .before .before .before .before .before .how-far .ensures, in-first (a .first .now) (a .second .now) (l .i) (l .j) _ _ (next-number .ensures) (next-number2 .ensures))
 
 add-j : tie.Need-add-j Inv-loop μ-loop
 add-j c =
+    let next-number = c .before .before .before .before .before .before .before .before .next-number in
+    let next-number2 = c .before .before .before .before .before .before .before .next-number2 in
     let a = c .before .before .before .before .before .before .before .before .before .before .before .before .before .before .before .args in
     let l = c .before .before .before .before .before .before .before .before .before .before .before .loop in
-    omega (arith, l .inv .1, c .before .before .before .before .before .how-far2 .ensures, in-second (a .first .now) (a .second .now) (l .i) (l .j) _ _ (c .before .before .before .before .before .before .before .before .next-number .ensures) (c .before .before .before .before .before .before .before .next-number2 .ensures))
+    omega (arith, l .inv .1, c .before .before .before .before .before .how-far2 .ensures, in-second (a .first .now) (a .second .now) (l .i) (l .j) _ _ (next-number .ensures) (next-number2 .ensures))
 
 loop-less : tie.Need-loop-less Inv-loop μ-loop
 loop-less c =

@@ -7,7 +7,9 @@ use Rattle.script.proofs.put_name.Statement.{statement}
 use Rattle.script.proofs.put_name.Tie as tie
 
 returns : tie.Need-returns
-returns c = simp (take-all (c .before .before .before .before .before .before .before .args .end) (c .before .before .before .before .before .before .before .args .line .now) (c .before .before .before .before .if1 .taken)) (c .before .before .put .ensures)
+returns c =
+    let args = c .before .before .before .before .before .before .before .args in
+    simp (take-all (args .end) (args .line .now) (c .before .before .before .before .if1 .taken)) (c .before .before .put .ensures)
 
 slice-aggregate-put : tie.Need-slice-aggregate-put
 slice-aggregate-put c = sym (length-take-le (c .before .before .before .before .args .end) (c .before .before .before .before .args .line .now) (omega (arith, c .before .if1 .left)))

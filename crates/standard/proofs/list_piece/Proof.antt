@@ -48,13 +48,19 @@ slice-aggregate-write : tie.Need-slice-aggregate-write Inv-loop μ-loop
 slice-aggregate-write c = sym (length-take-le _ _ (used-fits (c .before .before .before)))
 
 add-at : tie.Need-add-at Inv-loop μ-loop
-add-at c = omega (arith, taken-fits (c .before .before .before .before .before .before .before .before), c .before .before .before .before .before .before .before .before .before .before .before .before .before .before .good .1 .0 .1)
+add-at c =
+    let listed = c .before .before .before .before .before .before .before .before in
+    omega (arith, taken-fits listed, listed .before .before .before .before .before .before .good .1 .0 .1)
 
 loop-less : tie.Need-loop-less Inv-loop μ-loop
-loop-less c = omega (arith, c .before .if2 .left, taken-fits (c .before .before .before .before .before .before .before .before), c .before .before .before .before .before .before .before .before .before .before .loop-test .taken)
+loop-less c =
+    let listed = c .before .before .before .before .before .before .before .before in
+    omega (arith, c .before .if2 .left, taken-fits listed, listed .before .before .loop-test .taken)
 
 loop-again : tie.Need-loop-again Inv-loop μ-loop
-loop-again c = (taken-fits (c .before .before .before .before .before .before .before .before), c .before .before .before .before .before .before .before .before .before .before .before .loop .inv .1 ∙ sym (c .before .before .before .before .before .before .before .before .list .kept .1 .1 .1 .0))
+loop-again c =
+    let listed = c .before .before .before .before .before .before .before .before in
+    (taken-fits listed, listed .before .before .before .loop .inv .1 ∙ sym (listed .list .kept .1 .1 .1 .0))
 
 pub list-piece-spec : {M : Type 1} → statement M
 list-piece-spec =

@@ -35,31 +35,41 @@ sub-goes-on c = put-within (c .loop .inv .0 .text-put)
 
 add-at : tie.Need-add-at Inv-loop μ-loop
 add-at c =
+    let shared-slice-known = c .before .before .before .before .before .before .before .before .before .before .before .before .before .before .before .before .before .shared-slice-known in
+    let goes-on = c .before .before .before .before .before .before .before .before .goes-on in
+    let test-2 = c .before .before .before .before .before .before .before .if2 in
+    let good-at = c .before .before .before .before .before .before .before .before .before .before .before .before .before .before .before .before .before .before .good in
     let a = c .before .before .before .before .before .before .before .before .before .before .before .before .before .before .before .before .before .before .args in
     let l = c .before .before .before .before .before .before .before .before .before .loop in
     let bs = now (a .input) in
-    let known : (i : ℕ) → getD bs i 0 < 256 = λ i. c .before .before .before .before .before .before .before .before .before .before .before .before .before .before .before .before .before .shared-slice-known .given i .fits in
+    let known : (i : ℕ) → getD bs i 0 < 256 = λ i. shared-slice-known .given i .fits in
     let small = nibbles-small bs known in
-    let q = goes-there (length bs) (l .at) (length (l .out) - l .used) (sym (c .before .before .before .before .before .before .before .before .goes-on .ensures) ∙ c .before .before .before .before .before .before .before .if2 .taken) in
+    let q = goes-there (length bs) (l .at) (length (l .out) - l .used) (sym (goes-on .ensures) ∙ test-2 .taken) in
     let there : l .at < length (nibbles bs) = omega (arith, nibbles-length bs, q .0) in
     let room : rowRoom ≤ length (now (a .out)) - l .used = omega (arith, put-length (l .inv .0 .text-put), q .1) in
     let e = c .before .before .before .before .run .ensures in
-    omega (arith, taken-fits (l .inv .0) small there (l .inv .1) room (l .inv .2) e, nibbles-length bs, c .before .before .before .before .before .before .before .before .before .before .before .before .before .before .before .before .before .before .good .1 .0 .1)
+    omega (arith, taken-fits (l .inv .0) small there (l .inv .1) room (l .inv .2) e, nibbles-length bs, good-at .1 .0 .1)
 
 put-text-requires : tie.Need-put-text-requires Inv-loop μ-loop
 put-text-requires c κs =
+    let args = c .before .before .before .before .before .before .before .before .before .before .before .before .before .before .before .before .before .before .before .before .before .args in
+    let goes-on = c .before .before .before .before .before .before .before .before .before .before .before .goes-on in
+    let test-2 = c .before .before .before .before .before .before .before .before .before .before .if2 in
     let l = c .before .before .before .before .before .before .before .before .before .before .before .before .loop in
-    let q = goes-there (length (now (c .before .before .before .before .before .before .before .before .before .before .before .before .before .before .before .before .before .before .before .before .before .args .input))) (l .at) (length (l .out) - l .used) (sym (c .before .before .before .before .before .before .before .before .before .before .before .goes-on .ensures) ∙ c .before .before .before .before .before .before .before .before .before .before .if2 .taken) in
+    let q = goes-there (length (now (args .input))) (l .at) (length (l .out) - l .used) (sym (goes-on .ensures) ∙ test-2 .taken) in
     omega (arith, q .1)
 
 loop-less : tie.Need-loop-less Inv-loop μ-loop
 loop-less c =
+    let shared-slice-known = c .before .before .before .before .before .before .before .before .before .before .before .before .before .before .before .before .before .before .before .before .before .before .before .shared-slice-known in
+    let goes-on = c .before .before .before .before .before .before .before .before .before .before .before .before .before .before .goes-on in
+    let test-2 = c .before .before .before .before .before .before .before .before .before .before .before .before .before .if2 in
     let a = c .before .before .before .before .before .before .before .before .before .before .before .before .before .before .before .before .before .before .before .before .before .before .before .before .args in
     let l = c .before .before .before .before .before .before .before .before .before .before .before .before .before .before .before .loop in
     let bs = now (a .input) in
-    let known : (i : ℕ) → getD bs i 0 < 256 = λ i. c .before .before .before .before .before .before .before .before .before .before .before .before .before .before .before .before .before .before .before .before .before .before .before .shared-slice-known .given i .fits in
+    let known : (i : ℕ) → getD bs i 0 < 256 = λ i. shared-slice-known .given i .fits in
     let small = nibbles-small bs known in
-    let q = goes-there (length bs) (l .at) (length (l .out) - l .used) (sym (c .before .before .before .before .before .before .before .before .before .before .before .before .before .before .goes-on .ensures) ∙ c .before .before .before .before .before .before .before .before .before .before .before .before .before .if2 .taken) in
+    let q = goes-there (length bs) (l .at) (length (l .out) - l .used) (sym (goes-on .ensures) ∙ test-2 .taken) in
     let there : l .at < length (nibbles bs) = omega (arith, nibbles-length bs, q .0) in
     let room : rowRoom ≤ length (now (a .out)) - l .used = omega (arith, put-length (l .inv .0 .text-put), q .1) in
     let e = c .before .before .before .before .before .before .before .before .before .before .run .ensures in
@@ -67,12 +77,15 @@ loop-less c =
 
 loop-again : tie.Need-loop-again Inv-loop μ-loop
 loop-again c =
+    let shared-slice-known = c .before .before .before .before .before .before .before .before .before .before .before .before .before .before .before .before .before .before .before .before .before .before .before .shared-slice-known in
+    let goes-on = c .before .before .before .before .before .before .before .before .before .before .before .before .before .before .goes-on in
+    let test-2 = c .before .before .before .before .before .before .before .before .before .before .before .before .before .if2 in
     let a = c .before .before .before .before .before .before .before .before .before .before .before .before .before .before .before .before .before .before .before .before .before .before .before .before .args in
     let l = c .before .before .before .before .before .before .before .before .before .before .before .before .before .before .before .loop in
     let bs = now (a .input) in
-    let known : (i : ℕ) → getD bs i 0 < 256 = λ i. c .before .before .before .before .before .before .before .before .before .before .before .before .before .before .before .before .before .before .before .before .before .before .before .shared-slice-known .given i .fits in
+    let known : (i : ℕ) → getD bs i 0 < 256 = λ i. shared-slice-known .given i .fits in
     let small = nibbles-small bs known in
-    let q = goes-there (length bs) (l .at) (length (l .out) - l .used) (sym (c .before .before .before .before .before .before .before .before .before .before .before .before .before .before .goes-on .ensures) ∙ c .before .before .before .before .before .before .before .before .before .before .before .before .before .if2 .taken) in
+    let q = goes-there (length bs) (l .at) (length (l .out) - l .used) (sym (goes-on .ensures) ∙ test-2 .taken) in
     let there : l .at < length (nibbles bs) = omega (arith, nibbles-length bs, q .0) in
     let room : rowRoom ≤ length (now (a .out)) - l .used = omega (arith, put-length (l .inv .0 .text-put), q .1) in
     let e = c .before .before .before .before .before .before .before .before .before .before .run .ensures in
