@@ -105,7 +105,7 @@ unfoldable pub shortWords : ℕ → List ℕ
 shortWords length = ascii "refused 9: end of line, a gap of " ++ (decimal length ++ ascii " nibbles, 4 at least are wanted")
 
 unfoldable pub goodGapWords : Bool → List ℕ
-goodGapWords cut = cond cut (ascii "end of line, its gap is good for 1000 bytes") (ascii "good end of line")
+goodGapWords cut = cond cut (ascii "end of line with a gap of more than 1000 bytes: a signal that was lost?") (ascii "good end of line")
 
 unfoldable pub otherWords : ℕ → List ℕ
 otherWords number = ascii "refused " ++ decimal number

@@ -192,7 +192,11 @@ fn put_good_gap(cut: bool, out: &mut [u8], at: usize) -> usize
     ensures { λ r. ⌜ Puts (now (out .entry)) at (goodGapWords cut) r (now (out .exit)) ⌝ }
 {
     if cut {
-        return put(b"end of line, its gap is good for 1000 bytes", out, at);
+        return put(
+            b"end of line with a gap of more than 1000 bytes: a signal that was lost?",
+            out,
+            at,
+        );
     }
     put(b"good end of line", out, at)
 }
