@@ -42,8 +42,8 @@ unfoldable pub codeIn : Bool → List ℕ → ℕ
 codeIn low bytes = cond low (16 * (getD bytes 3 0 % 16) + getD bytes 4 0 / 16) (getD bytes 3 0)
 
 -- there are more bytes than are looked at
-abbrev pub isCut : List ℕ → Bool
-isCut bytes = ltb mostBytes (length bytes)
+abbrev pub isBeyond : List ℕ → Bool
+isBeyond bytes = ltb mostBytes (length bytes)
 
 -- Words.
 
@@ -98,8 +98,8 @@ bodyWords code place byte = withLine (ascii "refused 6: ") code ++ (ascii ", byt
 unfoldable pub endWords : ℕ → ℕ → List ℕ
 endWords code next = withLine (ascii "refused 7: ") code ++ (ascii ", not ended: the next mark has the code " ++ hexByte next)
 
-unfoldable pub gapWords : ℕ → List ℕ
-gapWords place = ascii "refused 9: end of line, a bad gap from its nibble " ++ (decimal place ++ ascii " on")
+unfoldable pub badGapWords : ℕ → List ℕ
+badGapWords place = ascii "refused 9: end of line, a bad gap from its nibble " ++ (decimal place ++ ascii " on")
 
 unfoldable pub shortWords : ℕ → List ℕ
 shortWords length = ascii "refused 9: end of line, a gap of " ++ (decimal length ++ ascii " nibbles, 4 at least are wanted")
@@ -111,20 +111,20 @@ unfoldable pub otherWords : ℕ → List ℕ
 otherWords number = ascii "refused " ++ decimal number
 
 -- each reason; of an end of line, and of a line that is longer than what is looked at, as far as that goes
-unfoldable pub reasonWords : Bool → ℕ → Reason → List ℕ
-reasonWords cut code GoodLine = withLine (ascii "good ") code
-reasonWords cut code GoodGap = goodGapWords cut
-reasonWords cut code (DamagedCode byte sums) = damagedWords byte sums
-reasonWords cut code ReservedCode = reservedWords code
-reasonWords cut code UnfinishedLine = unfinishedWords cut code
-reasonWords cut code (WrongLength found wanted) = lengthWords code found wanted
-reasonWords cut code (BadNumber place byte) = numberWords code place byte
-reasonWords cut code (BadBody place byte) = bodyWords code place byte
-reasonWords cut code (NoEndOfLine next) = endWords code next
-reasonWords cut code EndWithoutLine = ascii "refused 8: end of line without a line before it"
-reasonWords cut code (BadGap place nibble) = gapWords place
-reasonWords cut code (ShortGap length) = shortWords length
-reasonWords cut code (Refused number) = otherWords number
+unfoldable pub explainedWords : Bool → ℕ → Reason → List ℕ
+explainedWords cut code GoodLine = withLine (ascii "good ") code
+explainedWords cut code GoodGap = goodGapWords cut
+explainedWords cut code (DamagedCode byte sums) = damagedWords byte sums
+explainedWords cut code ReservedCode = reservedWords code
+explainedWords cut code UnfinishedLine = unfinishedWords cut code
+explainedWords cut code (WrongLength found wanted) = lengthWords code found wanted
+explainedWords cut code (BadNumber place byte) = numberWords code place byte
+explainedWords cut code (BadBody place byte) = bodyWords code place byte
+explainedWords cut code (NoEndOfLine next) = endWords code next
+explainedWords cut code EndWithoutLine = ascii "refused 8: end of line without a line before it"
+explainedWords cut code (BadGap place nibble) = badGapWords place
+explainedWords cut code (ShortGap length) = shortWords length
+explainedWords cut code (Refused number) = otherWords number
 
 -- Bytes around the bad place.
 
@@ -158,14 +158,14 @@ abbrev pub part : List ℕ → ℕ → ℕ → List ℕ
 part bytes from to = take (to - from) (drop from bytes)
 
 -- how many bytes are shown on either side
-abbrev pub shown : ℕ
-shown = 4
+abbrev pub shownBeside : ℕ
+shownBeside = 4
 
 -- a byte in brackets, four before it and four after it: ` 07 07 07 07 [08] ff ff 00 80`
 unfoldable pub around : List ℕ → ℕ → List ℕ
 around bytes i =
-    hexes (part bytes (i - min i shown) i)
-    ++ (ascii " [" ++ (hexByte (getD bytes i 0) ++ (ascii "]" ++ hexes (part bytes (i + 1) (min (length bytes) (i + 1 + shown))))))
+    hexes (part bytes (i - min i shownBeside) i)
+    ++ (ascii " [" ++ (hexByte (getD bytes i 0) ++ (ascii "]" ++ hexes (part bytes (i + 1) (min (length bytes) (i + 1 + shownBeside))))))
 
 -- where there is a bad place, and a byte there
 unfoldable pub aroundWords : List ℕ → Bool → ℕ → List ℕ
@@ -179,7 +179,7 @@ aroundWords bytes low place =
 unfoldable pub markLine : Located → List ℕ → List ℕ
 markLine m bytes =
     markWords (m .number) (m .place)
-    ++ (reasonWords (isCut bytes) (codeIn (m .low) bytes) (reasonIn m bytes)
+    ++ (explainedWords (isBeyond bytes) (codeIn (m .low) bytes) (reasonIn m bytes)
     ++ (aroundWords bytes (m .low) (badPlace (m .profile) (reasonIn m bytes)) ++ (newline ∷ [])))
 
 -- the bytes that no line exceeds

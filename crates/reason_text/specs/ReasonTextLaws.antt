@@ -24,7 +24,7 @@ use Rattle.reason.specs.declared.FailedSums.{FailedSums}
 use Rattle.reason.specs.declared.Reason.{Reason}
 use Rattle.reason.specs.declared.Reason.the-variants.{GoodLine, GoodGap, DamagedCode, ReservedCode, UnfinishedLine, WrongLength, BadNumber, BadBody, NoEndOfLine, EndWithoutLine, BadGap, ShortGap, Refused}
 use Rattle.reason_text.specs.declared.Located.{Located}
-use Rattle.reason_text.specs.ReasonText.{mostBytes, nibblesBefore, runIn, reasonIn, codeIn, isCut, kindName, lineName, markWords, withLine, sumWord, sumWords, damagedWords, reservedWords, unfinishedWords, lengthWords, numberWords, bodyWords, endWords, gapWords, shortWords, goodGapWords, otherWords, reasonWords, badPlace, spaced, hexes, part, shown, around, aroundWords, markLine, lineRoom}
+use Rattle.reason_text.specs.ReasonText.{mostBytes, nibblesBefore, runIn, reasonIn, codeIn, isBeyond, kindName, lineName, markWords, withLine, sumWord, sumWords, damagedWords, reservedWords, unfinishedWords, lengthWords, numberWords, bodyWords, endWords, badGapWords, shortWords, goodGapWords, otherWords, explainedWords, badPlace, spaced, hexes, part, shownBeside, around, aroundWords, markLine, lineRoom}
 
 kind-short : (k : Kind) → length (kindName k) ≤ 20
 kind-short BL = omega arith
@@ -56,8 +56,8 @@ sums-short s =
     simp length-append
     (omega (arith, sum-short (s .p0) (ascii " P0"), sum-short (s .p1) (ascii " P1"), sum-short (s .p2) (ascii " P2"), sum-short (s .p3) (ascii " P3")))
 
-reason-short : (cut : Bool) (code : ℕ) (r : Reason) → length (reasonWords cut code r) ≤ 120
-unfolding reasonWords goodGapWords damagedWords reservedWords unfinishedWords lengthWords numberWords bodyWords endWords gapWords shortWords otherWords
+reason-short : (cut : Bool) (code : ℕ) (r : Reason) → length (explainedWords cut code r) ≤ 120
+unfolding explainedWords goodGapWords damagedWords reservedWords unfinishedWords lengthWords numberWords bodyWords endWords badGapWords shortWords otherWords
 reason-short cut code GoodLine = omega (arith, line-short (ascii "good ") code)
 reason-short cut code GoodGap = either-short cut _ _ 120 (omega arith) (omega arith)
 reason-short cut code (DamagedCode byte sums) = simp length-append (omega (arith, sums-short sums))
@@ -89,10 +89,10 @@ take-short (suc n) (x ∷ w) = let h = take-short n w in omega arith
 around-short : (bytes : List ℕ) (i : ℕ) → length (around bytes i) ≤ 29
 unfolding around
 around-short bytes i =
-    let before = part bytes (i - min i shown) i in
-    let after = part bytes (i + 1) (min (length bytes) (i + 1 + shown)) in
+    let before = part bytes (i - min i shownBeside) i in
+    let after = part bytes (i + 1) (min (length bytes) (i + 1 + shownBeside)) in
     simp length-append
-    (omega (arith, hexes-length before, hexes-length after, take-short (i - (i - min i shown)) (drop (i - min i shown) bytes), take-short (min (length bytes) (i + 1 + shown) - (i + 1)) (drop (i + 1) bytes)))
+    (omega (arith, hexes-length before, hexes-length after, take-short (i - (i - min i shownBeside)) (drop (i - min i shownBeside) bytes), take-short (min (length bytes) (i + 1 + shownBeside) - (i + 1)) (drop (i + 1) bytes)))
 
 around-words-short : (bytes : List ℕ) (low : Bool) (place : ℕ) → length (aroundWords bytes low place) ≤ 37
 unfolding aroundWords
@@ -107,7 +107,7 @@ pub mark-line-short : (m : Located) (bytes : List ℕ) → length (markLine m by
 unfolding markLine markWords
 mark-line-short m bytes =
     simp length-append
-    (omega (arith, decimal-short (m .number), decimal-short (m .place), reason-short (isCut bytes) (codeIn (m .low) bytes) (reasonIn m bytes), around-words-short bytes (m .low) (badPlace (m .profile) (reasonIn m bytes))))
+    (omega (arith, decimal-short (m .number), decimal-short (m .place), reason-short (isBeyond bytes) (codeIn (m .low) bytes) (reasonIn m bytes), around-words-short bytes (m .low) (badPlace (m .profile) (reasonIn m bytes))))
 
 -- one byte more, and all of them
 pub hexes-more : (bs : List ℕ) (i : ℕ) → i < length bs → hexes (take (suc i) bs) ≡ hexes (take i bs) ++ spaced (getD bs i 0)

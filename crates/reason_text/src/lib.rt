@@ -9,7 +9,7 @@ ghost use Prim.Native.Nat.{_≤_, _<_, min};
 ghost use lib.ListN.{length, getD};
 ghost use Rattle.profile.specs.Profile.{profileNumber};
 ghost use Rattle.text.specs.Put.{Puts, AtFront};
-ghost use Rattle.reason_text.specs.ReasonText.{nibblesBefore, reasonIn, codeIn, kindName, lineName, markWords, withLine, sumWord, sumWords, damagedWords, reservedWords, unfinishedWords, lengthWords, numberWords, bodyWords, endWords, gapWords, shortWords, goodGapWords, otherWords, reasonWords, badPlace, spaced, hexes, around, aroundWords, markLine, lineIfRoom};
+ghost use Rattle.reason_text.specs.ReasonText.{nibblesBefore, reasonIn, codeIn, kindName, lineName, markWords, withLine, sumWord, sumWords, damagedWords, reservedWords, unfinishedWords, lengthWords, numberWords, bodyWords, endWords, badGapWords, shortWords, goodGapWords, otherWords, explainedWords, badPlace, spaced, hexes, around, aroundWords, markLine, lineIfRoom};
 use line_code::Kind;
 use line_code::LineKind;
 use profile::Profile;
@@ -136,7 +136,7 @@ fn put_mark(number: u64, place: u64, out: &mut [u8]) -> usize
 }
 
 fn put_reason(cut: bool, code: u8, why: Reason, out: &mut [u8], at: usize) -> usize
-    ensures { λ r. ⌜ Puts (now (out .entry)) at (reasonWords cut code why) r (now (out .exit)) ⌝ }
+    ensures { λ r. ⌜ Puts (now (out .entry)) at (explainedWords cut code why) r (now (out .exit)) ⌝ }
 {
     match why {
         Reason::GoodLine => put_line(b"good ", code, out, at),
@@ -292,7 +292,7 @@ fn put_end(code: u8, next: u8, out: &mut [u8], at: usize) -> usize
 }
 
 fn put_gap(place: u64, out: &mut [u8], at: usize) -> usize
-    ensures { λ r. ⌜ Puts (now (out .entry)) at (gapWords place) r (now (out .exit)) ⌝ }
+    ensures { λ r. ⌜ Puts (now (out .entry)) at (badGapWords place) r (now (out .exit)) ⌝ }
 {
     let at = put(
         b"refused 9: end of line, a bad gap from its nibble ",

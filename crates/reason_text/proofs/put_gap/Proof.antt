@@ -1,12 +1,12 @@
 -- The place, with its words.
 use Rattle.text.specs.PutLaws.{then}
-use Rattle.reason_text.specs.ReasonText.{gapWords}
+use Rattle.reason_text.specs.ReasonText.{badGapWords}
 use borrow.Author.Needs.{needs}
 use Rattle.reason_text.proofs.put_gap.Statement.{statement}
 use Rattle.reason_text.proofs.put_gap.Tie as tie
 
 returns : tie.Need-returns
-unfolding gapWords
+unfolding badGapWords
 returns c =
     let third = c .before .before in
     let second = third .before .before .before .before .before in

@@ -1,83 +1,83 @@
 -- The words of each reason.
-use Rattle.reason_text.specs.ReasonText.{reasonWords}
+use Rattle.reason_text.specs.ReasonText.{explainedWords}
 use borrow.Author.Needs.{needs}
 use Rattle.reason_text.proofs.put_reason.Statement.{statement}
 use Rattle.reason_text.proofs.put_reason.Tie as tie
 
 returns : tie.Need-returns
-unfolding reasonWords
+unfolding explainedWords
 returns c =
     let told = c .before .before .before .before .before in
     simp (told .enum-told .given .1) (c .before .before .put-line .ensures)
 
 returns-2 : tie.Need-returns-2
-unfolding reasonWords
+unfolding explainedWords
 returns-2 c =
     let told = c .before .before .before .before in
     simp (told .enum-told2 .given .1) (c .before .before .put-good-gap .ensures)
 
 returns-3 : tie.Need-returns-3
-unfolding reasonWords
+unfolding explainedWords
 returns-3 c =
     let told = c .before .before .before .before .before in
     simp (told .why .given .1) (c .before .before .put-damaged .ensures)
 
 returns-4 : tie.Need-returns-4
-unfolding reasonWords
+unfolding explainedWords
 returns-4 c =
     let told = c .before .before .before .before in
     simp (told .enum-told3 .given .1) (c .before .before .put-reserved .ensures)
 
 returns-5 : tie.Need-returns-5
-unfolding reasonWords
+unfolding explainedWords
 returns-5 c =
     let told = c .before .before .before .before in
     simp (told .enum-told4 .given .1) (c .before .before .put-unfinished .ensures)
 
 returns-6 : tie.Need-returns-6
-unfolding reasonWords
+unfolding explainedWords
 returns-6 c =
     let told = c .before .before .before .before .before in
     simp (told .why2 .given .1) (c .before .before .put-length .ensures)
 
 returns-7 : tie.Need-returns-7
-unfolding reasonWords
+unfolding explainedWords
 returns-7 c =
     let told = c .before .before .before .before .before in
     simp (told .why3 .given .1) (c .before .before .put-number .ensures)
 
 returns-8 : tie.Need-returns-8
-unfolding reasonWords
+unfolding explainedWords
 returns-8 c =
     let told = c .before .before .before .before .before in
     simp (told .why4 .given .1) (c .before .before .put-body .ensures)
 
 returns-9 : tie.Need-returns-9
-unfolding reasonWords
+unfolding explainedWords
 returns-9 c =
     let told = c .before .before .before .before .before in
     simp (told .why5 .given .1) (c .before .before .put-end .ensures)
 
 returns-10 : tie.Need-returns-10
-unfolding reasonWords
+unfolding explainedWords
 returns-10 c =
     let told = c .before .before .before .before .before in
     simp (told .enum-told5 .given .1) (c .before .before .put .ensures)
 
 returns-11 : tie.Need-returns-11
-unfolding reasonWords
+unfolding explainedWords
 returns-11 c =
     let told = c .before .before .before .before .before in
     simp (told .why6 .given .1) (c .before .before .put-gap .ensures)
 
 returns-12 : tie.Need-returns-12
-unfolding reasonWords
+unfolding explainedWords
 returns-12 c =
     let told = c .before .before .before .before .before in
     simp (told .why7 .given .1) (c .before .before .put-short .ensures)
 
 returns-13 : tie.Need-returns-13
-unfolding reasonWords
+unfolding explainedWords
 returns-13 c =
     let told = c .before .before .before .before .before in
     simp (told .why8 .given .1) (c .before .before .put-other .ensures)
