@@ -39,11 +39,11 @@ use Rattle.fluturenc.specs.StateLaws.{reader-back, stored-length, stored
 
 -- Readers that calls reach: the code is a byte, the test passes, and the body has its length.
 
-pub record Whole (r : Reader) : Type 0 where
+pub record WholeState (r : Reader) : Type 0 where
   pub ok : Ok (r .head)
   pub full : length (r .body) ≡ longest
 
-fresh-whole : (p : Profile) → Whole (freshReader p)
+fresh-whole : (p : Profile) → WholeState (freshReader p)
 fresh-whole p = record { ok = fresh-ok p; full = length-replicate {A = ℕ} longest 0 }
 
 leave-full : (r : Reader) → length (leaveBody (r .head) (r .body)) ≡ length (r .body)
@@ -56,31 +56,31 @@ leave-full r =
     go true w e = e
     go false w e = refl
 
-take-whole : (r : Reader) (n : ℕ) → n < 16 → Whole r → Whole (taking r n .reader)
+take-whole : (r : Reader) (n : ℕ) → n < 16 → WholeState r → WholeState (taking r n .reader)
 take-whole r n l h = record { ok = take-ok r n l (h .ok); full = leave-full r ∙ h .full }
 
-onward-whole : (w : List ℕ) (r : Reader) (i : ℕ) → Whole r → Whole (onward r w i .reader)
+onward-whole : (w : List ℕ) (r : Reader) (i : ℕ) → WholeState r → WholeState (onward r w i .reader)
 onward-whole [] r i h = h
 onward-whole (n ∷ w) r i h = go (leb n 15) (isAnswer (answerFor (taking r n .outcome))) refl (onward-whole w (taking r n .reader) (i + 1))
   where
-    go : (a b : Bool) → leb n 15 ≡ a → (Whole (taking r n .reader) → Whole (onward (taking r n .reader) w (i + 1) .reader))
-        → Whole
+    go : (a b : Bool) → leb n 15 ≡ a → (WholeState (taking r n .reader) → WholeState (onward (taking r n .reader) w (i + 1) .reader))
+        → WholeState
         (cond a (cond b (ran (taking r n .reader) (taking r n .outcome) (i + 1)) (onward (taking r n .reader) w (i + 1)))
         (ran r (refused notANibble) i) .reader)
     go false b e f = h
     go true true e f = take-whole r n (let l = leb-true n 15 e in omega arith) h
     go true false e f = f (take-whole r n (let l = leb-true n 15 e in omega arith) h)
 
-run-whole : (r : Reader) (w : List ℕ) (room : ℕ) → Whole r → Whole (runOf r w room .reader)
+run-whole : (r : Reader) (w : List ℕ) (room : ℕ) → WholeState r → WholeState (runOf r w room .reader)
 unfolding runOf
 run-whole r w room h = go (passes (r .head)) (leb (bodyLength (r .head .profile)) room)
   where
-    go : (a b : Bool) → Whole (cond a (cond b (onward r w 0) (ran r (refused noRoom) 0)) (ran r (refused badState) 0) .reader)
+    go : (a b : Bool) → WholeState (cond a (cond b (onward r w 0) (ran r (refused noRoom) 0)) (ran r (refused badState) 0) .reader)
     go false b = h
     go true false = h
     go true true = onward-whole w r 0 h
 
-finish-whole : (r : Reader) → Whole r → Whole (finishOf r .reader)
+finish-whole : (r : Reader) → WholeState r → WholeState (finishOf r .reader)
 finish-whole r h = record { ok = finish-ok r (h .ok); full = go (finishing r) }
   where
     go : {t : Took} → Finishing r t → length (t .reader .body) ≡ longest
@@ -90,13 +90,13 @@ finish-whole r h = record { ok = finish-ok r (h .ok); full = go (finishing r) }
 -- Calls on a state.
 
 -- a state that holds a reader, and may be given to any call
-pub record Holds (s : List ℕ) (r : Reader) : Type 0 where
-  pub whole : Whole r
+pub record HoldsReader (s : List ℕ) (r : Reader) : Type 0 where
+  pub whole : WholeState r
   pub room : stateLength ≤ length s
   pub held : holdsReader s ≡ true
   pub read : readerIn s ≡ r
 
-stored-held : (r : Reader) (s : List ℕ) → Whole r → stateLength ≤ length s → Holds (stored r s) r
+stored-held : (r : Reader) (s : List ℕ) → WholeState r → stateLength ≤ length s → HoldsReader (stored r s) r
 stored-held r s w h =
     record {
       whole = w;
@@ -124,14 +124,14 @@ module _ (s : List ℕ) (r : Reader) (held : holdsReader s ≡ true) (read : rea
 
 -- opening leaves a fresh reader
 pub opens : (p : Profile) (s : List ℕ) → stateLength ≤ length s
-    → (openCall (profileNumber p) s .answer ≡ 0) × Holds (openCall (profileNumber p) s .state) (freshReader p)
+    → (openCall (profileNumber p) s .answer ≡ 0) × HoldsReader (openCall (profileNumber p) s .state) (freshReader p)
 opens p s h =
-    subst (λ (c : Called). (c .answer ≡ 0) × Holds (c .state) (freshReader p)) (sym (open-call p s h)) (refl, stored-held (freshReader p) s (fresh-whole p) h)
+    subst (λ (c : Called). (c .answer ≡ 0) × HoldsReader (c .state) (freshReader p)) (sym (open-call p s h)) (refl, stored-held (freshReader p) s (fresh-whole p) h)
 
 -- feeding answers and leaves what the reader's run does
-pub feeds : (s w line : List ℕ) (r : Reader) → Holds s r
-    → (feedCall s w line ≡ feedRan (runOf r w (length line)) s line) × Holds (feedCall s w line .state) (runOf r w (length line) .reader)
-feeds s w line r h = (fed, subst (λ (c : FeedCalled). Holds (c .state) (t .reader)) (sym fed) (go (eqb (t .taken) 0) refl))
+pub feeds : (s w line : List ℕ) (r : Reader) → HoldsReader s r
+    → (feedCall s w line ≡ feedRan (runOf r w (length line)) s line) × HoldsReader (feedCall s w line .state) (runOf r w (length line) .reader)
+feeds s w line r h = (fed, subst (λ (c : FeedCalled). HoldsReader (c .state) (t .reader)) (sym fed) (go (eqb (t .taken) 0) refl))
   where
     t : Ran
     t = runOf r w (length line)
@@ -139,16 +139,16 @@ feeds s w line r h = (fed, subst (λ (c : FeedCalled). Holds (c .state) (t .read
     fed : feedCall s w line ≡ feedRan t s line
     fed = feed-call s r (h .held) (h .read) w line
 
-    go : (b : Bool) → eqb (t .taken) 0 ≡ b → Holds (cond b s (stored (t .reader) s)) (t .reader)
-    go true e = subst (Holds s) (sym (none-taken r w (length line) (eqb-true _ _ e))) h
+    go : (b : Bool) → eqb (t .taken) 0 ≡ b → HoldsReader (cond b s (stored (t .reader) s)) (t .reader)
+    go true e = subst (HoldsReader s) (sym (none-taken r w (length line) (eqb-true _ _ e))) h
     go false e = stored-held (t .reader) s (run-whole r w (length line) (h .whole)) (h .room)
 
 -- finish answers and leaves what the reader's finish does
-pub finishes : (s : List ℕ) (r : Reader) → Holds s r
-    → (finishCall s .answer ≡ answerNumber (answerFor (finishOf r .outcome))) × Holds (finishCall s .state) (finishOf r .reader)
+pub finishes : (s : List ℕ) (r : Reader) → HoldsReader s r
+    → (finishCall s .answer ≡ answerNumber (answerFor (finishOf r .outcome))) × HoldsReader (finishCall s .state) (finishOf r .reader)
 finishes s r h =
     let done = finish-call s r (h .held) (h .read) in
-    (ap (λ (c : Called). c .answer) done, subst (λ (c : Called). Holds (c .state) (finishOf r .reader)) (sym done) (stored-held (finishOf r .reader) s (finish-whole r (h .whole)) (h .room)))
+    (ap (λ (c : Called). c .answer) done, subst (λ (c : Called). HoldsReader (c .state) (finishOf r .reader)) (sym done) (stored-held (finishOf r .reader) s (finish-whole r (h .whole)) (h .room)))
 
 -- Judges as numbers.
 

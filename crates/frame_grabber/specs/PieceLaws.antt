@@ -20,7 +20,7 @@ use Rattle.frame_rows.specs.Gathering.{calls}
 use Rattle.frame_grabber.specs.declared.Grabber.{Grabber}
 use Rattle.frame_grabber.specs.declared.Grabbed.{Grabbed}
 use Rattle.frame_grabber.specs.FrameGrabber.{isSaid, Sought, sought, seek, After, leaving, failing, grabOf, Grabs}
-use Rattle.frame_grabber.specs.Pieces.{joined, withMore, grabPieces, fedAll, givens, Stands}
+use Rattle.frame_grabber.specs.Pieces.{joined, withMore, grabPieces, fedAll, givens, StandsFed}
 use Rattle.frame_grabber.specs.SeekLaws.{seeks, andThen, seek-append, left-none, left-few, Sized, seek-sized}
 
 -- A piece.
@@ -112,13 +112,13 @@ pieces-whole (p ∷ ps) s held ok = by (isSaid (grabOf s p held .output)) refl (
 -- No answer of the nibbles taken is left out.
 
 -- after a call, the grabber and the rows' buffer are those of feeding every nibble taken, and handing over every answer
-pub grab-stands : (s : Grabber) (w held : List ℕ) → Stands s w held (grabOf s w held)
+pub grab-stands : (s : Grabber) (w held : List ℕ) → StandsFed s w held (grabOf s w held)
 grab-stands s w held = by (passes (s .reader .head)) refl
   where
     q : Sought
     q = seek (s .reader) (s .gatherer) held w
 
-    some : Stands s w held (leaving (length w) q)
+    some : StandsFed s w held (leaving (length w) q)
     some =
         let k = seeks w (s .reader) (s .gatherer) held in
         let n : length w - length (q .left) ≡ length (k .upTo) = omega (arith, ap length (k .splits), length-append (k .upTo) (q .left)) in
@@ -132,12 +132,12 @@ grab-stands s w held = by (passes (s .reader .head)) refl
           rows-are = ap (λ (x : rows.AfterCall). x .buffer) c;
         }
 
-    none : Stands s w held (failing s held)
+    none : StandsFed s w held (failing s held)
     none = record { reader-is = refl; gatherer-is = refl; rows-are = refl }
 
-    by : (b : Bool) → passes (s .reader .head) ≡ b → Stands s w held (grabOf s w held)
-    by true e = subst (Stands s w held) (sym (grab-is s w held e)) some
-    by false e = subst (Stands s w held) (sym (grab-fails s w held e)) none
+    by : (b : Bool) → passes (s .reader .head) ≡ b → StandsFed s w held (grabOf s w held)
+    by true e = subst (StandsFed s w held) (sym (grab-is s w held e)) some
+    by false e = subst (StandsFed s w held) (sym (grab-fails s w held e)) none
 
 -- The length that complete says, of any grabber.
 

@@ -12,7 +12,7 @@ use Rattle.reader.specs.Reader.{freshReader, feedOf}
 use Rattle.pgm.specs.Pgm.{imageOf, writeOf}
 use Rattle.frame_rows.specs.declared.Order.{Order}
 use Rattle.frame_rows.specs.FrameRows.{Shown, nothing, quiet}
-use Rattle.frame_rows.specs.Gathering.{Given, calls, start, taken, pictureOf, Completes, Laid, Every}
+use Rattle.frame_rows.specs.Gathering.{Given, calls, start, taken, pictureOf, CompletesRows, Laid, Every}
 use Rattle.frame_grabber.specs.declared.Grabber.{Grabber}
 use Rattle.frame_grabber.specs.FrameGrabber.{given, isSaid, After, grabOf}
 
@@ -46,7 +46,7 @@ givens r [] = []
 givens r (n ∷ w) = given (feedOf r n longest) ∷ givens (feedOf r n longest .reader) w
 
 -- after a call: the reader has taken every nibble that counts as taken, and each answer was handed to the gatherer
-pub record Stands (s : Grabber) (w rows : List ℕ) (a : After) : Type 0 where
+pub record StandsFed (s : Grabber) (w rows : List ℕ) (a : After) : Type 0 where
   pub reader-is : a .grabber .reader ≡ fedAll (s .reader) (take (a .taken) w)
   pub gatherer-is : a .grabber .gatherer ≡ calls (quiet (s .gatherer) rows) (givens (s .reader) (take (a .taken) w)) .gatherer
   pub rows-are : a .buffer ≡ calls (quiet (s .gatherer) rows) (givens (s .reader) (take (a .taken) w)) .buffer
@@ -63,7 +63,7 @@ pub record Pictured (o : Order) (rows capture : List ℕ) (n : ℕ) (shown : Lis
   pub upTo : List ℕ
   pub left : List ℕ
   pub splits : capture ≡ upTo ++ left
-  pub completes : Completes o (linesIn o rows upTo) n shown
+  pub completes : CompletesRows o (linesIn o rows upTo) n shown
   pub laid : Every Laid (linesIn o rows upTo)
   pub written : (room : ℕ) → length (imageOf (pictureOf (completes .borders)) shown) ≤ room
       → writeOf shown room

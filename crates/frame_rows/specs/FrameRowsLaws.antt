@@ -1,5 +1,5 @@
 -- Laws of the rows: whenever a call says complete, the lines taken end in a whole frame, and the rows are exactly those of its visible lines.
--- While the judge is in a frame, the rows kept are those of the lines since the last SOF numbered 0 (`Holds`); `complete-frame` says which lines
+-- While the judge is in a frame, the rows kept are those of the lines since the last SOF numbered 0 (`HoldsRows`); `complete-frame` says which lines
 -- those are when the judge says Complete.
 use mathlib.Core.Path.{_≡_, refl, sym, ap, subst, _∙_}
 use mathlib.Core.Bool.{Bool, true, false, _&&_, _||_, cond, true≢false}
@@ -38,7 +38,7 @@ use Rattle.frame_rows.specs.declared.Order.{Order}
 use Rattle.frame_rows.specs.declared.Order.the-variants.{AsSent, OddFirst}
 use Rattle.frame_rows.specs.declared.Gatherer.{Gatherer}
 use Rattle.frame_rows.specs.FrameRows.{Shown, pixelsOf, isVisible, rowOf, rowsOf, Output, nothing, complete, refused, AfterCall, moved, quiet, refuses, keepRow, onward, completed, refusedBy, byRuling, handed, shownAs, handing, takeOf}
-use Rattle.frame_rows.specs.Gathering.{Given, call, calls, start, unlessRefused, shown, taken, linesOf, pictureOf, Completes, Every, Whole}
+use Rattle.frame_rows.specs.Gathering.{Given, call, calls, start, unlessRefused, shown, taken, linesOf, pictureOf, CompletesRows, Every, WholeBody}
 
 -- Lists of lines.
 
@@ -143,14 +143,14 @@ abbrev visibles : List Line → ℕ
 visibles [] = 0
 visibles (l ∷ ls) = counted (isVisible (l .kind)) + visibles ls
 
-row-length : (o : Order) (l : Shown) → Whole l → length (rowOf o l) ≡ counted (isVisible (l .given .kind)) * width
+row-length : (o : Order) (l : Shown) → WholeBody l → length (rowOf o l) ≡ counted (isVisible (l .given .kind)) * width
 row-length o l w = either (isVisible (l .given .kind)) w
   where
     either : (t : Bool) → (t ≡ true → length (l .body) ≡ width) → length (cond t (pixelsOf o (l .body)) []) ≡ counted t * width
     either true h = pixels-length o (l .body) (h refl)
     either false h = refl
 
-rows-length : (o : Order) (ls : List Shown) → Every Whole ls → length (rowsOf o ls) ≡ visibles (linesOf ls) * width
+rows-length : (o : Order) (ls : List Shown) → Every WholeBody ls → length (rowsOf o ls) ≡ visibles (linesOf ls) * width
 rows-length o [] w = refl
 rows-length o (l ∷ ls) w =
     let a = row-length o l (w .0) in
@@ -177,7 +177,7 @@ frame-visibles On = refl
 frame-visibles Off = refl
 
 -- 292 rows with borders on, 288 with borders off
-pub frame-size : (o : Order) (b : Borders) (frame : List Shown) → IsFrame VV5404 b (linesOf frame) → Every Whole frame → length (rowsOf o frame) ≡ size (pictureOf b)
+pub frame-size : (o : Order) (b : Borders) (frame : List Shown) → IsFrame VV5404 b (linesOf frame) → Every WholeBody frame → length (rowsOf o frame) ≡ size (pictureOf b)
 frame-size o b frame f w =
     rows-length o frame w ∙ ap (λ (k : ℕ). k * width) (laid-visibles b 0 (linesOf frame) (omega (arith, f .0)) (f .1)) ∙ frame-visibles b
 
@@ -196,15 +196,15 @@ module _ (kept n : ℕ) (buffer row : List ℕ) (e : length row ≡ n) (g : kept
 -- the rows kept for the frame that the judge is in; none while it waits
 abbrev pub Rows : Order → List Shown → Judge → ℕ → List ℕ → Type 0
 Rows o ls Waiting kept buffer = kept ≡ 0
-Rows o ls (Due place b) kept buffer = (take kept buffer ≡ rowsOf o (latest ls)) × (kept ≤ length buffer) × Every Whole (latest ls)
+Rows o ls (Due place b) kept buffer = (take kept buffer ≡ rowsOf o (latest ls)) × (kept ≤ length buffer) × Every WholeBody (latest ls)
 
 -- after the calls that took these lines
-pub record Holds (o : Order) (ls : List Shown) (x : AfterCall) : Type 0 where
+pub record HoldsRows (o : Order) (ls : List Shown) (x : AfterCall) : Type 0 where
   pub order : x .gatherer .order ≡ o
   pub judge : after VV5404 Waiting (linesOf ls) ≡ x .gatherer .judge
   pub heard : accepted VV5404 Waiting (linesOf ls) ≡ linesOf ls
   pub rows : Rows o ls (x .gatherer .judge) (x .gatherer .kept) (x .buffer)
-  pub done : (n : ℕ) (rows : List ℕ) → x .output ≡ complete n rows → Completes o ls n rows
+  pub done : (n : ℕ) (rows : List ℕ) → x .output ≡ complete n rows → CompletesRows o ls n rows
 
 abbrev isComplete : Output → Bool
 isComplete nothing = false
@@ -212,8 +212,8 @@ isComplete (complete n rows) = true
 isComplete (refused n) = false
 
 -- a call that takes no line and says nothing of rows
-still : (o : Order) (ls : List Shown) (x : AfterCall) (out : Output) → isComplete out ≡ false → Holds o ls x
-    → Holds o (ls ++ []) (record { gatherer = x .gatherer; output = out; buffer = x .buffer })
+still : (o : Order) (ls : List Shown) (x : AfterCall) (out : Output) → isComplete out ≡ false → HoldsRows o ls x
+    → HoldsRows o (ls ++ []) (record { gatherer = x .gatherer; output = out; buffer = x .buffer })
 still o ls x out e h =
     simp append-nil
     (record {
@@ -224,7 +224,7 @@ still o ls x out e h =
       done = λ n rows f. absurd (true≢false (sym (ap isComplete f) ∙ e));
     })
 
-module _ (o : Order) (ls : List Shown) (x : AfterCall) (h : Holds o ls x) (l : Shown) where
+module _ (o : Order) (ls : List Shown) (x : AfterCall) (h : HoldsRows o ls x) (l : Shown) where
   -- a line that the judge hears
   heard-line : (r : Judged) → called VV5404 (x .gatherer .judge) (l .given) ≡ r → accepts (r .ruling) ≡ true
       → (after VV5404 Waiting (linesOf (ls ++ (l ∷ []))) ≡ r .judge) × (accepted VV5404 Waiting (linesOf (ls ++ (l ∷ []))) ≡ linesOf (ls ++ (l ∷ [])))
@@ -242,7 +242,7 @@ module _ (o : Order) (ls : List Shown) (x : AfterCall) (h : Holds o ls x) (l : S
 
   -- it leaves this judge, these bytes of rows and this buffer, and nothing is said of rows
   takes : (r : Judged) (kept : ℕ) (buffer : List ℕ) → called VV5404 (x .gatherer .judge) (l .given) ≡ r → accepts (r .ruling) ≡ true
-      → Rows o (ls ++ (l ∷ [])) (r .judge) kept buffer → Holds o (ls ++ (l ∷ [])) (quiet (moved (x .gatherer) (r .judge) kept) buffer)
+      → Rows o (ls ++ (l ∷ [])) (r .judge) kept buffer → HoldsRows o (ls ++ (l ∷ [])) (quiet (moved (x .gatherer) (r .judge) kept) buffer)
   takes r kept buffer e a rows =
       record {
         order = h .order;
@@ -263,7 +263,7 @@ module _ (o : Order) (ls : List Shown) (x : AfterCall) (h : Holds o ls x) (l : S
       let v = first-unseen e in (
         ap (λ (t : Bool). cond t (pixelsOf o (l .body)) [] ++ []) (sym v) ∙ ap (rowsOf o) (sym s),
         omega arith,
-        subst (Every Whole) (sym s) ((λ w. absurd (true≢false (sym w ∙ v))), tt),
+        subst (Every WholeBody) (sym s) ((λ w. absurd (true≢false (sym w ∙ v))), tt),
       )
 
   rows-later : isFirst l ≡ false → rowsOf o (latest (ls ++ (l ∷ []))) ≡ rowsOf o (latest ls) ++ rowOf o l
@@ -275,10 +275,10 @@ module _ (o : Order) (ls : List Shown) (x : AfterCall) (h : Holds o ls x) (l : S
   rows-unseen : isFirst l ≡ false → isVisible (l .given .kind) ≡ false → rowsOf o (latest (ls ++ (l ∷ []))) ≡ rowsOf o (latest ls)
   rows-unseen e v = rows-later e ∙ ap (λ (t : Bool). rowsOf o (latest ls) ++ cond t (pixelsOf o (l .body)) []) v ∙ append-nil (rowsOf o (latest ls))
 
-  whole-later : isFirst l ≡ false → Every Whole (latest ls) → Whole l → Every Whole (latest (ls ++ (l ∷ [])))
-  whole-later e w p = subst (Every Whole) (sym (latest-snoc ls l false e)) (every-snoc Whole (latest ls) l w p)
+  whole-later : isFirst l ≡ false → Every WholeBody (latest ls) → WholeBody l → Every WholeBody (latest (ls ++ (l ∷ [])))
+  whole-later e w p = subst (Every WholeBody) (sym (latest-snoc ls l false e)) (every-snoc WholeBody (latest ls) l w p)
 
-  whole-unseen : isVisible (l .given .kind) ≡ false → Whole l
+  whole-unseen : isVisible (l .given .kind) ≡ false → WholeBody l
   whole-unseen v w = absurd (true≢false (sym w ∙ v))
 
   -- A line while the judge is in a frame.
@@ -305,7 +305,7 @@ module _ (o : Order) (ls : List Shown) (x : AfterCall) (h : Holds o ls x) (l : S
 
   -- a line that was due, and not the last
   going : (place p : ℕ) (b c : Borders) → x .gatherer .judge ≡ Due place b → called VV5404 (x .gatherer .judge) (l .given) ≡ gives (Due p c) ruling.Going
-      → let y : AfterCall = onward (x .gatherer) (Due p c) (l .given .kind) (l .body) (x .buffer) in Holds o (ls ++ unlessRefused (y .output) (l ∷ [])) y
+      → let y : AfterCall = onward (x .gatherer) (Due p c) (l .given .kind) (l .body) (x .buffer) in HoldsRows o (ls ++ unlessRefused (y .output) (l ∷ [])) y
   unfolding onward keepRow
   going place p b c q e = by (isVisible (l .given .kind)) refl
     where
@@ -343,21 +343,21 @@ module _ (o : Order) (ls : List Shown) (x : AfterCall) (h : Holds o ls x) (l : S
 
       fitting : isVisible (l .given .kind) ≡ true → (t u : Bool) → eqb (length (l .body)) width ≡ t → leb n (length (x .buffer)) ≡ u
           → let y : AfterCall = cond (t && u) (quiet (moved s (Due p c) n) (take (s .kept) (x .buffer) ++ (row ++ drop n (x .buffer)))) (refuses s noRoom (x .buffer)) in
-          Holds o (ls ++ unlessRefused (y .output) (l ∷ [])) y
+          HoldsRows o (ls ++ unlessRefused (y .output) (l ∷ [])) y
       fitting v true true f g = takes r n _ e refl (put v (eqb-true _ _ f) (leb-true _ _ g))
       fitting v true false f g = still o ls x (refused noRoom) refl h
       fitting v false u f g = still o ls x (refused noRoom) refl h
 
       by : (t : Bool) → isVisible (l .given .kind) ≡ t
           → let y : AfterCall = cond t (keepRow s (Due p c) (l .body) (x .buffer)) (quiet (moved s (Due p c) (s .kept)) (x .buffer)) in
-          Holds o (ls ++ unlessRefused (y .output) (l ∷ [])) y
+          HoldsRows o (ls ++ unlessRefused (y .output) (l ∷ [])) y
       by true v = fitting v (eqb (length (l .body)) width) (leb n (length (x .buffer))) refl refl
       by false v = takes r (s .kept) (x .buffer) e refl (kept .0 ∙ sym (rows-unseen later v), kept .1, whole-later later (kept .2) (whole-unseen v))
 
   -- a frame's last line
   ending : (place : ℕ) (b : Borders) → x .gatherer .judge ≡ Due place b → IsDue VV5404 b place (l .given) → lastPlace VV5404 ≤ place
       → called VV5404 (x .gatherer .judge) (l .given) ≡ gives Waiting ruling.Complete
-      → let y : AfterCall = completed (x .gatherer) Waiting (x .buffer) in Holds o (ls ++ unlessRefused (y .output) (l ∷ [])) y
+      → let y : AfterCall = completed (x .gatherer) Waiting (x .buffer) in HoldsRows o (ls ++ unlessRefused (y .output) (l ∷ [])) y
   unfolding completed
   ending place b q d g e = by (leb (s .kept) (length (x .buffer))) refl
     where
@@ -381,7 +381,7 @@ module _ (o : Order) (ls : List Shown) (x : AfterCall) (h : Holds o ls x) (l : S
       later : isFirst l ≡ false
       later = ap (λ (k : ℕ). opens k (l .given .number)) blank
 
-      done : Completes o (ls ++ (l ∷ [])) (s .kept) (take (s .kept) (x .buffer))
+      done : CompletesRows o (ls ++ (l ∷ [])) (s .kept) (take (s .kept) (x .buffer))
       done =
           let c = complete-frame VV5404 (linesOf ls) (l .given) (ap (λ (j : Judge). called VV5404 j (l .given) .ruling) (h .judge) ∙ ap (λ (t : Judged). t .ruling) e) in
           let a : linesOf (ls ++ (l ∷ [])) ≡ c .1 ++ c .2 = sym (heard-line r e refl .1) ∙ ap (accepted VV5404 Waiting) (lines-append ls (l ∷ [])) ∙ c .3 in
@@ -389,7 +389,7 @@ module _ (o : Order) (ls : List Shown) (x : AfterCall) (h : Holds o ls x) (l : S
           let f : IsFrame VV5404 (c .0) (linesOf (t .back)) = subst (IsFrame VV5404 (c .0)) (sym (t .back-lines)) (c .4) in
           let m : latest (ls ++ (l ∷ [])) ≡ t .back = ap latest (t .joined) ∙ frame-latest (c .0) (t .front) (t .back) f in
           let w : take (s .kept) (x .buffer) ≡ rowsOf o (t .back) = kept .0 ∙ sym (rows-unseen later unseen) ∙ ap (rowsOf o) m in
-          let v : Every Whole (t .back) = subst (Every Whole) m (whole-later later (kept .2) (whole-unseen unseen)) in
+          let v : Every WholeBody (t .back) = subst (Every WholeBody) m (whole-later later (kept .2) (whole-unseen unseen)) in
           record {
             borders = c .0;
             earlier = t .front;
@@ -401,25 +401,25 @@ module _ (o : Order) (ls : List Shown) (x : AfterCall) (h : Holds o ls x) (l : S
             used = sym (length-take-le (s .kept) (x .buffer) (kept .1));
           }
 
-      says : (n : ℕ) (rows : List ℕ) → complete (s .kept) (take (s .kept) (x .buffer)) ≡ complete n rows → Completes o (ls ++ (l ∷ [])) n rows
+      says : (n : ℕ) (rows : List ℕ) → complete (s .kept) (take (s .kept) (x .buffer)) ≡ complete n rows → CompletesRows o (ls ++ (l ∷ [])) n rows
       says n rows z =
           let a : s .kept ≡ n = cc in
           let b : take (s .kept) (x .buffer) ≡ rows = cc in
-          subst (λ (m : ℕ). Completes o (ls ++ (l ∷ [])) m rows) a (subst (λ (w : List ℕ). Completes o (ls ++ (l ∷ [])) (s .kept) w) b done)
+          subst (λ (m : ℕ). CompletesRows o (ls ++ (l ∷ [])) m rows) a (subst (λ (w : List ℕ). CompletesRows o (ls ++ (l ∷ [])) (s .kept) w) b done)
 
       by : (t : Bool) → leb (s .kept) (length (x .buffer)) ≡ t
           → let y : AfterCall = cond t (record { gatherer = moved s Waiting 0; output = complete (s .kept) (take (s .kept) (x .buffer)); buffer = x .buffer }) (refuses s noRoom (x .buffer)) in
-          Holds o (ls ++ unlessRefused (y .output) (l ∷ [])) y
+          HoldsRows o (ls ++ unlessRefused (y .output) (l ∷ [])) y
       by true g = record { order = h .order; judge = heard-line r e refl .0; heard = heard-line r e refl .1; rows = refl; done = says }
       by false g = still o ls x (refused noRoom) refl h
 
   -- any line
-  holds-line : let y : AfterCall = handed (x .gatherer) l (x .buffer) in Holds o (ls ++ unlessRefused (y .output) (l ∷ [])) y
+  holds-line : let y : AfterCall = handed (x .gatherer) l (x .buffer) in HoldsRows o (ls ++ unlessRefused (y .output) (l ∷ [])) y
   unfolding handed refusedBy onward
   holds-line = by (called VV5404 (x .gatherer .judge) (l .given)) (effect VV5404 (x .gatherer .judge) (l .given) passing) refl
     where
       by : (r : Judged) → Effect VV5404 (x .gatherer .judge) (l .given) r → called VV5404 (x .gatherer .judge) (l .given) ≡ r
-          → let y : AfterCall = byRuling (x .gatherer) l (x .buffer) (r .judge) (r .ruling) in Holds o (ls ++ unlessRefused (y .output) (l ∷ [])) y
+          → let y : AfterCall = byRuling (x .gatherer) l (x .buffer) (r .judge) (r .ruling) in HoldsRows o (ls ++ unlessRefused (y .output) (l ∷ [])) y
       by _ wrongKind e = still o ls x (refused badKind) refl h
       by _ wrongNumber e = still o ls x (refused numberTooLarge) refl h
       by _ waits e = takes _ 0 (x .buffer) e refl refl
@@ -448,26 +448,26 @@ hands x g = by (handedOver (g .answer))
 
 -- Calls.
 
-holds-call : (o : Order) (ls : List Shown) (x : AfterCall) (g : Given) → Holds o ls x
-    → Holds o (ls ++ unlessRefused (call x g .output) (shown (handedLines (g .answer)) (g .held))) (call x g)
+holds-call : (o : Order) (ls : List Shown) (x : AfterCall) (g : Given) → HoldsRows o ls x
+    → HoldsRows o (ls ++ unlessRefused (call x g .output) (shown (handedLines (g .answer)) (g .held))) (call x g)
 holds-call o ls x g h = by (shown (handedLines (g .answer)) (g .held)) (call x g) (hands x g)
   where
-    by : (ms : List Shown) (y : AfterCall) → Hands x ms y → Holds o (ls ++ unlessRefused (y .output) ms) y
+    by : (ms : List Shown) (y : AfterCall) → Hands x ms y → HoldsRows o (ls ++ unlessRefused (y .output) ms) y
     by _ _ none = still o ls x nothing refl h
     by _ _ (one l) = holds-line o ls x h l
 
-pub holds-calls : (o : Order) (ls : List Shown) (x : AfterCall) (gs : List Given) → Holds o ls x → Holds o (ls ++ taken x gs) (calls x gs)
-holds-calls o ls x [] h = subst (λ (t : List Shown). Holds o t x) (sym (append-nil ls)) h
+pub holds-calls : (o : Order) (ls : List Shown) (x : AfterCall) (gs : List Given) → HoldsRows o ls x → HoldsRows o (ls ++ taken x gs) (calls x gs)
+holds-calls o ls x [] h = subst (λ (t : List Shown). HoldsRows o t x) (sym (append-nil ls)) h
 holds-calls o ls x (g ∷ gs) h =
     let a : List Shown = unlessRefused (call x g .output) (shown (handedLines (g .answer)) (g .held)) in
-    subst (λ (t : List Shown). Holds o t (calls (call x g) gs)) (append-assoc ls a (taken (call x g) gs))
+    subst (λ (t : List Shown). HoldsRows o t (calls (call x g) gs)) (append-assoc ls a (taken (call x g) gs))
     (holds-calls o (ls ++ a) (call x g) gs (holds-call o ls x g h))
 
-pub holds-start : (o : Order) (buffer : List ℕ) → Holds o [] (start o buffer)
+pub holds-start : (o : Order) (buffer : List ℕ) → HoldsRows o [] (start o buffer)
 holds-start o buffer = record { order = refl; judge = refl; heard = refl; rows = refl; done = λ n w f. absurd (true≢false (sym (ap isComplete f))) }
 
 -- whenever the last call says complete, the lines taken end in a whole frame, and the rows are those of its visible lines, top to bottom, 292 or
 -- 288 of them
 pub complete-rows : (o : Order) (buffer : List ℕ) (gs : List Given) (n : ℕ) (rows : List ℕ) → calls (start o buffer) gs .output ≡ complete n rows
-    → Completes o (taken (start o buffer) gs) n rows
+    → CompletesRows o (taken (start o buffer) gs) n rows
 complete-rows o buffer gs n rows e = holds-calls o [] (start o buffer) gs (holds-start o buffer) .done n rows e

@@ -71,7 +71,7 @@ pictureOf On = Bordered
 pictureOf Off = Plain
 
 -- the lines taken end in those of a whole frame, and the rows are its rows, all of them
-pub record Completes (o : Order) (ls : List Shown) (n : ℕ) (rows : List ℕ) : Type 0 where
+pub record CompletesRows (o : Order) (ls : List Shown) (n : ℕ) (rows : List ℕ) : Type 0 where
   pub borders : Borders
   pub earlier : List Shown
   pub frame : List Shown
@@ -82,8 +82,8 @@ pub record Completes (o : Order) (ls : List Shown) (n : ℕ) (rows : List ℕ) :
   pub used : n ≡ length rows
 
 -- a visible line's body fills a row: the line buffer was not too short
-abbrev pub Whole : Shown → Type 0
-Whole l = isVisible (l .given .kind) ≡ true → length (l .body) ≡ width
+abbrev pub WholeBody : Shown → Type 0
+WholeBody l = isVisible (l .given .kind) ≡ true → length (l .body) ≡ width
 
 -- a visible line's body is laid out as 01 says
 abbrev pub Laid : Shown → Type 0

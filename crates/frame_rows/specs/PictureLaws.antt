@@ -23,7 +23,7 @@ use Rattle.pgm.specs.PgmLaws.{size-tells, picture-written}
 use Rattle.frame_rows.specs.declared.Order.{Order}
 use Rattle.frame_rows.specs.declared.Order.the-variants.{AsSent, OddFirst}
 use Rattle.frame_rows.specs.FrameRows.{Shown, pixelsOf, isVisible, rowOf, rowsOf}
-use Rattle.frame_rows.specs.Gathering.{pictureOf, Completes, Laid, Every}
+use Rattle.frame_rows.specs.Gathering.{pictureOf, CompletesRows, Laid, Every}
 
 -- Pixels.
 
@@ -71,7 +71,7 @@ every-back P (l ∷ a) b h = every-back P a b (h .1)
 
 -- The picture.
 
-module _ (o : Order) (ls : List Shown) (n : ℕ) (rows : List ℕ) (c : Completes o ls n rows) where
+module _ (o : Order) (ls : List Shown) (n : ℕ) (rows : List ℕ) (c : CompletesRows o ls n rows) where
   -- not 21: the size of the rows tells the border setting
   pub rows-sized : (room : ℕ) → writeOf rows room ≡ writeAs (pictureOf (c .borders)) rows room
   unfolding writeOf

@@ -26,8 +26,8 @@ use Rattle.pgm.specs.Pgm.{size}
 use Rattle.frame_rows.specs.declared.Order.{Order}
 use Rattle.frame_rows.specs.declared.Gatherer.{Gatherer}
 use Rattle.frame_rows.specs.FrameRows.{Shown, pixelsOf, isVisible, rowOf, rowsOf, complete, AfterCall, moved, quiet, keepRow, onward, completed, refusedBy, byRuling, handed}
-use Rattle.frame_rows.specs.Gathering.{Given, call, calls, start, shown, taken, linesOf, pictureOf, Every, shownAll, Whole}
-use Rattle.frame_rows.specs.FrameRowsLaws.{rows-append, pixels-length, frame-size, stands, every-snoc, put-rows, put-length, Rows, Holds, Hands, none, one, hands, holds-calls, holds-start}
+use Rattle.frame_rows.specs.Gathering.{Given, call, calls, start, shown, taken, linesOf, pictureOf, Every, shownAll, WholeBody}
+use Rattle.frame_rows.specs.FrameRowsLaws.{rows-append, pixels-length, frame-size, stands, every-snoc, put-rows, put-length, Rows, HoldsRows, Hands, none, one, hands, holds-calls, holds-start}
 
 -- The call that brings a line.
 
@@ -82,7 +82,7 @@ record Ready (o : Order) (ls : List Shown) (l : Shown) (s : Gatherer) (buffer : 
   order : s .order ≡ o
   count : ℕ
   due : rulings VV5404 (s .judge) (linesOf (ls ++ (l ∷ []))) ≡ toComplete count
-  whole : Every Whole ls
+  whole : Every WholeBody ls
   room : s .kept + length (rowsOf o ls) ≤ length buffer
 
 -- one line of them
@@ -201,7 +201,7 @@ record Arrives (o : Order) (b : Borders) (ls : List Shown) (l : Shown) (s : Gath
   passing : passes VV5404 (s .judge) ≡ true
   clear : Clear s
   frame : IsFrame VV5404 b (linesOf (ls ++ (l ∷ [])))
-  whole : Every Whole ls
+  whole : Every WholeBody ls
   room : size (pictureOf b) ≤ length buffer
 
 abbrev SaysAll : Order → Borders → List Shown → Shown → AfterCall → Type 0
@@ -214,7 +214,7 @@ first-line o b a ls l s buffer f r rest =
     let i : a .given ≡ line (kindNumber SOF) 0 = first-is VV5404 b (a .given) (and-left _ _ (r .frame .1)) in
     let u : isVisible (l .given .kind) ≡ false = last-unseen b l (laid-last b 0 (a ∷ ls) l (r .frame .1) (omega (arith, r .frame .0))) in
     let v : isVisible (a .given .kind) ≡ false = ap (λ (k : Line). isVisible (k .kind)) i in
-    let w : Every Whole ((a ∷ ls) ++ (l ∷ [])) = every-snoc Whole (a ∷ ls) l (r .whole) (λ t. absurd (true≢false (sym t ∙ u))) in
+    let w : Every WholeBody ((a ∷ ls) ++ (l ∷ [])) = every-snoc WholeBody (a ∷ ls) l (r .whole) (λ t. absurd (true≢false (sym t ∙ u))) in
     let m : rowsOf o ((a ∷ ls) ++ (l ∷ [])) ≡ rowsOf o ls =
     ap (λ (t : Bool). cond t (pixelsOf o (a .body)) [] ++ rowsOf o (ls ++ (l ∷ []))) v
     ∙ rows-append o ls (l ∷ [])
@@ -244,13 +244,13 @@ arrives-shown on way o b (a ∷ gs) g l s buffer e r =
     by _ _ none q rest = rest q
     by _ _ (one c) q rest = first-line o b c (shownAll gs) l s buffer (λ z. on z (gs ++ (g ∷ []))) q (λ next held. rest-shown on way o gs g l next held e)
 
-clear-rows : (o : Order) (ls : List Shown) (x : AfterCall) → Holds o ls x → Clear (x .gatherer)
+clear-rows : (o : Order) (ls : List Shown) (x : AfterCall) → HoldsRows o ls x → Clear (x .gatherer)
 clear-rows o ls x h q = subst (λ (j : Judge). Rows o ls j (x .gatherer .kept) (x .buffer)) q (h .rows)
 
 -- after any calls, `before`, and in any way of calling on: where the calls from there on hand over exactly the lines of a frame, the last of them
 -- with the last call, each visible body fills a row, and the buffer has room for the picture, the last call says complete, with the frame's rows
 pub frame-shown-on : (on : AfterCall → List Given → AfterCall) → KeepsCalling on → (o : Order) (buffer : List ℕ) (before gs : List Given) (g : Given) (l : Shown) (b : Borders)
-    → shown (handedLines (g .answer)) (g .held) ≡ l ∷ [] → IsFrame VV5404 b (linesOf (shownAll gs ++ (l ∷ []))) → Every Whole (shownAll gs)
+    → shown (handedLines (g .answer)) (g .held) ≡ l ∷ [] → IsFrame VV5404 b (linesOf (shownAll gs ++ (l ∷ []))) → Every WholeBody (shownAll gs)
     → let x : AfterCall = calls (start o buffer) before in
     size (pictureOf b) ≤ length (x .buffer)
     → on (quiet (x .gatherer) (x .buffer)) (gs ++ (g ∷ [])) .output ≡ complete (size (pictureOf b)) (rowsOf o (shownAll gs ++ (l ∷ [])))
@@ -273,7 +273,7 @@ calls-quiet x (a ∷ gs) g = refl
 
 -- so where every call is made, whatever is said
 pub frame-shown : (o : Order) (buffer : List ℕ) (before gs : List Given) (g : Given) (l : Shown) (b : Borders)
-    → shown (handedLines (g .answer)) (g .held) ≡ l ∷ [] → IsFrame VV5404 b (linesOf (shownAll gs ++ (l ∷ []))) → Every Whole (shownAll gs)
+    → shown (handedLines (g .answer)) (g .held) ≡ l ∷ [] → IsFrame VV5404 b (linesOf (shownAll gs ++ (l ∷ []))) → Every WholeBody (shownAll gs)
     → size (pictureOf b) ≤ length (calls (start o buffer) before .buffer)
     → calls (calls (start o buffer) before) (gs ++ (g ∷ [])) .output ≡ complete (size (pictureOf b)) (rowsOf o (shownAll gs ++ (l ∷ [])))
 frame-shown o buffer before gs g l b e f w room =

@@ -41,13 +41,13 @@ text-append (n ∷ v) w l =
 
 -- calls one after another, each with a buffer of some length and the nibbles that the one before left, until none is left: the lister after
 -- them, and their texts end to end
-pub data Calls : MeanLister → List ℕ → MeanLister → List ℕ → Type 0 where
-  no-call : (l : MeanLister) → Calls l [] l []
+pub data MeanCalls : MeanLister → List ℕ → MeanLister → List ℕ → Type 0 where
+  no-call : (l : MeanLister) → MeanCalls l [] l []
   call : (l : MeanLister) (w : List ℕ) (room : ℕ) (m : MeanLister) (text : List ℕ)
-      → Calls (listedOf l room w .lister) (drop (listedOf l room w .taken) w) m text → Calls l w m (listedOf l room w .text ++ text)
+      → MeanCalls (listedOf l room w .lister) (drop (listedOf l room w .taken) w) m text → MeanCalls l w m (listedOf l room w .text ++ text)
 
 -- they list what the nibbles one by one do, whatever the buffers
-pub calls-list : {l m : MeanLister} {w text : List ℕ} → Calls l w m text → (m ≡ listAfter l w) × (text ≡ listText l w)
+pub calls-list : {l m : MeanLister} {w text : List ℕ} → MeanCalls l w m text → (m ≡ listAfter l w) × (text ≡ listText l w)
 unfolding listedOf
 calls-list (no-call l) = (refl, refl)
 calls-list (call l w room m text c) =

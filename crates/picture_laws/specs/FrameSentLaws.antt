@@ -46,7 +46,7 @@ use Rattle.frame_rows.specs.declared.Order.{Order}
 use Rattle.frame_rows.specs.declared.Gatherer.{Gatherer}
 use Rattle.frame_rows.specs.FrameRows.{Shown, rowOf, rowsOf, complete, AfterCall, quiet, refusedBy, byRuling, handed, handing, takeOf}
 use Rattle.frame_rows.specs.FrameRows as rows
-use Rattle.frame_rows.specs.Gathering.{Given, call, start, shown, taken, shownAll, linesOf, pictureOf, Completes, Every, Whole, Laid}
+use Rattle.frame_rows.specs.Gathering.{Given, call, start, shown, taken, shownAll, linesOf, pictureOf, CompletesRows, Every, WholeBody, Laid}
 use Rattle.frame_rows.specs.Gathering as gathering
 use Rattle.frame_rows.specs.FrameRowsLaws.{frame-size, holds-calls, holds-start}
 use Rattle.frame_rows.specs.PictureLaws.{rows-written}
@@ -102,7 +102,7 @@ record LinesTold (os : List Outcome) (ss : List Sent) : Type 0 where
   told : os ≡ until ++ (lineRead last Clean Clean ∷ rest)
   last-shown : shownOf (lineRead last Clean Clean) ≡ shownLine last ∷ []
   all-shown : collected shownOf until ++ (shownLine last ∷ []) ≡ map shownLine ss
-  whole : Every Whole (collected shownOf until)
+  whole : Every WholeBody (collected shownOf until)
 
 lines-told : (s : Sent) → Writable VV5404 s → {ss : List Sent} → AllWritable VV5404 ss
     → LinesTold (restTold s Clean Clean ++ outcomes VV5404 (after s) (stream ss)) (s ∷ ss)
@@ -116,7 +116,7 @@ lines-told s g no-lines =
       told = append-nil (restTold s Clean Clean) ∙ sym (append-assoc (nothings (content s)) seven (lineRead s Clean Clean ∷ nothings (tail s)));
       last-shown = line-shown s g;
       all-shown = ap (λ (ls : List Shown). ls ++ (shownLine s ∷ [])) none;
-      whole = subst (Every Whole) (sym none) tt;
+      whole = subst (Every WholeBody) (sym none) tt;
     }
 lines-told s g (and-line {s = next} {ss = ss} h hs) =
     let r = lines-told next h hs in
@@ -137,7 +137,7 @@ lines-told s g (and-line {s = next} {ss = ss} h hs) =
       all-shown =
           ap (λ (ls : List Shown). ls ++ (shownLine (r .last) ∷ [])) shows
           ∙ ap {B = List Shown} (λ ls. shownLine s ∷ ls) (r .all-shown);
-      whole = subst (Every Whole) (sym shows) (λ v. body-length s g, r .whole);
+      whole = subst (Every WholeBody) (sym shows) (λ v. body-length s g, r .whole);
     }
 
 -- The start mark of the first line: no line comes out of it, so nothing is said.
@@ -191,7 +191,7 @@ outcomes-still (o ∷ os) e x q =
 -- calls that go on while nothing is said: a frame that comes whole after them is what is said first
 frame-first : (o : Order) (held : List ℕ) (before gs : List Given) (g : Given) (l : Shown) (b : Borders) (later : List Given)
     → untilSaid (start o held) before .output ≡ rows.nothing → shown (handedLines (g .answer)) (g .held) ≡ l ∷ []
-    → IsFrame VV5404 b (linesOf (shownAll gs ++ (l ∷ []))) → Every Whole (shownAll gs) → size (pictureOf b) ≤ length held
+    → IsFrame VV5404 b (linesOf (shownAll gs ++ (l ∷ []))) → Every WholeBody (shownAll gs) → size (pictureOf b) ≤ length held
     → untilSaid (start o held) (before ++ ((gs ++ (g ∷ [])) ++ later)) .output ≡ complete (size (pictureOf b)) (rowsOf o (shownAll gs ++ (l ∷ [])))
 frame-first o held before gs g l b later q e f w room =
     let x : AfterCall = gathering.calls (start o held) before in
@@ -283,7 +283,7 @@ frame-said o b s g {ss} h f held room {before} small none later =
     says-until o held (w ++ later)
     ∙ ap (λ (v : List Given). untilSaid (start o held) v .output) same
     ∙ frame-first o held (map givenOf (B ++ M)) gs last (shownLine (t .last)) b (map givenOf (t .rest) ++ L) still (t .last-shown)
-    (subst (λ (ls : List Shown). IsFrame VV5404 b (linesOf ls)) (sym lines) f) (subst (Every Whole) (sym (shown-collected (t .until))) (t .whole)) room
+    (subst (λ (ls : List Shown). IsFrame VV5404 b (linesOf ls)) (sym lines) f) (subst (Every WholeBody) (sym (shown-collected (t .until))) (t .whole)) room
     ∙ ap (λ (ls : List Shown). complete (size (pictureOf b)) (rowsOf o ls)) lines
     ∙ ap (complete (size (pictureOf b))) (rows-sent o (s ∷ ss))
 
@@ -306,12 +306,12 @@ sent-laid : {ss : List Sent} → AllWritable VV5404 ss → Every Laid (map shown
 sent-laid no-lines = tt
 sent-laid (and-line {s = s} g h) = (kind-laid (s .kind) (s .number) (s .body) (g .body-fits), sent-laid h)
 
-sent-whole : {ss : List Sent} → AllWritable VV5404 ss → Every Whole (map shownLine ss)
+sent-whole : {ss : List Sent} → AllWritable VV5404 ss → Every WholeBody (map shownLine ss)
 sent-whole no-lines = tt
 sent-whole (and-line {s = s} g h) = (λ v. body-length s g, sent-whole h)
 
 -- the rows are those of a whole frame
-sent-completes : (o : Order) (b : Borders) {ss : List Sent} → FrameSent b ss → Completes o (map shownLine ss) (size (pictureOf b)) (sentRows o ss)
+sent-completes : (o : Order) (b : Borders) {ss : List Sent} → FrameSent b ss → CompletesRows o (map shownLine ss) (size (pictureOf b)) (sentRows o ss)
 sent-completes o b {ss} f =
     let n : length (sentRows o ss) ≡ size (pictureOf b) =
     sym (ap length (rows-sent o ss)) ∙ frame-size o b (map shownLine ss) (f .whole) (sent-whole (f .writable)) in

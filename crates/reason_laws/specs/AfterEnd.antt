@@ -15,10 +15,10 @@ use Rattle.stream.specs.Written.{endMark}
 use Rattle.recovery.specs.Resync.{stateWith}
 
 -- the answers of nibbles from two states, and the states they leave: they agree, but that the first mark's code answers a mark of the first alone
-pub data Agree : List Outcome → State → List Outcome → State → Type 0 where
-  no-mark : (s q : State) → Agree [] s [] q
-  not-complete : {os qs : List Outcome} {s q : State} → Agree os s qs q → Agree (nothing ∷ os) s (nothing ∷ qs) q
-  first-mark : (o : Outcome) (os : List Outcome) (s : State) → Agree (o ∷ os) s (nothing ∷ os) s
+pub data AgreeAfterEnd : List Outcome → State → List Outcome → State → Type 0 where
+  no-mark : (s q : State) → AgreeAfterEnd [] s [] q
+  not-complete : {os qs : List Outcome} {s q : State} → AgreeAfterEnd os s qs q → AgreeAfterEnd (nothing ∷ os) s (nothing ∷ qs) q
+  first-mark : (o : Outcome) (os : List Outcome) (s : State) → AgreeAfterEnd (o ∷ os) s (nothing ∷ os) s
 
 -- the code of the end of line, 80, newest nibble first
 abbrev endText : List ℕ
@@ -47,15 +47,15 @@ module _ (p : Profile) where
   abbrev ended : List ℕ → State
   ended t = stateWith (Open NoLine 0x80) (t ++ endText)
 
-  agree : (w t : List ℕ) → Agree (outcomes p (ended t) w) (run p (ended t) w) (outcomes p (stateWith NoMark t) w) (run p (stateWith NoMark t) w)
+  agree : (w t : List ℕ) → AgreeAfterEnd (outcomes p (ended t) w) (run p (ended t) w) (outcomes p (stateWith NoMark t) w) (run p (stateWith NoMark t) w)
   unfolding readingOf meaningOf kindNumbered reservedOf
   agree [] t = no-mark _ _
   agree (n ∷ w) [] = not-complete (agree w (n ∷ []))
   agree (n ∷ w) (x ∷ u) = go (both u) (agree w (n ∷ x ∷ u))
     where
       go : {o q : Option (List ℕ)} → Both o q
-          → Agree (outcomes p (ended (n ∷ x ∷ u)) w) (run p (ended (n ∷ x ∷ u)) w) (outcomes p (stateWith NoMark (n ∷ x ∷ u)) w) (run p (stateWith NoMark (n ∷ x ∷ u)) w)
-          → Agree
+          → AgreeAfterEnd (outcomes p (ended (n ∷ x ∷ u)) w) (run p (ended (n ∷ x ∷ u)) w) (outcomes p (stateWith NoMark (n ∷ x ∷ u)) w) (run p (stateWith NoMark (n ∷ x ∷ u)) w)
+          → AgreeAfterEnd
           (advance p (Open NoLine 0x80) (n ∷ x ∷ (u ++ endText)) (markIf x n o) .outcome ∷ outcomes p (advance p (Open NoLine 0x80) (n ∷ x ∷ (u ++ endText)) (markIf x n o) .state) w)
           (run p (advance p (Open NoLine 0x80) (n ∷ x ∷ (u ++ endText)) (markIf x n o) .state) w)
           (advance p NoMark (n ∷ x ∷ u) (markIf x n q) .outcome ∷ outcomes p (advance p NoMark (n ∷ x ∷ u) (markIf x n q) .state) w)
@@ -64,6 +64,6 @@ module _ (p : Profile) where
       go (found r) rest = first-mark _ _ _
 
   -- the law: of any nibbles after an end of line
-  pub after-an-end : (w : List ℕ) → Agree (outcomes p (run p fresh endMark) w) (run p (run p fresh endMark) w) (outcomes p fresh w) (run p fresh w)
+  pub after-an-end : (w : List ℕ) → AgreeAfterEnd (outcomes p (run p fresh endMark) w) (run p (run p fresh endMark) w) (outcomes p fresh w) (run p fresh w)
   unfolding cleanByte
   after-an-end w = agree w []

@@ -15,16 +15,16 @@ use Rattle.reason.specs.Sums.{failedSums}
 use Rattle.reason.specs.Explanation.{opener, codeAt, numberReason, nextReason, lineReason, twoBytesReason, reasonOf, firstReason, runReason, explanation}
 
 -- a profile number, a kind number, a run, and its reason
-pub record Case : Type 0 where
+pub record ReasonCase : Type 0 where
   pub profile : ℕ
   pub kind : ℕ
   pub run : List ℕ
   pub reason : Reason
 
-abbrev case : ℕ → ℕ → List ℕ → Reason → Case
+abbrev case : ℕ → ℕ → List ℕ → Reason → ReasonCase
 case p k w r = record { profile = p; kind = k; run = w; reason = r }
 
-unfoldable pub ExplanationsHold : List Case → Type 0
+unfoldable pub ExplanationsHold : List ReasonCase → Type 0
 ExplanationsHold [] = Unit {0}
 ExplanationsHold (c ∷ cs) = (explanation (c .profile) (c .kind) (c .run) ≡ c .reason) × ExplanationsHold cs
 
@@ -32,7 +32,7 @@ ExplanationsHold (c ∷ cs) = (explanation (c .profile) (c .kind) (c .run) ≡ c
 abbrev lineWith : ℕ → ℕ → ℕ → List ℕ → ℕ → List ℕ
 lineWith code a b body next = markOf code ++ (nibbles (a ∷ b ∷ body) ++ markOf next)
 
-unfoldable pub examples : List Case
+unfoldable pub examples : List ReasonCase
 examples =
     -- refusals, in their order; 10 also behind the next mark's code; a mark's F are the last four
     case 2 6 (16 ∷ []) (Refused 11)
