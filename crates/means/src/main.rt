@@ -64,7 +64,9 @@ fn write_rows(fd: i32, name: &[u8]) {
             return;
         }
         if used == 0 {
-            command::complain(b"no visible line of a VV5300 in the capture\n");
+            command::complain(
+                b"no visible line of a VV5300 was read: list vv5300 shows what came\n",
+            );
         }
     }
 }

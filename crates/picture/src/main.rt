@@ -185,7 +185,7 @@ fn grab(order: Order, picture: usize, fd: i32, name: &[u8]) {
     match found {
         Found::Rows(n) => write(&rows, n, picture),
         Found::Nothing => command::complain(
-            b"no complete frame of a VV5404 or VV6404 in the capture: no other sensor has a picture\n",
+            b"no complete frame in the capture: take a longer one (pictures are of VV5404 and VV6404 heads only)\n",
         ),
         Found::Failed => {}
     }

@@ -15,7 +15,7 @@ fn main() {
     if asked.understood {
         seek_asked(asked);
     } else {
-        command::complain(b"usage: why [MARK] [vv5404|vv5300] [FILE]\n");
+        command::complain(b"usage: why [MARK] [vv5404|vv6404|vv5300] [FILE]\n");
     }
 }
 
