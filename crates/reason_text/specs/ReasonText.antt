@@ -2,7 +2,7 @@
 use mathlib.Core.Bool.{Bool, cond}
 use mathlib.Core.List.{List, [], _∷_, _++_}
 use Prim.Native.Nat.{ℕ, _+_, _-_, _*_, _/_, _%_, min}
-use lib.Dec.{ltb}
+use lib.Dec.{eqb, ltb}
 use lib.ListN.{length, take, drop, getD}
 use Rattle.text.specs.Text.{ascii, space, newline, decimal, hexByte}
 use Rattle.line_code.specs.declared.Kind.{Kind}
@@ -34,8 +34,8 @@ nibblesBefore low = cond low 1 0
 abbrev pub runIn : Bool → List ℕ → List ℕ
 runIn low bytes = drop (nibblesBefore low) (nibbles (take mostBytes bytes))
 
-abbrev pub reasonIn : Located → List ℕ → Reason
-reasonIn m bytes = explanation (profileNumber (m .profile)) (m .before) (runIn (m .low) bytes)
+abbrev pub reasonOfRun : Located → List ℕ → Reason
+reasonOfRun m bytes = explanation (profileNumber (m .profile)) (m .before) (runIn (m .low) bytes)
 
 -- the mark's code byte: after F F F F 0 0
 unfoldable pub codeIn : Bool → List ℕ → ℕ
@@ -44,6 +44,10 @@ codeIn low bytes = cond low (16 * (getD bytes 3 0 % 16) + getD bytes 4 0 / 16) (
 -- there are more bytes than are looked at
 abbrev pub isBeyond : List ℕ → Bool
 isBeyond bytes = ltb mostBytes (length bytes)
+
+-- a good mark that goes on beyond what is looked at is an end of line, since no line is that long; any other mark has the reason of its run
+unfoldable pub reasonIn : Located → List ℕ → Reason
+reasonIn m bytes = cond (isBeyond bytes) (cond (eqb (m .refusal) 0) GoodGap (reasonOfRun m bytes)) (reasonOfRun m bytes)
 
 -- Words.
 
@@ -79,10 +83,17 @@ damagedWords code sums = ascii "refused 1: damaged code " ++ (hexByte code ++ (a
 unfoldable pub reservedWords : ℕ → List ℕ
 reservedWords code = ascii "refused 2: reserved code " ++ hexByte code
 
-unfoldable pub unfinishedWords : Bool → ℕ → List ℕ
-unfinishedWords cut code =
-    cond cut (withLine (ascii "refused: ") code ++ ascii " of more than 1000 bytes: a signal that was lost?")
-    (withLine (ascii "refused 3: ") code ++ ascii ", cut off by the end of the capture")
+-- a refusal's number alone: `refused 4`
+unfoldable pub refusedWords : ℕ → List ℕ
+refusedWords refusal = ascii "refused " ++ decimal refusal
+
+-- a line that goes on beyond what is looked at: the number is the reader's
+unfoldable pub longLineWords : ℕ → ℕ → List ℕ
+longLineWords refusal code = refusedWords refusal ++ (withLine (ascii ": ") code ++ ascii " of more than 1000 bytes: a signal that was lost?")
+
+unfoldable pub unfinishedWords : Bool → ℕ → ℕ → List ℕ
+unfinishedWords cut refusal code =
+    cond cut (longLineWords refusal code) (withLine (ascii "refused 3: ") code ++ ascii ", cut off by the end of the capture")
 
 unfoldable pub lengthWords : ℕ → ℕ → ℕ → List ℕ
 lengthWords code found wanted =
@@ -104,27 +115,32 @@ badGapWords place = ascii "refused 9: end of line, a bad gap from its nibble " +
 unfoldable pub shortWords : ℕ → List ℕ
 shortWords length = ascii "refused 9: end of line, a gap of " ++ (decimal length ++ ascii " nibbles, 4 at least are wanted")
 
-unfoldable pub goodGapWords : Bool → List ℕ
-goodGapWords cut = cond cut (ascii "end of line with a gap of more than 1000 bytes: a signal that was lost?") (ascii "good end of line")
+-- the reader's answer, before what it answers: `good `, or `refused 9: `
+unfoldable pub answerWords : ℕ → List ℕ
+answerWords refusal = cond (eqb refusal 0) (ascii "good ") (refusedWords refusal ++ ascii ": ")
 
-unfoldable pub otherWords : ℕ → List ℕ
-otherWords number = ascii "refused " ++ decimal number
+-- an end of line whose gap goes on beyond what is looked at: the number is the reader's
+unfoldable pub longGapWords : ℕ → List ℕ
+longGapWords refusal = answerWords refusal ++ ascii "end of line with a gap of more than 1000 bytes: a signal that was lost?"
 
--- each reason; of an end of line, and of a line that is longer than what is looked at, as far as that goes
-unfoldable pub explainedWords : Bool → ℕ → Reason → List ℕ
-explainedWords cut code GoodLine = withLine (ascii "good ") code
-explainedWords cut code GoodGap = goodGapWords cut
-explainedWords cut code (DamagedCode byte sums) = damagedWords byte sums
-explainedWords cut code ReservedCode = reservedWords code
-explainedWords cut code UnfinishedLine = unfinishedWords cut code
-explainedWords cut code (WrongLength found wanted) = lengthWords code found wanted
-explainedWords cut code (BadNumber place byte) = numberWords code place byte
-explainedWords cut code (BadBody place byte) = bodyWords code place byte
-explainedWords cut code (NoEndOfLine next) = endWords code next
-explainedWords cut code EndWithoutLine = ascii "refused 8: end of line without a line before it"
-explainedWords cut code (BadGap place nibble) = badGapWords place
-explainedWords cut code (ShortGap length) = shortWords length
-explainedWords cut code (Refused number) = otherWords number
+unfoldable pub goodGapWords : Bool → ℕ → List ℕ
+goodGapWords cut refusal = cond cut (longGapWords refusal) (ascii "good end of line")
+
+-- each reason; where the mark goes on beyond what is looked at, a line and a gap that are good so far have the reader's number
+unfoldable pub explainedWords : Bool → ℕ → ℕ → Reason → List ℕ
+explainedWords cut refusal code GoodLine = withLine (ascii "good ") code
+explainedWords cut refusal code GoodGap = goodGapWords cut refusal
+explainedWords cut refusal code (DamagedCode byte sums) = damagedWords byte sums
+explainedWords cut refusal code ReservedCode = reservedWords code
+explainedWords cut refusal code UnfinishedLine = unfinishedWords cut refusal code
+explainedWords cut refusal code (WrongLength found wanted) = lengthWords code found wanted
+explainedWords cut refusal code (BadNumber place byte) = numberWords code place byte
+explainedWords cut refusal code (BadBody place byte) = bodyWords code place byte
+explainedWords cut refusal code (NoEndOfLine next) = endWords code next
+explainedWords cut refusal code EndWithoutLine = ascii "refused 8: end of line without a line before it"
+explainedWords cut refusal code (BadGap place nibble) = badGapWords place
+explainedWords cut refusal code (ShortGap length) = shortWords length
+explainedWords cut refusal code (Refused number) = refusedWords number
 
 -- Bytes around the bad place.
 
@@ -179,7 +195,7 @@ aroundWords bytes low place =
 unfoldable pub markLine : Located → List ℕ → List ℕ
 markLine m bytes =
     markWords (m .number) (m .place)
-    ++ (explainedWords (isBeyond bytes) (codeIn (m .low) bytes) (reasonIn m bytes)
+    ++ (explainedWords (isBeyond bytes) (m .refusal) (codeIn (m .low) bytes) (reasonIn m bytes)
     ++ (aroundWords bytes (m .low) (badPlace (m .profile) (reasonIn m bytes)) ++ (newline ∷ [])))
 
 -- the bytes that no line exceeds

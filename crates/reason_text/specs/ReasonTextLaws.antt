@@ -4,7 +4,7 @@ use mathlib.Core.Bool.{Bool, true, false, cond}
 use mathlib.Core.List.{List, [], _∷_, _++_}
 use Prim.Native.Nat.{ℕ, zero, suc, _+_, _-_, _*_, _/_, _≤_, _<_, min}
 use native.Mathlib.Omega.{arith}
-use lib.Dec.{leb, ltb}
+use lib.Dec.{leb, eqb, ltb}
 use lib.ListN.{length, take, drop, getD, length-append, length-take, length-drop}
 use lib.Seq.{take-all}
 use borrow.Author.Tests.{leb-true, leb-false}
@@ -24,7 +24,7 @@ use Rattle.reason.specs.declared.FailedSums.{FailedSums}
 use Rattle.reason.specs.declared.Reason.{Reason}
 use Rattle.reason.specs.declared.Reason.the-variants.{GoodLine, GoodGap, DamagedCode, ReservedCode, UnfinishedLine, WrongLength, BadNumber, BadBody, NoEndOfLine, EndWithoutLine, BadGap, ShortGap, Refused}
 use Rattle.reason_text.specs.declared.Located.{Located}
-use Rattle.reason_text.specs.ReasonText.{mostBytes, nibblesBefore, runIn, reasonIn, codeIn, isBeyond, kindName, lineName, markWords, withLine, sumWord, sumWords, damagedWords, reservedWords, unfinishedWords, lengthWords, numberWords, bodyWords, endWords, badGapWords, shortWords, goodGapWords, otherWords, explainedWords, badPlace, spaced, hexes, part, shownBeside, around, aroundWords, markLine, lineRoom}
+use Rattle.reason_text.specs.ReasonText.{mostBytes, nibblesBefore, runIn, reasonIn, codeIn, isBeyond, kindName, lineName, markWords, withLine, sumWord, sumWords, damagedWords, reservedWords, unfinishedWords, lengthWords, numberWords, bodyWords, endWords, badGapWords, shortWords, longLineWords, answerWords, longGapWords, goodGapWords, refusedWords, explainedWords, badPlace, spaced, hexes, part, shownBeside, around, aroundWords, markLine, lineRoom}
 
 kind-short : (k : Kind) → length (kindName k) ≤ 20
 kind-short BL = omega arith
@@ -56,24 +56,36 @@ sums-short s =
     simp length-append
     (omega (arith, sum-short (s .p0) (ascii " P0"), sum-short (s .p1) (ascii " P1"), sum-short (s .p2) (ascii " P2"), sum-short (s .p3) (ascii " P3")))
 
-reason-short : (cut : Bool) (code : ℕ) (r : Reason) → length (explainedWords cut code r) ≤ 120
-unfolding explainedWords goodGapWords damagedWords reservedWords unfinishedWords lengthWords numberWords bodyWords endWords badGapWords shortWords otherWords
-reason-short cut code GoodLine = omega (arith, line-short (ascii "good ") code)
-reason-short cut code GoodGap = either-short cut _ _ 120 (omega arith) (omega arith)
-reason-short cut code (DamagedCode byte sums) = simp length-append (omega (arith, sums-short sums))
-reason-short cut code ReservedCode = simp length-append (omega arith)
-reason-short cut code UnfinishedLine =
-    either-short cut _ _ 120 (simp length-append (omega (arith, line-short (ascii "refused: ") code)))
+long-line-short : (refusal code : ℕ) → length (longLineWords refusal code) ≤ 120
+unfolding longLineWords refusedWords
+long-line-short refusal code = simp length-append (omega (arith, decimal-short refusal, line-short (ascii ": ") code))
+
+answer-short : (refusal : ℕ) → length (answerWords refusal) ≤ 40
+unfolding answerWords refusedWords
+answer-short refusal = either-short (eqb refusal 0) _ _ 40 (omega arith) (simp length-append (omega (arith, decimal-short refusal)))
+
+long-gap-short : (refusal : ℕ) → length (longGapWords refusal) ≤ 120
+unfolding longGapWords
+long-gap-short refusal = simp length-append (omega (arith, answer-short refusal))
+
+reason-short : (cut : Bool) (refusal code : ℕ) (r : Reason) → length (explainedWords cut refusal code r) ≤ 120
+unfolding explainedWords goodGapWords damagedWords reservedWords unfinishedWords lengthWords numberWords bodyWords endWords badGapWords shortWords refusedWords
+reason-short cut refusal code GoodLine = omega (arith, line-short (ascii "good ") code)
+reason-short cut refusal code GoodGap = either-short cut _ _ 120 (long-gap-short refusal) (omega arith)
+reason-short cut refusal code (DamagedCode byte sums) = simp length-append (omega (arith, sums-short sums))
+reason-short cut refusal code ReservedCode = simp length-append (omega arith)
+reason-short cut refusal code UnfinishedLine =
+    either-short cut _ _ 120 (long-line-short refusal code)
     (simp length-append (omega (arith, line-short (ascii "refused 3: ") code)))
-reason-short cut code (WrongLength found wanted) =
+reason-short cut refusal code (WrongLength found wanted) =
     simp length-append (omega (arith, line-short (ascii "refused 4: ") code, decimal-short found, decimal-short wanted))
-reason-short cut code (BadNumber place byte) = simp length-append (omega (arith, line-short (ascii "refused 5: ") code, decimal-short place))
-reason-short cut code (BadBody place byte) = simp length-append (omega (arith, line-short (ascii "refused 6: ") code, decimal-short place))
-reason-short cut code (NoEndOfLine next) = simp length-append (omega (arith, line-short (ascii "refused 7: ") code))
-reason-short cut code EndWithoutLine = omega arith
-reason-short cut code (BadGap place nibble) = simp length-append (omega (arith, decimal-short place))
-reason-short cut code (ShortGap nibbles) = simp length-append (omega (arith, decimal-short nibbles))
-reason-short cut code (Refused number) = simp length-append (omega (arith, decimal-short number))
+reason-short cut refusal code (BadNumber place byte) = simp length-append (omega (arith, line-short (ascii "refused 5: ") code, decimal-short place))
+reason-short cut refusal code (BadBody place byte) = simp length-append (omega (arith, line-short (ascii "refused 6: ") code, decimal-short place))
+reason-short cut refusal code (NoEndOfLine next) = simp length-append (omega (arith, line-short (ascii "refused 7: ") code))
+reason-short cut refusal code EndWithoutLine = omega arith
+reason-short cut refusal code (BadGap place nibble) = simp length-append (omega (arith, decimal-short place))
+reason-short cut refusal code (ShortGap nibbles) = simp length-append (omega (arith, decimal-short nibbles))
+reason-short cut refusal code (Refused number) = simp length-append (omega (arith, decimal-short number))
 
 -- Bytes in hex.
 
@@ -107,7 +119,7 @@ pub mark-line-short : (m : Located) (bytes : List ℕ) → length (markLine m by
 unfolding markLine markWords
 mark-line-short m bytes =
     simp length-append
-    (omega (arith, decimal-short (m .number), decimal-short (m .place), reason-short (isBeyond bytes) (codeIn (m .low) bytes) (reasonIn m bytes), around-words-short bytes (m .low) (badPlace (m .profile) (reasonIn m bytes))))
+    (omega (arith, decimal-short (m .number), decimal-short (m .place), reason-short (isBeyond bytes) (m .refusal) (codeIn (m .low) bytes) (reasonIn m bytes), around-words-short bytes (m .low) (badPlace (m .profile) (reasonIn m bytes))))
 
 -- one byte more, and all of them
 pub hexes-more : (bs : List ℕ) (i : ℕ) → i < length bs → hexes (take (suc i) bs) ≡ hexes (take i bs) ++ spaced (getD bs i 0)

@@ -3,13 +3,13 @@
 // In: a mark of a capture, with its place; and the capture's bytes from the one that it begins in, through the next mark's code or to the end.
 // Out: the line's bytes at the front of the buffer, and how many they are. The line tells the mark's number and place, what the mark is and why
 // it is refused, and the bytes around the bad place. Nothing is refused: a buffer of fewer than ROOM bytes stays as it was, and the count is 0.
-// The first MOST bytes are looked at, and what is longer is told as longer. Cost: linear in the bytes looked at.
+// The first MOST bytes are looked at, and what is longer is told as longer, with the reader's own number. Cost: linear in the bytes looked at.
 ghost use mathlib.Core.Path.{_≡_};
 ghost use Prim.Native.Nat.{_≤_, _<_, min};
 ghost use lib.ListN.{length, getD};
 ghost use Rattle.profile.specs.Profile.{profileNumber};
 ghost use Rattle.text.specs.Put.{Puts, AtFront};
-ghost use Rattle.reason_text.specs.ReasonText.{nibblesBefore, reasonIn, codeIn, kindName, lineName, markWords, withLine, sumWord, sumWords, damagedWords, reservedWords, unfinishedWords, lengthWords, numberWords, bodyWords, endWords, badGapWords, shortWords, goodGapWords, otherWords, explainedWords, badPlace, spaced, hexes, around, aroundWords, markLine, lineIfRoom};
+ghost use Rattle.reason_text.specs.ReasonText.{nibblesBefore, reasonOfRun, reasonIn, codeIn, kindName, lineName, markWords, withLine, sumWord, sumWords, damagedWords, reservedWords, unfinishedWords, lengthWords, numberWords, bodyWords, endWords, badGapWords, shortWords, longLineWords, answerWords, longGapWords, goodGapWords, refusedWords, explainedWords, badPlace, spaced, hexes, around, aroundWords, markLine, lineIfRoom};
 use line_code::Kind;
 use line_code::LineKind;
 use profile::Profile;
@@ -26,6 +26,8 @@ pub struct Located {
     pub before: u8,
     // Its own number, counted from 1 as a listing does.
     pub number: u64,
+    // The number that the reader refuses it with, 0 for a good line or gap.
+    pub refusal: u8,
     // The place in the capture of the byte that it begins in, and whether it begins at the byte's low nibble.
     pub place: u64,
     pub low: bool,
@@ -57,16 +59,29 @@ fn put_all(mark: Located, bytes: &[u8], out: &mut [u8]) -> usize
     let code = code_in(mark.low, bytes);
     let cut = MOST < bytes.len();
     let at = put_mark(mark.number, mark.place, out);
-    let at = put_reason(cut, code, why, out, at);
+    let at = put_reason(cut, mark.refusal, code, why, out, at);
     let profile = mark.profile;
     let bad = bad_place(profile, why);
     let at = put_around(bytes, mark.low, bad, out, at);
     put(b"\n", out, at)
 }
 
-// The reason, of the mark's nibbles.
+// The reason. A good mark that goes on beyond what is looked at is an end of line, since no line is that long.
 fn reason_in(mark: Located, bytes: &[u8]) -> Reason
     ensures { λ r. ⌜ r ≡ reasonIn mark (now (bytes .entry)) ⌝ }
+{
+    if bytes.len() <= MOST {
+        return reason_of_run(mark, bytes);
+    }
+    if mark.refusal == 0 {
+        return Reason::GoodGap;
+    }
+    reason_of_run(mark, bytes)
+}
+
+// The reason, of the mark's nibbles that are looked at.
+fn reason_of_run(mark: Located, bytes: &[u8]) -> Reason
+    ensures { λ r. ⌜ r ≡ reasonOfRun mark (now (bytes .entry)) ⌝ }
 {
     let mut nibbles = [0u8; 2 * MOST];
     let n = 2 * capture_bytes::unpack(bytes, &mut nibbles);
@@ -135,15 +150,15 @@ fn put_mark(number: u64, place: u64, out: &mut [u8]) -> usize
     put(b": ", out, at)
 }
 
-fn put_reason(cut: bool, code: u8, why: Reason, out: &mut [u8], at: usize) -> usize
-    ensures { λ r. ⌜ Puts (now (out .entry)) at (explainedWords cut code why) r (now (out .exit)) ⌝ }
+fn put_reason(cut: bool, refusal: u8, code: u8, why: Reason, out: &mut [u8], at: usize) -> usize
+    ensures { λ r. ⌜ Puts (now (out .entry)) at (explainedWords cut refusal code why) r (now (out .exit)) ⌝ }
 {
     match why {
         Reason::GoodLine => put_line(b"good ", code, out, at),
-        Reason::GoodGap => put_good_gap(cut, out, at),
+        Reason::GoodGap => put_good_gap(cut, refusal, out, at),
         Reason::DamagedCode(byte, sums) => put_damaged(byte, sums, out, at),
         Reason::ReservedCode => put_reserved(code, out, at),
-        Reason::UnfinishedLine => put_unfinished(cut, code, out, at),
+        Reason::UnfinishedLine => put_unfinished(cut, refusal, code, out, at),
         Reason::WrongLength(found, wanted) => {
             put_length(code, found as u64, wanted as u64, out, at)
         }
@@ -153,7 +168,7 @@ fn put_reason(cut: bool, code: u8, why: Reason, out: &mut [u8], at: usize) -> us
         Reason::EndWithoutLine => put(b"refused 8: end of line without a line before it", out, at),
         Reason::BadGap(place, _) => put_gap(place as u64, out, at),
         Reason::ShortGap(length) => put_short(length as u64, out, at),
-        Reason::Refused(number) => put_other(number as u64, out, at),
+        Reason::Refused(number) => put_refused(number, out, at),
     }
 }
 
@@ -188,17 +203,44 @@ fn put_kind_name(kind: Kind, out: &mut [u8], at: usize) -> usize
     }
 }
 
-fn put_good_gap(cut: bool, out: &mut [u8], at: usize) -> usize
-    ensures { λ r. ⌜ Puts (now (out .entry)) at (goodGapWords cut) r (now (out .exit)) ⌝ }
+fn put_good_gap(cut: bool, refusal: u8, out: &mut [u8], at: usize) -> usize
+    ensures { λ r. ⌜ Puts (now (out .entry)) at (goodGapWords cut refusal) r (now (out .exit)) ⌝ }
 {
     if cut {
-        return put(
-            b"end of line with a gap of more than 1000 bytes: a signal that was lost?",
-            out,
-            at,
-        );
+        return put_long_gap(refusal, out, at);
     }
     put(b"good end of line", out, at)
+}
+
+// An end of line whose gap is longer than what is looked at.
+fn put_long_gap(refusal: u8, out: &mut [u8], at: usize) -> usize
+    ensures { λ r. ⌜ Puts (now (out .entry)) at (longGapWords refusal) r (now (out .exit)) ⌝ }
+{
+    let at = put_answer(refusal, out, at);
+    put(
+        b"end of line with a gap of more than 1000 bytes: a signal that was lost?",
+        out,
+        at,
+    )
+}
+
+// The reader's answer, before what it answers.
+fn put_answer(refusal: u8, out: &mut [u8], at: usize) -> usize
+    ensures { λ r. ⌜ Puts (now (out .entry)) at (answerWords refusal) r (now (out .exit)) ⌝ }
+{
+    if refusal == 0 {
+        return put(b"good ", out, at);
+    }
+    let at = put_refused(refusal, out, at);
+    put(b": ", out, at)
+}
+
+// A refusal's number alone.
+fn put_refused(refusal: u8, out: &mut [u8], at: usize) -> usize
+    ensures { λ r. ⌜ Puts (now (out .entry)) at (refusedWords refusal) r (now (out .exit)) ⌝ }
+{
+    let at = put(b"refused ", out, at);
+    put_decimal(refusal as u64, out, at)
 }
 
 fn put_damaged(code: u8, sums: FailedSums, out: &mut [u8], at: usize) -> usize
@@ -237,19 +279,26 @@ fn put_reserved(code: u8, out: &mut [u8], at: usize) -> usize
 }
 
 // A line that the capture's end cuts off, or one longer than what is looked at.
-fn put_unfinished(cut: bool, code: u8, out: &mut [u8], at: usize) -> usize
-    ensures { λ r. ⌜ Puts (now (out .entry)) at (unfinishedWords cut code) r (now (out .exit)) ⌝ }
+fn put_unfinished(cut: bool, refusal: u8, code: u8, out: &mut [u8], at: usize) -> usize
+    ensures { λ r. ⌜ Puts (now (out .entry)) at (unfinishedWords cut refusal code) r (now (out .exit)) ⌝ }
 {
     if cut {
-        let at = put_line(b"refused: ", code, out, at);
-        return put(
-            b" of more than 1000 bytes: a signal that was lost?",
-            out,
-            at,
-        );
+        return put_long_line(refusal, code, out, at);
     }
     let at = put_line(b"refused 3: ", code, out, at);
     put(b", cut off by the end of the capture", out, at)
+}
+
+fn put_long_line(refusal: u8, code: u8, out: &mut [u8], at: usize) -> usize
+    ensures { λ r. ⌜ Puts (now (out .entry)) at (longLineWords refusal code) r (now (out .exit)) ⌝ }
+{
+    let at = put_refused(refusal, out, at);
+    let at = put_line(b": ", code, out, at);
+    put(
+        b" of more than 1000 bytes: a signal that was lost?",
+        out,
+        at,
+    )
 }
 
 fn put_length(code: u8, found: u64, wanted: u64, out: &mut [u8], at: usize) -> usize
@@ -309,13 +358,6 @@ fn put_short(length: u64, out: &mut [u8], at: usize) -> usize
     let at = put(b"refused 9: end of line, a gap of ", out, at);
     let at = put_decimal(length, out, at);
     put(b" nibbles, 4 at least are wanted", out, at)
-}
-
-fn put_other(number: u64, out: &mut [u8], at: usize) -> usize
-    ensures { λ r. ⌜ Puts (now (out .entry)) at (otherWords number) r (now (out .exit)) ⌝ }
-{
-    let at = put(b"refused ", out, at);
-    put_decimal(number, out, at)
 }
 
 // The bad place, in nibbles from the mark's first; 0 where there is none.

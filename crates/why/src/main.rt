@@ -294,6 +294,7 @@ fn seek_piece(seeker: Seeker, wanted: u64, piece: &[u8]) -> Seeker {
                 told = tell_in(
                     profile,
                     mark,
+                    answer,
                     current,
                     piece,
                     next / 2 + BEHIND,
@@ -356,7 +357,7 @@ fn finish(seeker: Seeker, wanted: u64) -> Seeker {
     let answer = fed.answer;
     let mut told = seeker.told;
     if is_wanted(current.number, wanted, answer) {
-        tell(profile, mark, current, &held, seeker.length);
+        tell(profile, mark, answer, current, &held, seeker.length);
         told = true;
     }
     if told {
@@ -398,6 +399,7 @@ fn is_last(told: bool, wanted: u64) -> bool {
 fn tell_in(
     profile: Profile,
     mark: Mark,
+    answer: Answer,
     current: Current,
     piece: &[u8],
     to: usize,
@@ -406,25 +408,44 @@ fn tell_in(
 ) -> bool {
     let mut all = held;
     let length = keep(piece, current.from, to, &mut all, n);
-    tell(profile, mark, current, &all, length)
+    tell(profile, mark, answer, current, &all, length)
 }
 
 // Tells a mark. Its bytes are the first n of those held.
-fn tell(profile: Profile, mark: Mark, current: Current, held: &[u8], n: usize) -> bool {
+fn tell(
+    profile: Profile,
+    mark: Mark,
+    answer: Answer,
+    current: Current,
+    held: &[u8],
+    n: usize,
+) -> bool {
     if held.len() < n {
         return false;
     }
     let before = kind_before(mark);
+    let refusal = refusal_in(answer);
     let located = Located {
         profile,
         before,
         number: current.number,
+        refusal,
         place: current.place,
         low: current.low,
     };
     let mut out = io::buffer();
     let used = reason_text::tell(located, &held[..n], &mut out);
     write_front(&out, used)
+}
+
+// The number that an answer refuses with, 0 for a good line or gap.
+fn refusal_in(answer: Answer) -> u8 {
+    match answer {
+        Answer::Nothing => 0,
+        Answer::Line(_) => 0,
+        Answer::Gap(_) => 0,
+        Answer::Refused(number) => number,
+    }
 }
 
 // Writes the first n bytes of a buffer.

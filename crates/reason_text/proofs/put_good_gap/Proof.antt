@@ -7,20 +7,19 @@ use Rattle.reason_text.proofs.put_good_gap.Tie as tie
 returns : tie.Need-returns
 unfolding goodGapWords
 returns c =
-    let first = c .before .before in
-    simp (c .before .before .before .before .before .if1 .taken) ((first .put .ensures))
+    let put = c .before .before in
+    simp (put .before .before .if1 .taken) (put .put-long-gap .ensures)
 
 returns-2 : tie.Need-returns-2
 unfolding goodGapWords
 returns-2 c =
-    let first = c .before .before in
-    simp (c .before .before .before .before .before .if1 .left) ((first .put2 .ensures))
+    let put = c .before .before in
+    simp (put .before .before .before .if1 .left) (put .put .ensures)
 
 pub put-good-gap-spec : {M : Type 1} → statement M
 put-good-gap-spec =
     tie.close
     (tie.spec
-    (λ c. search needs)
     (λ c κs. search needs)
     (λ c. search needs)
     returns

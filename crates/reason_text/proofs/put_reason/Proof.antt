@@ -80,7 +80,7 @@ returns-13 : tie.Need-returns-13
 unfolding explainedWords
 returns-13 c =
     let told = c .before .before .before .before .before in
-    simp (told .why8 .given .1) (c .before .before .put-other .ensures)
+    simp (told .why8 .given .1) (c .before .before .put-refused .ensures)
 
 pub put-reason-spec : {M : Type 1} → statement M
 put-reason-spec =
@@ -112,7 +112,6 @@ put-reason-spec =
     (λ c κs. search needs)
     (λ c. search needs)
     (λ c κs. search needs)
-    (λ c. search needs)
     (λ c. search needs)
     (λ c κs. search needs)
     (λ c. search needs)

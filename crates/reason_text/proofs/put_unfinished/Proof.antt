@@ -8,24 +8,20 @@ use Rattle.reason_text.proofs.put_unfinished.Tie as tie
 returns : tie.Need-returns
 unfolding unfinishedWords
 returns c =
-    let second = c .before .before in
-    let first = second .before .before .before .before .before in
-    simp (c .before .before .before .before .before .before .before .before .before .before .if1 .taken) (then (first .put-line .ensures) (second .put .ensures))
+    let put = c .before .before in
+    simp (put .before .before .if1 .taken) (put .put-long-line .ensures)
 
 returns-2 : tie.Need-returns-2
 unfolding unfinishedWords
 returns-2 c =
     let second = c .before .before in
     let first = second .before .before .before .before .before in
-    simp (c .before .before .before .before .before .before .before .before .before .before .if1 .left) (then (first .put-line2 .ensures) (second .put2 .ensures))
+    simp (first .before .before .before .if1 .left) (then (first .put-line .ensures) (second .put .ensures))
 
 pub put-unfinished-spec : {M : Type 1} → statement M
 put-unfinished-spec =
     tie.close
     (tie.spec
-    (λ c. search needs)
-    (λ c κs. search needs)
-    (λ c. search needs)
     (λ c κs. search needs)
     (λ c. search needs)
     returns

@@ -1,19 +1,19 @@
 -- The number, after its word.
 use Rattle.text.specs.PutLaws.{then}
-use Rattle.reason_text.specs.ReasonText.{otherWords}
+use Rattle.reason_text.specs.ReasonText.{refusedWords}
 use borrow.Author.Needs.{needs}
-use Rattle.reason_text.proofs.put_other.Statement.{statement}
-use Rattle.reason_text.proofs.put_other.Tie as tie
+use Rattle.reason_text.proofs.put_refused.Statement.{statement}
+use Rattle.reason_text.proofs.put_refused.Tie as tie
 
 returns : tie.Need-returns
-unfolding otherWords
+unfolding refusedWords
 returns c =
     let second = c .before .before in
     let first = second .before .before .before .before in
     then (first .put .ensures) (second .put-decimal .ensures)
 
-pub put-other-spec : {M : Type 1} → statement M
-put-other-spec =
+pub put-refused-spec : {M : Type 1} → statement M
+put-refused-spec =
     tie.close
     (tie.spec
     (λ c. search needs)
