@@ -45,29 +45,52 @@ fn table(file: usize) {
     libc::close(input.fd);
 }
 
+// Writes the whole table. Its first piece is read before the header is written: an input that can't be read is told, and nothing is listed.
 fn write_rows(fd: i32, name: &[u8]) {
+    let mut buf = io::large_buffer();
+    let got = libc::read(fd, &mut buf);
+    if got < 0 {
+        os::fail(name);
+        return;
+    }
+    let n = io::count(got, &buf);
+    if write_header() {
+        list_from(&buf[..n], fd, name);
+    }
+}
+
+fn write_header() -> bool {
     let mut out = io::buffer();
     let used = mean_rows::put_header(&mut out, 0);
     if out.len() < used {
+        return false;
+    }
+    write(&out[..used])
+}
+
+// Lists an input of which the first piece has been read.
+fn list_from(piece: &[u8], fd: i32, name: &[u8]) {
+    let lister = MeanLister::new();
+    let begun = list_piece(lister, false, piece);
+    let end = list_rest(begun, fd, name);
+    if end.failed {
         return;
     }
-    if write(&out[..used]) {
-        let end = list_all(fd, name);
-        if end.failed {
-            return;
-        }
-        let lister = end.lister;
-        let last = lister.finish(&mut out);
-        let used = last.used;
-        write(&out[..used]);
-        if end.rows {
-            return;
-        }
-        if used == 0 {
-            command::complain(
-                b"no visible line of a VV5300 was read: list vv5300 shows what came\n",
-            );
-        }
+    let lister = end.lister;
+    write_end(lister, end.rows);
+}
+
+// Writes the last row, and says so where no row has come.
+fn write_end(lister: MeanLister, rows: bool) {
+    let mut out = io::buffer();
+    let last = lister.finish(&mut out);
+    let used = last.used;
+    write(&out[..used]);
+    if rows {
+        return;
+    }
+    if used == 0 {
+        command::complain(b"no visible line of a VV5300 was read: list vv5300 shows what came\n");
     }
 }
 
@@ -79,15 +102,9 @@ struct Turn {
     failed: bool,
 }
 
-// Lists the input. Nothing says that an input ends, so the loop counts its turns down, from a number that no run uses up.
-fn list_all(fd: i32, name: &[u8]) -> Turn {
-    let lister = MeanLister::new();
-    let mut turn = Turn {
-        lister,
-        rows: false,
-        more: true,
-        failed: false,
-    };
+// Lists the rest of an input. Nothing says that an input ends, so the loop counts its turns down, from a number that no run uses up.
+fn list_rest(begun: Turn, fd: i32, name: &[u8]) -> Turn {
+    let mut turn = begun;
     let mut turns = u64::MAX;
     while turns > 0 {
         let l = turn.lister;
@@ -107,16 +124,13 @@ fn list_some(lister: MeanLister, rows: bool, fd: i32, name: &[u8]) -> Turn {
     let got = libc::read(fd, &mut buf);
     if got < 0 {
         os::fail(name);
-        return stopped(lister, rows, true);
-    }
-    if got == 0 {
-        return stopped(lister, rows, false);
+        return failed(lister, rows);
     }
     let n = io::count(got, &buf);
     list_piece(lister, rows, &buf[..n])
 }
 
-// Lists a piece, nibble after nibble, and writes its text as often as it fills the buffer.
+// Lists a piece, nibble after nibble, and writes its text as often as it fills the buffer. An empty piece is the input's end.
 fn list_piece(lister: MeanLister, before: bool, piece: &[u8]) -> Turn {
     let mut out = io::large_buffer();
     let mut l = lister;
@@ -131,27 +145,27 @@ fn list_piece(lister: MeanLister, before: bool, piece: &[u8]) -> Turn {
         }
         if write(&out[..used]) {
             if done.taken == 0 {
-                return stopped(l, rows, true);
+                return failed(l, rows);
             }
             at += done.taken;
         } else {
-            return stopped(l, rows, true);
+            return failed(l, rows);
         }
     }
     Turn {
         lister: l,
         rows,
-        more: true,
+        more: 0 < piece.len(),
         failed: false,
     }
 }
 
-fn stopped(lister: MeanLister, rows: bool, failed: bool) -> Turn {
+fn failed(lister: MeanLister, rows: bool) -> Turn {
     Turn {
         lister,
         rows,
         more: false,
-        failed,
+        failed: true,
     }
 }
 
