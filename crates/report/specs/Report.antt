@@ -102,8 +102,9 @@ byFirst p Unseen = []
 byFirst p InsideLine = otherSensor p
 byFirst p Other = otherSensor p
 
-unfoldable pub hintLine : Profile → ℕ → First → List ℕ
-hintLine p lines first = cond (ltb 0 lines) [] (byFirst p first)
+-- the hint comes only where something is out of order: else the capture is a short one
+unfoldable pub hintLine : Profile → Bool → ℕ → First → List ℕ
+hintLine p ordered lines first = cond ordered [] (cond (ltb 0 lines) [] (byFirst p first))
 
 -- no frame is complete: a capture in which nothing is out of order is too short
 abbrev pub noFrameLine : Bool → List ℕ
@@ -135,7 +136,8 @@ reportOf f lost v =
     ++ (refusedLines (f .signal .refused)
     ++ (repairedLines (f .signal .repaired)
     ++ (periodLines (f .signal .spacing)
-    ++ (lostLine lost ++ (hintLine (f .tally .profile) (f .signal .lines) (f .signal .first) ++ verdictLines v (inOrder f lost))))))
+    ++ (lostLine lost
+    ++ (hintLine (f .tally .profile) (inOrder f lost) (f .signal .lines) (f .signal .first) ++ verdictLines v (inOrder f lost))))))
 
 -- The room.
 

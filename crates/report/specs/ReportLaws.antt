@@ -108,9 +108,10 @@ sensor-short : (p : Profile) → length (otherSensor p) ≤ 70
 sensor-short VV5404 = omega arith
 sensor-short VV5300 = omega arith
 
-hint-short : (p : Profile) (lines : ℕ) (f : First) → length (hintLine p lines f) ≤ 70
+hint-short : (p : Profile) (ordered : Bool) (lines : ℕ) (f : First) → length (hintLine p ordered lines f) ≤ 70
 unfolding hintLine
-hint-short p lines f = either (ltb 0 lines) f
+hint-short p true lines f = omega arith
+hint-short p false lines f = either (ltb 0 lines) f
   where
     either : (b : Bool) (f : First) → length (cond b [] (byFirst p f)) ≤ 70
     either true f = omega arith
@@ -143,7 +144,7 @@ report-short f lost v =
       repaired-short (f .signal .repaired),
       periods-short (f .signal .spacing),
       lost-short lost,
-      hint-short (f .tally .profile) (f .signal .lines) (f .signal .first),
+      hint-short (f .tally .profile) (inOrder f lost) (f .signal .lines) (f .signal .first),
       advice-short v (inOrder f lost),
       verdict-short v,
     ))

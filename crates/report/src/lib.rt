@@ -34,8 +34,8 @@ pub fn put_report(findings: Findings, lost: bool, verdict: Verdict, out: &mut [u
     let at = put_lost(lost, out, at);
     let tally = findings.tally;
     let profile = tally.profile;
-    let at = put_hint(profile, signal, out, at);
     let ordered = findings.in_order(lost);
+    let at = put_hint(profile, ordered, signal, out, at);
     put_verdict(verdict, ordered, out, at)
 }
 
@@ -223,10 +223,13 @@ fn put_lost(lost: bool, out: &mut [u8], at: usize) -> usize
     at
 }
 
-// Where marks were read and no line: the capture may be the other sensor's.
-fn put_hint(profile: Profile, signal: Signal, out: &mut [u8], at: usize) -> usize
-    ensures { λ r. ⌜ Puts (now (out .entry)) at (hintLine profile (signal .lines) (signal .first)) r (now (out .exit)) ⌝ }
+// Where marks were read and no line, and something is out of order: the capture may be the other sensor's.
+fn put_hint(profile: Profile, ordered: bool, signal: Signal, out: &mut [u8], at: usize) -> usize
+    ensures { λ r. ⌜ Puts (now (out .entry)) at (hintLine profile ordered (signal .lines) (signal .first)) r (now (out .exit)) ⌝ }
 {
+    if ordered {
+        return at;
+    }
     if 0 < signal.lines {
         return at;
     }

@@ -107,7 +107,7 @@ report-ends f lost v =
     (ends-on (repairedLines (f .signal .repaired))
     (ends-on (periodLines (f .signal .spacing))
     (ends-on (lostLine lost)
-    (ends-on (hintLine (f .tally .profile) (f .signal .lines) (f .signal .first)) (adviceLine v (inOrder f lost), refl))))))
+    (ends-on (hintLine (f .tally .profile) (inOrder f lost) (f .signal .lines) (f .signal .first)) (adviceLine v (inOrder f lost), refl))))))
 
 end-ends : (l : Lister) → l .mode ≡ Frames → EndsIn (endText l) (verdictLine (listerVerdict l))
 unfolding belowOf

@@ -18,8 +18,8 @@ returns-2 : tie.Need-returns-2
 unfolding reportIfRoom reportOf
 returns-2 c =
     let end = c .before .before in
-    let hint = end .before .before .before .before .before in
-    let lost = hint .before .before .before .before .before in
+    let hint = end .before .before .before .before in
+    let lost = hint .before .before .before .before .before .before in
     let periods = lost .before .before .before .before in
     let repaired = periods .before .before .before .before .before in
     let refused = repaired .before .before .before .before in
@@ -27,7 +27,7 @@ returns-2 c =
     let room = frames .before .before .if1 .left in
     let args = frames .before .before .before .before .args in
     simp (le-ltb _ _ room)
-    (puts-front (then (frames .put-frames .ensures) (then (refused .put-refused .ensures) (then (repaired .put-repaired .ensures) (then (periods .put-periods .ensures) (then (lost .put-lost .ensures) (then (hint .put-hint .ensures) (simp (← end .before .before .in-order .ensures) (end .put-verdict .ensures))))))))
+    (puts-front (then (frames .put-frames .ensures) (then (refused .put-refused .ensures) (then (repaired .put-repaired .ensures) (then (periods .put-periods .ensures) (then (lost .put-lost .ensures) (simp (← hint .before .before .in-order .ensures) (then (hint .put-hint .ensures) (end .put-verdict .ensures))))))))
     (le-trans (report-short (args .findings) (args .lost) (args .verdict)) room))
 
 pub put-report-spec : {M : Type 1} → statement M
