@@ -20,20 +20,20 @@ use line_list::NO_LINE;
 use text::put;
 
 // What a difference is of: its first byte.
-const ONLY_FIRST: u8 = 1;
+pub const ONLY_FIRST: u8 = 1;
 
-const ONLY_SECOND: u8 = 2;
+pub const ONLY_SECOND: u8 = 2;
 
-const BOTH_KINDS: u8 = 3;
+pub const BOTH_KINDS: u8 = 3;
 
 const BOTH_BYTES: u8 = 4;
 
 // The bytes of a line given whole, of both kinds, and of both bytes at a place.
-const WHOLE_SIZE: usize = 360;
+pub const WHOLE_SIZE: usize = 360;
 
-const KINDS_SIZE: usize = 5;
+pub const KINDS_SIZE: usize = 5;
 
-const BYTES_SIZE: usize = 7;
+pub const BYTES_SIZE: usize = 7;
 
 // How far a list is passed, by the number that it starts with and the one that the other does.
 pub fn how_far(own: usize, other: usize) -> usize

@@ -1,0 +1,16 @@
+-- The greater of two.
+use borrow.Author.Tests.{lt-ltb, le-ltb}
+use Rattle.diff_summary.specs.Summary.{greater}
+use Rattle.diff_summary.proofs.greater.Statement.{statement}
+use Rattle.diff_summary.proofs.greater.Tie as tie
+
+returns : tie.Need-returns
+unfolding greater
+returns c = simp (lt-ltb _ _ (c .if1 .taken))
+
+returns-2 : tie.Need-returns-2
+unfolding greater
+returns-2 c = simp (le-ltb _ _ (c .if1 .left))
+
+pub greater-spec : {M : Type 1} → statement M
+greater-spec = tie.close (tie.spec returns returns-2)

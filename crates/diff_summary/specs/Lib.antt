@@ -1,0 +1,5 @@
+pub mod Front
+pub mod FrontLaws
+pub mod Summary
+pub mod SummaryLaws
+pub mod Words

@@ -1,0 +1,43 @@
+-- The words of differences and of their summary.
+use mathlib.Core.Bool.{cond}
+use mathlib.Core.List.{List, [], _++_}
+use Prim.Native.Nat.{ℕ}
+use lib.Dec.{eqb}
+use Rattle.text.specs.Text.{ascii, decimal}
+use Rattle.diff_summary.specs.declared.Change.{Change}
+use Rattle.diff_summary.specs.declared.Change.the-variants.{First, Second, Kinds, Bytes}
+use Rattle.diff_summary.specs.declared.Summary.{Summary}
+
+-- Rows.
+
+unfoldable pub lineWord : ℕ → List ℕ
+lineWord n = ascii "line " ++ decimal n
+
+unfoldable pub pairWords : ℕ → ℕ → List ℕ
+pairWords x y = ascii ": " ++ (decimal x ++ (ascii ", then " ++ (decimal y ++ ascii "\n")))
+
+-- the row of a difference
+unfoldable pub changeRow : Change → List ℕ
+changeRow (First n) = lineWord n ++ ascii " only in the first capture\n"
+changeRow (Second n) = lineWord n ++ ascii " only in the second capture\n"
+changeRow (Kinds n k m) = lineWord n ++ (ascii " kind" ++ pairWords k m)
+changeRow (Bytes n p x y) = lineWord n ++ (ascii " pixel " ++ (decimal p ++ pairWords x y))
+
+-- The summary.
+
+unfoldable pub countText : List ℕ → ℕ → List ℕ
+countText words n = words ++ (decimal n ++ ascii "\n")
+
+-- where the pixels are, and by how much they differ, where there are any
+unfoldable pub placesText : Summary → List ℕ
+placesText s =
+    cond (eqb (s .pixels) 0) []
+    (countText (ascii "lines they are in: ") (s .lines)
+    ++ (countText (ascii "first of these lines: ") (s .least)
+    ++ (countText (ascii "last of these lines: ") (s .last) ++ countText (ascii "greatest difference: ") (s .most))))
+
+unfoldable pub summaryText : Summary → List ℕ
+summaryText s =
+    countText (ascii "lines only in the first capture: ") (s .first)
+    ++ (countText (ascii "lines only in the second capture: ") (s .second)
+    ++ (countText (ascii "lines of two kinds: ") (s .kinds) ++ (countText (ascii "pixels that differ: ") (s .pixels) ++ placesText s)))
