@@ -34,14 +34,14 @@ abbrev pub point : ℕ
 point = 0x2E
 
 -- a sum divided by 64: the whole part, and the fraction in six digits, which are all that it has (`text-exact`, in the laws)
-abbrev pub whole : ℕ → List ℕ
-whole sum = decimal (sum / halfLength)
+abbrev pub wholePart : ℕ → List ℕ
+wholePart sum = decimal (sum / halfLength)
 
 abbrev pub fraction : ℕ → List ℕ
 fraction sum = places 6 (sum % halfLength * millionths)
 
 unfoldable pub meanText : ℕ → List ℕ
-meanText sum = whole sum ++ (point ∷ fraction sum)
+meanText sum = wholePart sum ++ (point ∷ fraction sum)
 
 -- Rows.
 
@@ -65,11 +65,11 @@ unfoldable pub givenRow : ℕ → ℕ → ℕ → Sums → List ℕ
 givenRow number a b s = startWords number a b ++ (meansWords s ++ differencesWords a b s)
 
 -- the words of a gap's refusal
-unfoldable pub reason : ℕ → List ℕ
-reason n = cond (eqb n badGap) (ascii ", bad gap") []
+unfoldable pub gapRefusalWords : ℕ → List ℕ
+gapRefusalWords n = cond (eqb n badGap) (ascii ", bad gap") []
 
 unfoldable pub refusedRow : ℕ → ℕ → List ℕ
-refusedRow number n = decimal number ++ (ascii " refused: " ++ (decimal n ++ (reason n ++ (newline ∷ []))))
+refusedRow number n = decimal number ++ (ascii " refused: " ++ (decimal n ++ (gapRefusalWords n ++ (newline ∷ []))))
 
 -- the row of a visible line, with the sensor's means and what is said of its halves
 unfoldable pub meansRow : ℕ → ℕ → ℕ → Halves → List ℕ

@@ -20,7 +20,7 @@ use Rattle.half_means.specs.declared.Halves.{Halves}
 use Rattle.half_means.specs.declared.Halves.the-variants.{Given, Refused}
 use Rattle.half_means.specs.HalfMeans.{halfLength, firstSum, secondSum, difference, halvesOf}
 use Rattle.half_means.specs.HalfMeansLaws.{given-exact}
-use Rattle.mean_rows.specs.MeanRows.{places, minusSign, signed, millionths, point, whole, fraction, meanText, startWords, meansWords, differencesWords, givenRow, reason, refusedRow, meansRow, meansRoom}
+use Rattle.mean_rows.specs.MeanRows.{places, minusSign, signed, millionths, point, wholePart, fraction, meanText, startWords, meansWords, differencesWords, givenRow, gapRefusalWords, refusedRow, meansRow, meansRoom}
 
 -- Lengths.
 
@@ -37,8 +37,8 @@ signed-short : (z : ℤ) → length (signed z) ≤ 21
 signed-short (pos n) = omega (arith, decimal-short n)
 signed-short (negsuc n) = omega (arith, decimal-short (suc n))
 
-reason-short : (n : ℕ) → length (reason n) ≤ 9
-unfolding reason
+reason-short : (n : ℕ) → length (gapRefusalWords n) ≤ 9
+unfolding gapRefusalWords
 reason-short n = either (eqb n badGap)
   where
     either : (b : Bool) → length (cond b (ascii ", bad gap") []) ≤ 9
@@ -118,10 +118,10 @@ read-digits (suc k) n h = by (ltb n 10) refl (read-digits k (n / 10) (omega arit
 -- The text of a mean.
 
 -- its digits, on both sides of the point, make 15,625 times the sum
-mean-digits : (s : ℕ) → s < 2 ^ 16 → read 0 (whole s ++ fraction s) ≡ s * millionths
+mean-digits : (s : ℕ) → s < 2 ^ 16 → read 0 (wholePart s ++ fraction s) ≡ s * millionths
 unfolding decimal
 mean-digits s h =
-    read-append (whole s) (fraction s) 0
+    read-append (wholePart s) (fraction s) 0
     ∙ ap (λ (n : ℕ). read n (fraction s)) (read-digits 20 (s / halfLength) (omega arith))
     ∙ read-places 6 (s % halfLength * millionths) (s / halfLength) (omega arith)
     ∙ (let z : scaled 6 (s / halfLength) + s % halfLength * millionths ≡ s * millionths = omega arith in z)
@@ -136,7 +136,7 @@ in-millionths (fin t m e) n v = (
 )
 
 -- the digits of the text, six of them after the point, are exactly the value of a mean
-text-exact : (x : Float) (s : ℕ) → s < 2 ^ 16 → HasValue x false s halfLength → HasValue x false (read 0 (whole s ++ fraction s)) 1000000
+text-exact : (x : Float) (s : ℕ) → s < 2 ^ 16 → HasValue x false s halfLength → HasValue x false (read 0 (wholePart s ++ fraction s)) 1000000
 text-exact x s h v = subst (λ (n : ℕ). HasValue x false n 1000000) (sym (mean-digits s h)) (in-millionths x s v)
 
 -- The row.
@@ -147,8 +147,8 @@ pub record Tells (row : List ℕ) (number a b : ℕ) (m : Means) (d e : ℤ) : T
   pub second : ℕ
   pub row-is : row ≡ startWords number a b
       ++ ((meanText first ++ (space ∷ (meanText second ++ (space ∷ [])))) ++ (signed d ++ (space ∷ (signed e ++ (newline ∷ [])))))
-  pub first-text : HasValue (m .first) false (read 0 (whole first ++ fraction first)) 1000000
-  pub second-text : HasValue (m .second) false (read 0 (whole second ++ fraction second)) 1000000
+  pub first-text : HasValue (m .first) false (read 0 (wholePart first ++ fraction first)) 1000000
+  pub second-text : HasValue (m .second) false (read 0 (wholePart second ++ fraction second)) 1000000
 
 -- whatever is given of a line, its row tells
 pub row-tells : (number profile kind : ℕ) (body : List ℕ) (a b : ℕ) (m : Means) (s : Sums) (d e : ℤ)

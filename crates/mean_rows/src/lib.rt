@@ -6,7 +6,7 @@
 // the rest of the row is left out. Cost: linear in the row.
 ghost use Rattle.text.specs.Put.{Puts};
 ghost use Rattle.half_means.specs.HalfMeans.{difference};
-ghost use Rattle.mean_rows.specs.MeanRows.{places, signed, meansHeader, meanText, startWords, meansWords, differencesWords, givenRow, reason, refusedRow, meansRow};
+ghost use Rattle.mean_rows.specs.MeanRows.{places, signed, meansHeader, meanText, startWords, meansWords, differencesWords, givenRow, gapRefusalWords, refusedRow, meansRow};
 use half_means::Halves;
 use half_means::Sums;
 use text::put;
@@ -143,7 +143,7 @@ fn put_refused(number: u16, refusal: u8, out: &mut [u8], at: usize) -> usize
 
 // The words of a gap's refusal.
 fn put_reason(refusal: u8, out: &mut [u8], at: usize) -> usize
-    ensures { λ r. ⌜ Puts (now (out .entry)) at (reason refusal) r (now (out .exit)) ⌝ }
+    ensures { λ r. ⌜ Puts (now (out .entry)) at (gapRefusalWords refusal) r (now (out .exit)) ⌝ }
 {
     if refusal == refusal::BAD_GAP {
         return put(b", bad gap", out, at);

@@ -11,7 +11,6 @@ use lib.ListN.{length, drop, getD}
 use lib.Seq.{getD-drop}
 use borrow.Author.Tests.{eqb-true}
 use Rattle.stream.specs.Stream.{strip}
-use Rattle.reason.specs.declared.Next.{Next}
 use Rattle.reason.specs.declared.Next.the-variants.{Finish}
 use Rattle.reason.specs.Explanation.{opener, codeAfter, codeAt, isCode, beginsMark, pairAt, bytesIn}
 

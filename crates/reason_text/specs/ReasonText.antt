@@ -67,8 +67,8 @@ unfoldable pub markWords : ℕ → ℕ → List ℕ
 markWords number place = ascii "mark " ++ (decimal number ++ (ascii ", byte " ++ (decimal place ++ ascii ": ")))
 
 -- words, and what a mark with this code begins: `refused 4: visible line (VL)`
-unfoldable pub withLine : List ℕ → ℕ → List ℕ
-withLine words code = words ++ lineName (kindOf (readingOf code))
+unfoldable pub withLineName : List ℕ → ℕ → List ℕ
+withLineName words code = words ++ lineName (kindOf (readingOf code))
 
 unfoldable pub sumWord : Bool → List ℕ → List ℕ
 sumWord fails name = cond fails name []
@@ -84,30 +84,30 @@ unfoldable pub reservedWords : ℕ → List ℕ
 reservedWords code = ascii "refused 2: reserved code " ++ hexByte code
 
 -- a refusal's number alone: `refused 4`
-unfoldable pub refusedWords : ℕ → List ℕ
-refusedWords refusal = ascii "refused " ++ decimal refusal
+unfoldable pub refusedNumber : ℕ → List ℕ
+refusedNumber refusal = ascii "refused " ++ decimal refusal
 
 -- a line that goes on beyond what is looked at: the number is the reader's
 unfoldable pub longLineWords : ℕ → ℕ → List ℕ
-longLineWords refusal code = refusedWords refusal ++ (withLine (ascii ": ") code ++ ascii " of more than 1000 bytes: a signal that was lost?")
+longLineWords refusal code = refusedNumber refusal ++ (withLineName (ascii ": ") code ++ ascii " of more than 1000 bytes: a signal that was lost?")
 
 unfoldable pub unfinishedWords : Bool → ℕ → ℕ → List ℕ
 unfinishedWords cut refusal code =
-    cond cut (longLineWords refusal code) (withLine (ascii "refused 3: ") code ++ ascii ", cut off by the end of the capture")
+    cond cut (longLineWords refusal code) (withLineName (ascii "refused 3: ") code ++ ascii ", cut off by the end of the capture")
 
 unfoldable pub lengthWords : ℕ → ℕ → ℕ → List ℕ
 lengthWords code found wanted =
-    withLine (ascii "refused 4: ") code
+    withLineName (ascii "refused 4: ") code
     ++ (ascii " of " ++ (decimal found ++ (ascii " nibbles, not " ++ (decimal wanted ++ ascii ": a clip that slipped?"))))
 
 unfoldable pub numberWords : ℕ → ℕ → ℕ → List ℕ
-numberWords code place byte = withLine (ascii "refused 5: ") code ++ (ascii ", byte " ++ (decimal place ++ (ascii " of its number is " ++ hexByte byte)))
+numberWords code place byte = withLineName (ascii "refused 5: ") code ++ (ascii ", byte " ++ (decimal place ++ (ascii " of its number is " ++ hexByte byte)))
 
 unfoldable pub bodyWords : ℕ → ℕ → ℕ → List ℕ
-bodyWords code place byte = withLine (ascii "refused 6: ") code ++ (ascii ", byte " ++ (decimal place ++ (ascii " of its body is " ++ hexByte byte)))
+bodyWords code place byte = withLineName (ascii "refused 6: ") code ++ (ascii ", byte " ++ (decimal place ++ (ascii " of its body is " ++ hexByte byte)))
 
 unfoldable pub endWords : ℕ → ℕ → List ℕ
-endWords code next = withLine (ascii "refused 7: ") code ++ (ascii ", not ended: the next mark has the code " ++ hexByte next)
+endWords code next = withLineName (ascii "refused 7: ") code ++ (ascii ", not ended: the next mark has the code " ++ hexByte next)
 
 unfoldable pub badGapWords : ℕ → List ℕ
 badGapWords place = ascii "refused 9: end of line, a bad gap from its nibble " ++ (decimal place ++ ascii " on")
@@ -117,7 +117,7 @@ shortWords length = ascii "refused 9: end of line, a gap of " ++ (decimal length
 
 -- the reader's answer, before what it answers: `good `, or `refused 9: `
 unfoldable pub answerWords : ℕ → List ℕ
-answerWords refusal = cond (eqb refusal 0) (ascii "good ") (refusedWords refusal ++ ascii ": ")
+answerWords refusal = cond (eqb refusal 0) (ascii "good ") (refusedNumber refusal ++ ascii ": ")
 
 -- an end of line whose gap goes on beyond what is looked at: the number is the reader's
 unfoldable pub longGapWords : ℕ → List ℕ
@@ -128,7 +128,7 @@ goodGapWords cut refusal = cond cut (longGapWords refusal) (ascii "good end of l
 
 -- each reason; where the mark goes on beyond what is looked at, a line and a gap that are good so far have the reader's number
 unfoldable pub explainedWords : Bool → ℕ → ℕ → Reason → List ℕ
-explainedWords cut refusal code GoodLine = withLine (ascii "good ") code
+explainedWords cut refusal code GoodLine = withLineName (ascii "good ") code
 explainedWords cut refusal code GoodGap = goodGapWords cut refusal
 explainedWords cut refusal code (DamagedCode byte sums) = damagedWords byte sums
 explainedWords cut refusal code ReservedCode = reservedWords code
@@ -140,7 +140,7 @@ explainedWords cut refusal code (NoEndOfLine next) = endWords code next
 explainedWords cut refusal code EndWithoutLine = ascii "refused 8: end of line without a line before it"
 explainedWords cut refusal code (BadGap place nibble) = badGapWords place
 explainedWords cut refusal code (ShortGap length) = shortWords length
-explainedWords cut refusal code (Refused number) = refusedWords number
+explainedWords cut refusal code (Refused number) = refusedNumber number
 
 -- Bytes around the bad place.
 

@@ -24,7 +24,7 @@ use Rattle.reason.specs.declared.FailedSums.{FailedSums}
 use Rattle.reason.specs.declared.Reason.{Reason}
 use Rattle.reason.specs.declared.Reason.the-variants.{GoodLine, GoodGap, DamagedCode, ReservedCode, UnfinishedLine, WrongLength, BadNumber, BadBody, NoEndOfLine, EndWithoutLine, BadGap, ShortGap, Refused}
 use Rattle.reason_text.specs.declared.Located.{Located}
-use Rattle.reason_text.specs.ReasonText.{mostBytes, nibblesBefore, runIn, reasonIn, codeIn, isBeyond, kindName, lineName, markWords, withLine, sumWord, sumWords, damagedWords, reservedWords, unfinishedWords, lengthWords, numberWords, bodyWords, endWords, badGapWords, shortWords, longLineWords, answerWords, longGapWords, goodGapWords, refusedWords, explainedWords, badPlace, spaced, hexes, part, shownBeside, around, aroundWords, markLine, lineRoom}
+use Rattle.reason_text.specs.ReasonText.{mostBytes, nibblesBefore, runIn, reasonIn, codeIn, isBeyond, kindName, lineName, markWords, withLineName, sumWord, sumWords, damagedWords, reservedWords, unfinishedWords, lengthWords, numberWords, bodyWords, endWords, badGapWords, shortWords, longLineWords, answerWords, longGapWords, goodGapWords, refusedNumber, explainedWords, badPlace, spaced, hexes, part, shownBeside, around, aroundWords, markLine, lineRoom}
 
 kind-short : (k : Kind) → length (kindName k) ≤ 20
 kind-short BL = omega arith
@@ -37,8 +37,8 @@ name-short : (k : LineKind) → length (lineName k) ≤ 20
 name-short NotLine = omega arith
 name-short (LineOf k) = kind-short k
 
-line-short : (words : List ℕ) (code : ℕ) → length (withLine words code) ≤ length words + 20
-unfolding withLine
+line-short : (words : List ℕ) (code : ℕ) → length (withLineName words code) ≤ length words + 20
+unfolding withLineName
 line-short words code = simp length-append (omega (arith, name-short (kindOf (readingOf code))))
 
 either-short : (b : Bool) (v w : List ℕ) (n : ℕ) → length v ≤ n → length w ≤ n → length (cond b v w) ≤ n
@@ -57,11 +57,11 @@ sums-short s =
     (omega (arith, sum-short (s .p0) (ascii " P0"), sum-short (s .p1) (ascii " P1"), sum-short (s .p2) (ascii " P2"), sum-short (s .p3) (ascii " P3")))
 
 long-line-short : (refusal code : ℕ) → length (longLineWords refusal code) ≤ 120
-unfolding longLineWords refusedWords
+unfolding longLineWords refusedNumber
 long-line-short refusal code = simp length-append (omega (arith, decimal-short refusal, line-short (ascii ": ") code))
 
 answer-short : (refusal : ℕ) → length (answerWords refusal) ≤ 40
-unfolding answerWords refusedWords
+unfolding answerWords refusedNumber
 answer-short refusal = either-short (eqb refusal 0) _ _ 40 (omega arith) (simp length-append (omega (arith, decimal-short refusal)))
 
 long-gap-short : (refusal : ℕ) → length (longGapWords refusal) ≤ 120
@@ -69,7 +69,7 @@ unfolding longGapWords
 long-gap-short refusal = simp length-append (omega (arith, answer-short refusal))
 
 reason-short : (cut : Bool) (refusal code : ℕ) (r : Reason) → length (explainedWords cut refusal code r) ≤ 120
-unfolding explainedWords goodGapWords damagedWords reservedWords unfinishedWords lengthWords numberWords bodyWords endWords badGapWords shortWords refusedWords
+unfolding explainedWords goodGapWords damagedWords reservedWords unfinishedWords lengthWords numberWords bodyWords endWords badGapWords shortWords refusedNumber
 reason-short cut refusal code GoodLine = omega (arith, line-short (ascii "good ") code)
 reason-short cut refusal code GoodGap = either-short cut _ _ 120 (long-gap-short refusal) (omega arith)
 reason-short cut refusal code (DamagedCode byte sums) = simp length-append (omega (arith, sums-short sums))

@@ -9,7 +9,7 @@ ghost use Prim.Native.Nat.{_≤_, _<_, min};
 ghost use lib.ListN.{length, getD};
 ghost use Rattle.profile.specs.Profile.{profileNumber};
 ghost use Rattle.text.specs.Put.{Puts, AtFront};
-ghost use Rattle.reason_text.specs.ReasonText.{nibblesBefore, reasonOfRun, reasonIn, codeIn, kindName, lineName, markWords, withLine, sumWord, sumWords, damagedWords, reservedWords, unfinishedWords, lengthWords, numberWords, bodyWords, endWords, badGapWords, shortWords, longLineWords, answerWords, longGapWords, goodGapWords, refusedWords, explainedWords, badPlace, spaced, hexes, around, aroundWords, markLine, lineIfRoom};
+ghost use Rattle.reason_text.specs.ReasonText.{nibblesBefore, reasonOfRun, reasonIn, codeIn, kindName, lineName, markWords, withLineName, sumWord, sumWords, damagedWords, reservedWords, unfinishedWords, lengthWords, numberWords, bodyWords, endWords, badGapWords, shortWords, longLineWords, answerWords, longGapWords, goodGapWords, refusedNumber, explainedWords, badPlace, spaced, hexes, around, aroundWords, markLine, lineIfRoom};
 use line_code::Kind;
 use line_code::LineKind;
 use profile::Profile;
@@ -174,7 +174,7 @@ fn put_reason(cut: bool, refusal: u8, code: u8, why: Reason, out: &mut [u8], at:
 
 // Words, and what a mark with this code begins.
 fn put_line(words: &[u8], code: u8, out: &mut [u8], at: usize) -> usize
-    ensures { λ r. ⌜ Puts (now (out .entry)) at (withLine (now (words .entry)) code) r (now (out .exit)) ⌝ }
+    ensures { λ r. ⌜ Puts (now (out .entry)) at (withLineName (now (words .entry)) code) r (now (out .exit)) ⌝ }
 {
     let at = put(words, out, at);
     let reading = line_code::read(code);
@@ -237,7 +237,7 @@ fn put_answer(refusal: u8, out: &mut [u8], at: usize) -> usize
 
 // A refusal's number alone.
 fn put_refused(refusal: u8, out: &mut [u8], at: usize) -> usize
-    ensures { λ r. ⌜ Puts (now (out .entry)) at (refusedWords refusal) r (now (out .exit)) ⌝ }
+    ensures { λ r. ⌜ Puts (now (out .entry)) at (refusedNumber refusal) r (now (out .exit)) ⌝ }
 {
     let at = put(b"refused ", out, at);
     put_decimal(refusal as u64, out, at)

@@ -1,12 +1,12 @@
 -- The words, and the name of the line that the code reads as.
 use Rattle.text.specs.PutLaws.{then}
-use Rattle.reason_text.specs.ReasonText.{withLine}
+use Rattle.reason_text.specs.ReasonText.{withLineName}
 use borrow.Author.Needs.{needs}
 use Rattle.reason_text.proofs.put_line.Statement.{statement}
 use Rattle.reason_text.proofs.put_line.Tie as tie
 
 returns : tie.Need-returns
-unfolding withLine
+unfolding withLineName
 returns c =
     let second = c .before .before in
     let first = second .before .before .before .before .before .before in

@@ -1,12 +1,12 @@
 -- The number, after its word.
 use Rattle.text.specs.PutLaws.{then}
-use Rattle.reason_text.specs.ReasonText.{refusedWords}
+use Rattle.reason_text.specs.ReasonText.{refusedNumber}
 use borrow.Author.Needs.{needs}
 use Rattle.reason_text.proofs.put_refused.Statement.{statement}
 use Rattle.reason_text.proofs.put_refused.Tie as tie
 
 returns : tie.Need-returns
-unfolding refusedWords
+unfolding refusedNumber
 returns c =
     let second = c .before .before in
     let first = second .before .before .before .before in
