@@ -113,6 +113,30 @@ wrongData = 27
 abbrev pub pastLastRegister : ℕ
 pastLastRegister = 28
 
+-- a setting: gain code, divisor or frame rate
+abbrev pub badSetting : ℕ
+badSetting = 29
+
+-- saved settings: the version is not held
+abbrev pub versionNotHeld : ℕ
+versionNotHeld = 30
+
+-- saved settings: no version number is left
+abbrev pub noVersionLeft : ℕ
+noVersionLeft = 31
+
+-- a table of readers: the technician is not 1 or 2
+abbrev pub noSuchTechnician : ℕ
+noSuchTechnician = 32
+
+-- a table of readers: all eight places are taken
+abbrev pub noPlaceFree : ℕ
+noPlaceFree = 33
+
+-- a table of readers: no such place, or a free one, or another's
+abbrev pub placeNotHeld : ℕ
+placeNotHeld = 34
+
 -- two lists of lines: the numbers of one don't rise strictly
 abbrev pub numbersNotRising : ℕ
 numbersNotRising = 35
@@ -120,3 +144,7 @@ numbersNotRising = 35
 -- a run that is to be explained doesn't begin with a mark
 abbrev pub noMarkFirst : ℕ
 noMarkFirst = 36
+
+-- saved settings: the list is not eight long, or not ordered
+abbrev pub notSavedSettings : ℕ
+notSavedSettings = 37

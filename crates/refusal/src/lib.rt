@@ -62,8 +62,25 @@ pub const WRONG_DATA: u8 = 27;
 
 pub const PAST_LAST_REGISTER: u8 = 28;
 
+// Saved settings.
+pub const BAD_SETTING: u8 = 29;
+
+pub const VERSION_NOT_HELD: u8 = 30;
+
+pub const NO_VERSION_LEFT: u8 = 31;
+
+// A table of readers.
+pub const NO_SUCH_TECHNICIAN: u8 = 32;
+
+pub const NO_PLACE_FREE: u8 = 33;
+
+pub const PLACE_NOT_HELD: u8 = 34;
+
 // Two lists compared.
 pub const NUMBERS_NOT_RISING: u8 = 35;
 
 // A run that is to be explained, and does not begin with a mark.
 pub const NO_MARK_FIRST: u8 = 36;
+
+// A list of saved settings that is none.
+pub const NOT_SAVED_SETTINGS: u8 = 37;
