@@ -14,10 +14,16 @@ abbrev pub pastBlanks : List ℕ → List ℕ
 pastBlanks [] = []
 pastBlanks (c ∷ line) = cond (isBlank c) (pastBlanks line) (c ∷ line)
 
-unfoldable pub startsWith : List ℕ → List ℕ → Bool
-startsWith [] line = true
-startsWith (w ∷ word) [] = false
-startsWith (w ∷ word) (c ∷ line) = eqb c w && startsWith word line
+-- where a word ends: the line does too, or a blank stands there
+abbrev pub endsWord : List ℕ → Bool
+endsWord [] = true
+endsWord (c ∷ line) = isBlank c
+
+-- whether a line's first word is this one
+unfoldable pub firstWordIs : List ℕ → List ℕ → Bool
+firstWordIs [] line = endsWord line
+firstWordIs (w ∷ word) [] = false
+firstWordIs (w ∷ word) (c ∷ line) = eqb c w && firstWordIs word line
 
 -- what stands for a number that is missing, or above 65,535
 abbrev pub noNumber : ℕ

@@ -10,7 +10,7 @@ use Rattle.profile.specs.declared.Profile.the-variants.{VV5404, VV5300}
 use Rattle.two_wire.specs.RegisterNames.{setup0, setup1, setup2, setup3, setup4, setup5, fineHigh, fineLow, coarseHigh, coarseLow, gain, clockDivisor}
 use Rattle.setting.specs.declared.Setting.{Setting}
 use Rattle.setting.specs.declared.Setting.the-variants.{Single, Double, Beyond, NoGain, Unknown}
-use Rattle.setting.specs.Number.{startsWith, valueIn}
+use Rattle.setting.specs.Number.{firstWordIs, valueIn}
 
 -- ---- limits
 
@@ -62,25 +62,25 @@ two line at high low limit = double at high low limit (valueIn (drop at line))
 
 unfoldable pub sharedSetting : List ℕ → Setting
 sharedSetting line =
-    cond (startsWith (ascii "divisor") line) (one line 7 clockDivisor divisorLimit)
-    (cond (startsWith (ascii "setup0") line) (one line 6 setup0 byteLimit)
-    (cond (startsWith (ascii "setup1") line) (one line 6 setup1 byteLimit)
-    (cond (startsWith (ascii "setup2") line) (one line 6 setup2 byteLimit)
-    (cond (startsWith (ascii "setup4") line) (one line 6 setup4 byteLimit) Unknown))))
+    cond (firstWordIs (ascii "divisor") line) (one line 7 clockDivisor divisorLimit)
+    (cond (firstWordIs (ascii "setup0") line) (one line 6 setup0 byteLimit)
+    (cond (firstWordIs (ascii "setup1") line) (one line 6 setup1 byteLimit)
+    (cond (firstWordIs (ascii "setup2") line) (one line 6 setup2 byteLimit)
+    (cond (firstWordIs (ascii "setup4") line) (one line 6 setup4 byteLimit) Unknown))))
 
 unfoldable pub settingVV5404 : List ℕ → Setting
 settingVV5404 line =
-    cond (startsWith (ascii "fine") line) (two line 4 fineHigh fineLow fineLimit)
-    (cond (startsWith (ascii "coarse") line) (two line 6 coarseHigh coarseLow coarseLimit)
-    (cond (startsWith (ascii "gain") line) (gainCode (valueIn (drop 4 line)))
-    (cond (startsWith (ascii "setup5") line) (one line 6 setup5 byteLimit) (sharedSetting line))))
+    cond (firstWordIs (ascii "fine") line) (two line 4 fineHigh fineLow fineLimit)
+    (cond (firstWordIs (ascii "coarse") line) (two line 6 coarseHigh coarseLow coarseLimit)
+    (cond (firstWordIs (ascii "gain") line) (gainCode (valueIn (drop 4 line)))
+    (cond (firstWordIs (ascii "setup5") line) (one line 6 setup5 byteLimit) (sharedSetting line))))
 
 unfoldable pub settingVV5300 : List ℕ → Setting
 settingVV5300 line =
-    cond (startsWith (ascii "fine") line) (one line 4 fineLow fineLimitVV5300)
-    (cond (startsWith (ascii "coarse") line) (one line 6 coarseLow coarseLimitVV5300)
-    (cond (startsWith (ascii "gain") line) (one line 4 gain gainLimitVV5300)
-    (cond (startsWith (ascii "setup3") line) (one line 6 setup3 byteLimit) (sharedSetting line))))
+    cond (firstWordIs (ascii "fine") line) (one line 4 fineLow fineLimitVV5300)
+    (cond (firstWordIs (ascii "coarse") line) (one line 6 coarseLow coarseLimitVV5300)
+    (cond (firstWordIs (ascii "gain") line) (one line 4 gain gainLimitVV5300)
+    (cond (firstWordIs (ascii "setup3") line) (one line 6 setup3 byteLimit) (sharedSetting line))))
 
 abbrev pub settingOf : Profile → List ℕ → Setting
 settingOf VV5404 line = settingVV5404 line

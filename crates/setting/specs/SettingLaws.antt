@@ -8,7 +8,7 @@ use Rattle.profile.specs.declared.Profile.{Profile}
 use Rattle.profile.specs.declared.Profile.the-variants.{VV5404, VV5300}
 use Rattle.setting.specs.declared.Setting.{Setting}
 use Rattle.setting.specs.declared.Setting.the-variants.{Single, Double, Beyond, NoGain, Unknown}
-use Rattle.setting.specs.Number.{startsWith}
+use Rattle.setting.specs.Number.{firstWordIs}
 use Rattle.setting.specs.Setting.{single, double, gainCode, sharedSetting, settingVV5404, settingVV5300, settingOf}
 
 -- the length of that name
@@ -39,21 +39,21 @@ gain-name n =
 shared-name : (line : List ℕ) → nameLength (sharedSetting line) ≤ 8
 unfolding sharedSetting
 shared-name line =
-    either (startsWith _ line) _ _ (single-name 7 _ _ _ (omega arith))
-    (either (startsWith _ line) _ _ (single-name 6 _ _ _ (omega arith))
-    (either (startsWith _ line) _ _ (single-name 6 _ _ _ (omega arith))
-    (either (startsWith _ line) _ _ (single-name 6 _ _ _ (omega arith))
-    (either (startsWith _ line) _ _ (single-name 6 _ _ _ (omega arith)) (omega arith)))))
+    either (firstWordIs _ line) _ _ (single-name 7 _ _ _ (omega arith))
+    (either (firstWordIs _ line) _ _ (single-name 6 _ _ _ (omega arith))
+    (either (firstWordIs _ line) _ _ (single-name 6 _ _ _ (omega arith))
+    (either (firstWordIs _ line) _ _ (single-name 6 _ _ _ (omega arith))
+    (either (firstWordIs _ line) _ _ (single-name 6 _ _ _ (omega arith)) (omega arith)))))
 
 pub value-name : (p : Profile) (line : List ℕ) → nameLength (settingOf p line) ≤ 8
 unfolding settingVV5404 settingVV5300
 value-name VV5404 line =
-    either (startsWith _ line) _ _ (double-name 4 _ _ _ _ (omega arith))
-    (either (startsWith _ line) _ _ (double-name 6 _ _ _ _ (omega arith))
-    (either (startsWith _ line) _ _ (gain-name _)
-    (either (startsWith _ line) _ _ (single-name 6 _ _ _ (omega arith)) (shared-name line))))
+    either (firstWordIs _ line) _ _ (double-name 4 _ _ _ _ (omega arith))
+    (either (firstWordIs _ line) _ _ (double-name 6 _ _ _ _ (omega arith))
+    (either (firstWordIs _ line) _ _ (gain-name _)
+    (either (firstWordIs _ line) _ _ (single-name 6 _ _ _ (omega arith)) (shared-name line))))
 value-name VV5300 line =
-    either (startsWith _ line) _ _ (single-name 4 _ _ _ (omega arith))
-    (either (startsWith _ line) _ _ (single-name 6 _ _ _ (omega arith))
-    (either (startsWith _ line) _ _ (single-name 4 _ _ _ (omega arith))
-    (either (startsWith _ line) _ _ (single-name 6 _ _ _ (omega arith)) (shared-name line))))
+    either (firstWordIs _ line) _ _ (single-name 4 _ _ _ (omega arith))
+    (either (firstWordIs _ line) _ _ (single-name 6 _ _ _ (omega arith))
+    (either (firstWordIs _ line) _ _ (single-name 4 _ _ _ (omega arith))
+    (either (firstWordIs _ line) _ _ (single-name 6 _ _ _ (omega arith)) (shared-name line))))

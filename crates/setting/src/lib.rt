@@ -13,7 +13,7 @@
 // | setup5 | 0 to 255 | |
 ghost use mathlib.Core.Path.{_≡_};
 ghost use lib.ListN.{drop};
-ghost use Rattle.setting.specs.Number.{isBlank, pastBlanks, startsWith, digitOnto, numberIn, valueIn};
+ghost use Rattle.setting.specs.Number.{isBlank, pastBlanks, endsWord, firstWordIs, digitOnto, numberIn, valueIn};
 ghost use Rattle.setting.specs.Setting.{single, double, gainCode, sharedSetting, settingVV5404, settingVV5300, settingOf};
 use profile::Profile;
 use two_wire::register;
@@ -179,9 +179,9 @@ fn gain_code(value: u32) -> Setting
     Setting::NoGain
 }
 
-// Whether a line begins with a word.
+// Whether a line's first word is this one.
 fn begins(line: &[u8], word: &[u8]) -> bool
-    ensures { λ r. ⌜ r ≡ startsWith (now (word .entry)) (now (line .entry)) ⌝ }
+    ensures { λ r. ⌜ r ≡ firstWordIs (now (word .entry)) (now (line .entry)) ⌝ }
 {
     let mut i: usize = 0;
     while i < word.len() {
@@ -194,7 +194,17 @@ fn begins(line: &[u8], word: &[u8]) -> bool
             return false;
         }
     }
-    true
+    ends_word(line, i)
+}
+
+// Whether a word of a line may end before a place: the line ends there, or a blank stands there.
+fn ends_word(line: &[u8], at: usize) -> bool
+    ensures { λ r. ⌜ r ≡ endsWord (drop at (now (line .entry))) ⌝ }
+{
+    if line.len() <= at {
+        return true;
+    }
+    is_blank(line[at])
 }
 
 // The value that stands in a line after a name of a length, and blanks.

@@ -1,16 +1,16 @@
--- At each turn the first i characters are the word's; a line that ends or differs before the word does not begin with it.
+-- At each turn the first i characters are the word's; a line that ends or differs before the word's end has another first word.
 use mathlib.Core.Path.{_≡_, refl, sym, _∙_}
 use Prim.Native.Nat.{_≤_, _-_}
 use borrow.Author.Needs.{needs}
 use borrow.Author.Tests.{eq-eqb, ne-eqb}
 use lib.ListN.{length, drop}
-use Rattle.setting.specs.Number.{startsWith}
+use Rattle.setting.specs.Number.{firstWordIs}
 use Rattle.setting.specs.NumberLaws.{starts-step, starts-short, starts-whole}
 use Rattle.setting.proofs.begins.Statement.{statement}
 use Rattle.setting.proofs.begins.Tie as tie
 
 abbrev Inv-loop : tie.InvT-loop
-Inv-loop line word i₀ i = (i ≤ length word) × (startsWith word line ≡ startsWith (drop i word) (drop i line))
+Inv-loop line word i₀ i = (i ≤ length word) × (firstWordIs word line ≡ firstWordIs (drop i word) (drop i line))
 
 abbrev μ-loop : tie.MeasureT-loop
 μ-loop line word i₀ i = length word - i
@@ -28,7 +28,7 @@ returns-2 : tie.Need-returns-2 Inv-loop μ-loop
 returns-2 c = sym (c .before .before .before .before .before .loop .inv .1 ∙ starts-step _ _ _ (c .before .before .before .before .loop-test .taken) (c .before .before .before .if1 .left) ∙ simp (ne-eqb _ _ (c .if2 .left)))
 
 returns-3 : tie.Need-returns-3 Inv-loop μ-loop
-returns-3 c = sym (c .before .loop .inv .1 ∙ starts-whole _ _ _ (c .loop-test .left))
+returns-3 c = c .ends-word .ensures ∙ sym (c .before .before .loop .inv .1 ∙ starts-whole _ _ _ (c .before .loop-test .left))
 
 pub begins-spec : {M : Type 1} → statement M
 begins-spec =
@@ -44,4 +44,5 @@ begins-spec =
     (λ c. search needs)
     loop-again
     returns-2
+    (λ c κs. search needs)
     returns-3)
