@@ -1,10 +1,10 @@
 -- A capture listed: the text of its marks or frames, and how far a lent buffer lasts.
 use mathlib.Core.Path.{_≡_}
 use mathlib.Core.Bool.{Bool, cond}
-use mathlib.Core.List.{List, [], _∷_, _++_}
-use Prim.Native.Nat.{ℕ, suc, _+_, _-_}
+use mathlib.Core.List.{List, [], _++_}
+use Prim.Native.Nat.{ℕ, _+_}
 use lib.Dec.{ltb}
-use lib.ListN.{length, take}
+use lib.ListN.{length}
 use Rattle.profile.specs.declared.Profile.{Profile}
 use Rattle.profile.specs.Profile.{longest}
 use Rattle.stream.specs.declared.Answer.{Answer}
@@ -16,6 +16,7 @@ use Rattle.verdict.specs.Findings.{noFindings, takeOf, closeOf}
 use Rattle.verdict.specs.Verdict.{isLost, verdictOf}
 use Rattle.report.specs.Report.{reportRoom, reportOf}
 use Rattle.text.specs.Put.{onFront}
+use Rattle.listers.specs.Lists.{Lists, listerAfter, textAfter, takenFrom, ListedText, listedUpTo}
 use Rattle.listing.specs.Rows.{headerRow, rowRoom, rowOf}
 use Rattle.listing.specs.Frames.{newsLine}
 use Rattle.capture_lister.specs.declared.Mode.{Mode}
@@ -61,39 +62,26 @@ nibbleText l n = textOf (l .mode) (takeOf (l .findings) (answerTo l n)) (answerT
 
 -- Many nibbles.
 
+-- text by text, as far as there is room for one more
+abbrev pub captureLists : Lists Lister
+captureLists = record { step = afterNibble; text = nibbleText; most = rowRoom }
+
 -- the lister after them
 abbrev pub listAfter : Lister → List ℕ → Lister
-listAfter l [] = l
-listAfter l (n ∷ w) = listAfter (afterNibble l n) w
+listAfter = listerAfter captureLists
 
 -- their text
 abbrev pub listText : Lister → List ℕ → List ℕ
-listText l [] = []
-listText l (n ∷ w) = nibbleText l n ++ listText (afterNibble l n) w
+listText = textAfter captureLists
 
 -- With a buffer.
 
--- how many nibbles are taken of a reader that passes its own test: as long as there is room for the text of one more
-abbrev pub takenFrom : Lister → ℕ → List ℕ → ℕ
-takenFrom l room [] = 0
-takenFrom l room (n ∷ w) = cond (ltb room rowRoom) 0 (suc (takenFrom (afterNibble l n) (room - length (nibbleText l n)) w))
-
--- none of any other
+-- how many nibbles are taken; of a reader that fails its own test none
 abbrev pub takenOf : Lister → ℕ → List ℕ → ℕ
-takenOf l room w = cond (passes (l .reader .head)) (takenFrom l room w) 0
+takenOf l room w = cond (passes (l .reader .head)) (takenFrom captureLists l room w) 0
 
--- a lister after a call, how many nibbles it took, and the text it put
-pub record ListedText : Type 0 where
-  pub lister : Lister
-  pub taken : ℕ
-  pub text : List ℕ
-
--- the lister after so many nibbles, and their text
-abbrev pub listedUpTo : Lister → List ℕ → ℕ → ListedText
-listedUpTo l w k = record { lister = listAfter l (take k w); taken = k; text = listText l (take k w) }
-
-unfoldable pub listedOf : Lister → ℕ → List ℕ → ListedText
-listedOf l room w = listedUpTo l w (takenOf l room w)
+unfoldable pub listedOf : Lister → ℕ → List ℕ → ListedText Lister
+listedOf l room w = listedUpTo captureLists l w (takenOf l room w)
 
 -- Finish.
 
@@ -117,12 +105,12 @@ abbrev pub endRoom : ℕ
 endRoom = rowRoom + reportRoom
 
 -- where the buffer has it, a lister with the reader that finish leaves, and nothing found; else the lister as it was, and no text
-unfoldable pub finishedOf : Lister → ℕ → ListedText
+unfoldable pub finishedOf : Lister → ℕ → ListedText Lister
 finishedOf l room =
     cond (ltb room endRoom) (record { lister = l; taken = 0; text = [] })
     (record { lister = record { mode = l .mode; reader = finishOf (l .reader) .reader; findings = noFindings (l .reader .head .profile) }; taken = 0; text = endText l })
 
 -- what a call gives back, as one sentence: the lister and the count as the definition has them, and its text at the front of the buffer
-pub record ListGives (g : ListedText) (r : Listed) (before after : List ℕ) : Type 0 where
+pub record ListGives (g : ListedText Lister) (r : Listed) (before after : List ℕ) : Type 0 where
   pub next : r ≡ record { lister = g .lister; taken = g .taken; used = length (g .text) }
   pub leaves : after ≡ onFront (g .text) before

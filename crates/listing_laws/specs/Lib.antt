@@ -1,2 +1,2 @@
-pub mod ListerCalls
-pub mod ListerCallsLaws
+pub mod Listing
+pub mod ListingLaws

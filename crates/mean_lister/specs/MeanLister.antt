@@ -1,8 +1,8 @@
 -- A table of half-line means of a VV5300 capture (02, A10): a row for each visible line, and how far a lent buffer lasts.
 use mathlib.Core.Path.{_≡_}
 use mathlib.Core.Bool.{cond}
-use mathlib.Core.List.{List, [], _∷_, _++_}
-use Prim.Native.Nat.{ℕ, suc, _-_}
+use mathlib.Core.List.{List, []}
+use Prim.Native.Nat.{ℕ}
 use lib.Dec.{ltb}
 use lib.ListN.{length, take, replicate}
 use Rattle.line_code.specs.declared.Kind.{Kind}
@@ -17,6 +17,7 @@ use Rattle.stream.specs.declared.Answer.the-variants as answer
 use Rattle.stream.specs.Answers.{Outcome, answerFor, bufferAfter}
 use Rattle.reader.specs.Reader.{Took, passes, freshReader, feedOf, finishOf}
 use Rattle.text.specs.Put.{onFront}
+use Rattle.listers.specs.Lists.{Lists, takenFrom, ListedText, listedUpTo}
 use Rattle.half_means.specs.HalfMeans.{halvesOf}
 use Rattle.mean_rows.specs.MeanRows.{refusedRow, meansRow, meansRoom}
 use Rattle.mean_lister.specs.declared.Awaits.{Awaits}
@@ -84,41 +85,18 @@ afterNibble l n = withOutcome l (fed l n)
 unfoldable pub nibbleText : MeanLister → ℕ → List ℕ
 nibbleText l n = outcomeText l (fed l n .outcome)
 
--- Many nibbles.
-
--- the lister after them
-abbrev pub listAfter : MeanLister → List ℕ → MeanLister
-listAfter l [] = l
-listAfter l (n ∷ w) = listAfter (afterNibble l n) w
-
--- their text
-abbrev pub listText : MeanLister → List ℕ → List ℕ
-listText l [] = []
-listText l (n ∷ w) = nibbleText l n ++ listText (afterNibble l n) w
-
 -- With a buffer.
 
--- how many nibbles are taken of a reader that passes its own test: as long as there is room for one row more
-abbrev pub takenFrom : MeanLister → ℕ → List ℕ → ℕ
-takenFrom l room [] = 0
-takenFrom l room (n ∷ w) = cond (ltb room meansRoom) 0 (suc (takenFrom (afterNibble l n) (room - length (nibbleText l n)) w))
+-- row by row, as far as there is room for one row more
+abbrev pub meansLists : Lists MeanLister
+meansLists = record { step = afterNibble; text = nibbleText; most = meansRoom }
 
--- none of any other
+-- how many nibbles are taken; of a reader that fails its own test none
 abbrev pub takenOf : MeanLister → ℕ → List ℕ → ℕ
-takenOf l room w = cond (passes (l .reader .head)) (takenFrom l room w) 0
+takenOf l room w = cond (passes (l .reader .head)) (takenFrom meansLists l room w) 0
 
--- a lister after a call, how many nibbles it took, and the text it put
-pub record MeansText : Type 0 where
-  pub lister : MeanLister
-  pub taken : ℕ
-  pub text : List ℕ
-
--- the lister after so many nibbles, and their text
-abbrev pub listedUpTo : MeanLister → List ℕ → ℕ → MeansText
-listedUpTo l w k = record { lister = listAfter l (take k w); taken = k; text = listText l (take k w) }
-
-unfoldable pub listedOf : MeanLister → ℕ → List ℕ → MeansText
-listedOf l room w = listedUpTo l w (takenOf l room w)
+unfoldable pub listedOf : MeanLister → ℕ → List ℕ → ListedText MeanLister
+listedOf l room w = listedUpTo meansLists l w (takenOf l room w)
 
 -- Finish.
 
@@ -127,12 +105,12 @@ abbrev pub lastText : MeanLister → List ℕ
 lastText l = textOf (l .awaits) (answerFor (finishOf (l .reader) .outcome)) (l .line)
 
 -- where the buffer has room for a row, a lister with the reader that finish leaves, and a line awaited; else the lister as it was, and no text
-unfoldable pub finishedOf : MeanLister → ℕ → MeansText
+unfoldable pub finishedOf : MeanLister → ℕ → ListedText MeanLister
 finishedOf l room =
     cond (ltb room meansRoom) (record { lister = l; taken = 0; text = [] })
     (record { lister = record { reader = finishOf (l .reader) .reader; line = l .line; awaits = awaits.Line }; taken = 0; text = lastText l })
 
 -- what a call gives back, as one sentence: the lister and the count as the definition has them, and its text at the front of the buffer
-pub record ListsMeans (g : MeansText) (r : MeansListed) (before after : List ℕ) : Type 0 where
+pub record ListsMeans (g : ListedText MeanLister) (r : MeansListed) (before after : List ℕ) : Type 0 where
   pub next : r ≡ record { lister = g .lister; taken = g .taken; used = length (g .text) }
   pub leaves : after ≡ onFront (g .text) before

@@ -1,26 +1,20 @@
 -- At each turn what is left brings what the whole does; a run takes some nibbles, until none is left, or no room for a text.
-use mathlib.Core.Path.{_≡_, sym, subst, _∙_}
-use mathlib.Core.Bool.{false, _&&_}
-use Prim.Native.Nat.{ℕ, _-_, _*_, _/_, _<_, _≤_}
+use mathlib.Core.Path.{_≡_, sym, _∙_}
+use Prim.Native.Nat.{_-_, _*_}
 use native.Mathlib.Omega.{arith}
-use lib.Dec.{leb, ltb}
-use lib.ListN.{length, getD}
-use denote.Ref.{now}
+use lib.ListN.{length}
 use borrow.Author.Needs.{needs}
 use Rattle.profile.specs.Profile.{longest}
-use Rattle.stream.specs.Written.{nibbles}
 use Rattle.reader_laws.specs.Passes.{passed}
-use Rattle.stream.specs.NibblesLaws.{nibbles-length}
-use Rattle.capture_bytes.specs.UnpackedLaws.{nibbles-small}
-use Rattle.listing.specs.Rows.{rowRoom}
 use Rattle.text.specs.PutLaws.{put-length, put-within}
-use Rattle.capture_lister.proofs.Runs.{lister, Along, along-start, along-next, some-taken, taken-fits, goes-there, along-end, nothing-listed}
+use Rattle.listers.specs.RunLaws.{Along, along-start, taken-fits, left-less, text-fits}
+use Rattle.capture_lister.proofs.Runs.{lister, by-reader, capture-next, capture-end, nothing-listed}
 use Rattle.capture_lister.proofs.Lister.list.Statement.{statement}
 use Rattle.capture_lister.proofs.Lister.list.Tie as tie
 
 abbrev Inv-loop : tie.InvT-loop
 Inv-loop input from out₀ mode head₀ body₀ line₀ findings₀ used₀ at₀ out head body line findings used at =
-    Along (lister mode head₀ body₀ findings₀) (nibbles input) out₀ from at (lister mode head body findings) used out × (length body ≡ longest) × (length line ≡ longest)
+    Along by-reader (lister mode head₀ body₀ findings₀) input out₀ from at (lister mode head body findings) used out × (length body ≡ longest) × (length line ≡ longest)
 
 abbrev μ-loop : tie.MeasureT-loop
 μ-loop input from out₀ mode head₀ body₀ line₀ findings₀ used₀ at₀ out head body line findings used at = 2 * length input - at
@@ -28,68 +22,50 @@ abbrev μ-loop : tie.MeasureT-loop
 loop-holds : tie.Need-loop-holds Inv-loop μ-loop
 loop-holds c =
     let e = c .before .before .before .is-sound .ensures in
-    (along-start _ _ _ _ (record { byte = e .1; test = passed _ (sym (e .0) ∙ c .before .before .if1 .taken) }), search needs, search needs)
+    (along-start by-reader _ _ _ _ (record { byte = e .1; test = passed _ (sym (e .0) ∙ c .before .before .if1 .taken) }), search needs, search needs)
 
 sub-goes-on : tie.Need-sub-goes-on Inv-loop μ-loop
 sub-goes-on c = put-within (c .loop .inv .0 .text-put)
 
 add-at : tie.Need-add-at Inv-loop μ-loop
 add-at c =
-    let shared-slice-known = c .before .before .before .before .before .before .before .before .before .before .before .before .before .before .before .before .before .shared-slice-known in
-    let goes-on = c .before .before .before .before .before .before .before .before .goes-on in
-    let test-2 = c .before .before .before .before .before .before .before .if2 in
-    let good-at = c .before .before .before .before .before .before .before .before .before .before .before .before .before .before .before .before .before .before .good in
-    let a = c .before .before .before .before .before .before .before .before .before .before .before .before .before .before .before .before .before .before .args in
-    let l = c .before .before .before .before .before .before .before .before .before .loop in
-    let bs = now (a .input) in
-    let known : (i : ℕ) → getD bs i 0 < 256 = λ i. shared-slice-known .given i .fits in
-    let small = nibbles-small bs known in
-    let q = goes-there (length bs) (l .at) (length (l .out) - l .used) (sym (goes-on .ensures) ∙ test-2 .taken) in
-    let there : l .at < length (nibbles bs) = omega (arith, nibbles-length bs, q .0) in
-    let room : rowRoom ≤ length (now (a .out)) - l .used = omega (arith, put-length (l .inv .0 .text-put), q .1) in
-    let e = c .before .before .before .before .run .ensures in
-    omega (arith, taken-fits (l .inv .0) small there (l .inv .1) room (l .inv .2) e, nibbles-length bs, good-at .1 .0 .1)
+    let run = c .before .before .before .before in
+    let test = run .before .before .before in
+    let turn = test .before .before in
+    let start = turn .before .before .before .before .before .before .before .before in
+    let more = sym (test .before .goes-on .ensures) ∙ test .if2 .taken in
+    omega (arith, taken-fits (turn .loop .inv .0) (λ i. start .shared-slice-known .given i .fits) more (turn .loop .inv .1) (turn .loop .inv .2) (run .run .ensures), start .before .good .1 .0 .1)
 
 put-text-requires : tie.Need-put-text-requires Inv-loop μ-loop
 put-text-requires c κs =
-    let args = c .before .before .before .before .before .before .before .before .before .before .before .before .before .before .before .before .before .before .before .before .before .args in
-    let goes-on = c .before .before .before .before .before .before .before .before .before .before .before .goes-on in
-    let test-2 = c .before .before .before .before .before .before .before .before .before .before .if2 in
-    let l = c .before .before .before .before .before .before .before .before .before .before .before .before .loop in
-    let q = goes-there (length (now (args .input))) (l .at) (length (l .out) - l .used) (sym (goes-on .ensures) ∙ test-2 .taken) in
-    omega (arith, q .1)
+    let run = c .before .before .before .before .before .before .before in
+    let test = run .before .before .before in
+    let turn = test .before .before in
+    let start = turn .before .before .before .before .before .before .before .before in
+    let more = sym (test .before .goes-on .ensures) ∙ test .if2 .taken in
+    text-fits (turn .loop .inv .0) (λ i. start .shared-slice-known .given i .fits) more (turn .loop .inv .1) (turn .loop .inv .2) (run .run .ensures)
 
 loop-less : tie.Need-loop-less Inv-loop μ-loop
 loop-less c =
-    let shared-slice-known = c .before .before .before .before .before .before .before .before .before .before .before .before .before .before .before .before .before .before .before .before .before .before .before .shared-slice-known in
-    let goes-on = c .before .before .before .before .before .before .before .before .before .before .before .before .before .before .goes-on in
-    let test-2 = c .before .before .before .before .before .before .before .before .before .before .before .before .before .if2 in
-    let a = c .before .before .before .before .before .before .before .before .before .before .before .before .before .before .before .before .before .before .before .before .before .before .before .before .args in
-    let l = c .before .before .before .before .before .before .before .before .before .before .before .before .before .before .before .loop in
-    let bs = now (a .input) in
-    let known : (i : ℕ) → getD bs i 0 < 256 = λ i. shared-slice-known .given i .fits in
-    let small = nibbles-small bs known in
-    let q = goes-there (length bs) (l .at) (length (l .out) - l .used) (sym (goes-on .ensures) ∙ test-2 .taken) in
-    let there : l .at < length (nibbles bs) = omega (arith, nibbles-length bs, q .0) in
-    let room : rowRoom ≤ length (now (a .out)) - l .used = omega (arith, put-length (l .inv .0 .text-put), q .1) in
-    let e = c .before .before .before .before .before .before .before .before .before .before .run .ensures in
-    omega (arith, some-taken (l .inv .0) small there (l .inv .1) room (l .inv .2) e, nibbles-length bs, there)
+    let run = c .before .before .before .before .before .before .before .before .before .before in
+    let test = run .before .before .before in
+    let turn = test .before .before in
+    let start = turn .before .before .before .before .before .before .before .before in
+    let more = sym (test .before .goes-on .ensures) ∙ test .if2 .taken in
+    left-less (turn .loop .inv .0) (λ i. start .shared-slice-known .given i .fits) more (turn .loop .inv .1) (turn .loop .inv .2) (run .run .ensures)
 
 loop-again : tie.Need-loop-again Inv-loop μ-loop
 loop-again c =
-    let shared-slice-known = c .before .before .before .before .before .before .before .before .before .before .before .before .before .before .before .before .before .before .before .before .before .before .before .shared-slice-known in
-    let goes-on = c .before .before .before .before .before .before .before .before .before .before .before .before .before .before .goes-on in
-    let test-2 = c .before .before .before .before .before .before .before .before .before .before .before .before .before .if2 in
-    let a = c .before .before .before .before .before .before .before .before .before .before .before .before .before .before .before .before .before .before .before .before .before .before .before .before .args in
-    let l = c .before .before .before .before .before .before .before .before .before .before .before .before .before .before .before .loop in
-    let bs = now (a .input) in
-    let known : (i : ℕ) → getD bs i 0 < 256 = λ i. shared-slice-known .given i .fits in
-    let small = nibbles-small bs known in
-    let q = goes-there (length bs) (l .at) (length (l .out) - l .used) (sym (goes-on .ensures) ∙ test-2 .taken) in
-    let there : l .at < length (nibbles bs) = omega (arith, nibbles-length bs, q .0) in
-    let room : rowRoom ≤ length (now (a .out)) - l .used = omega (arith, put-length (l .inv .0 .text-put), q .1) in
-    let e = c .before .before .before .before .before .before .before .before .before .before .run .ensures in
-    (along-next (l .inv .0) small there (l .inv .1) room (l .inv .2) e (c .before .before .before .before .before .take .ensures) (c .before .before .put-text .ensures), search needs, search needs)
+    let run = c .before .before .before .before .before .before .before .before .before .before in
+    let test = run .before .before .before in
+    let turn = test .before .before in
+    let start = turn .before .before .before .before .before .before .before .before in
+    let more = sym (test .before .goes-on .ensures) ∙ test .if2 .taken in (
+      capture-next (turn .loop .inv .0) (λ i. start .shared-slice-known .given i .fits) more (turn .loop .inv .1) (turn .loop .inv .2) (run .run .ensures)
+          (c .before .before .before .before .before .take .ensures) (c .before .before .put-text .ensures),
+      search (needs, run .run .kept .1 .0, turn .loop .inv .1),
+      search (needs, run .run .kept .1 .1 .1 .1 .0, turn .loop .inv .2),
+    )
 
 sub-t30 : tie.Need-sub-t30 Inv-loop μ-loop
 sub-t30 c = c .before .before .loop .inv .0 .forward
@@ -99,11 +75,9 @@ same-length c = put-length (c .before .before .loop .inv .0 .text-put)
 
 returns : tie.Need-returns Inv-loop μ-loop
 returns c =
-    let a = c .before .before .before .before .before .before .before .before .before .before .before .args in
-    let l = c .before .before .loop in
-    let bs = now (a .input) in
-    let stop = subst (λ (n : ℕ). (ltb (l .at / 2) (length bs) && leb rowRoom (n - l .used)) ≡ false) (put-length (l .inv .0 .text-put)) (sym (c .before .goes-on .ensures) ∙ c .if2 .left) in
-    along-end (length bs) (l .inv .0) (sym (c .before .before .before .before .before .before .is-sound .ensures .0) ∙ c .before .before .before .before .before .if1 .taken) (nibbles-length bs) stop
+    let turn = c .before .before in
+    let test = turn .before .before .before in
+    capture-end (turn .loop .inv .0) (sym (test .before .is-sound .ensures .0) ∙ test .if1 .taken) (sym (c .before .goes-on .ensures) ∙ c .if2 .left)
 
 returns-2 : tie.Need-returns-2 Inv-loop μ-loop
 returns-2 c = nothing-listed _ _ _ (sym (c .before .is-sound .ensures .0) ∙ c .if1 .left)

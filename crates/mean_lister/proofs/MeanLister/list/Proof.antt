@@ -7,13 +7,14 @@ use borrow.Author.Needs.{needs}
 use Rattle.profile.specs.Profile.{longest}
 use Rattle.reader_laws.specs.Passes.{passed}
 use Rattle.text.specs.PutLaws.{put-length, put-within}
-use Rattle.mean_lister.proofs.Runs.{lister, Along, along-start, taken-fits, left-less, row-fits, along-next, along-end, nothing-listed}
+use Rattle.listers.specs.RunLaws.{Along, along-start, taken-fits, left-less, text-fits}
+use Rattle.mean_lister.proofs.Runs.{lister, by-reader, means-next, means-end, nothing-listed}
 use Rattle.mean_lister.proofs.MeanLister.list.Statement.{statement}
 use Rattle.mean_lister.proofs.MeanLister.list.Tie as tie
 
 abbrev Inv-loop : tie.InvT-loop
 Inv-loop input from out₀ head₀ body₀ line₀ awaits₀ used₀ at₀ out head body line awaits used at =
-    Along (lister head₀ body₀ line₀ awaits₀) input out₀ from at (lister head body line awaits) used out × (length body ≡ longest) × (length line ≡ longest)
+    Along by-reader (lister head₀ body₀ line₀ awaits₀) input out₀ from at (lister head body line awaits) used out × (length body ≡ longest) × (length line ≡ longest)
 
 abbrev μ-loop : tie.MeasureT-loop
 μ-loop input from out₀ head₀ body₀ line₀ awaits₀ used₀ at₀ out head body line awaits used at = 2 * length input - at
@@ -21,7 +22,7 @@ abbrev μ-loop : tie.MeasureT-loop
 loop-holds : tie.Need-loop-holds Inv-loop μ-loop
 loop-holds c =
     let e = c .before .before .before .is-sound .ensures in
-    (along-start _ _ _ _ (record { byte = e .1; test = passed _ (sym (e .0) ∙ c .before .before .if1 .taken) }), search needs, search needs)
+    (along-start by-reader _ _ _ _ (record { byte = e .1; test = passed _ (sym (e .0) ∙ c .before .before .if1 .taken) }), search needs, search needs)
 
 sub-goes-on : tie.Need-sub-goes-on Inv-loop μ-loop
 sub-goes-on c = put-within (c .loop .inv .0 .text-put)
@@ -42,7 +43,7 @@ put-text-requires c κs =
     let turn = test .before .before in
     let start = turn .before .before .before .before .before .before .before .before in
     let more = sym (test .before .goes-on .ensures) ∙ test .if2 .taken in
-    (search needs, row-fits (turn .loop .inv .0) (λ i. start .shared-slice-known .given i .fits) more (turn .loop .inv .1) (turn .loop .inv .2) (run .run .ensures))
+    (search needs, text-fits (turn .loop .inv .0) (λ i. start .shared-slice-known .given i .fits) more (turn .loop .inv .1) (turn .loop .inv .2) (run .run .ensures))
 
 loop-less : tie.Need-loop-less Inv-loop μ-loop
 loop-less c =
@@ -60,7 +61,7 @@ loop-again c =
     let turn = test .before .before in
     let start = turn .before .before .before .before .before .before .before .before in
     let more = sym (test .before .goes-on .ensures) ∙ test .if2 .taken in (
-      along-next (turn .loop .inv .0) (λ i. start .shared-slice-known .given i .fits) more (turn .loop .inv .1) (turn .loop .inv .2) (run .run .ensures) (c .after .ensures) (c .before .before .before .put-text .ensures),
+      means-next (turn .loop .inv .0) (λ i. start .shared-slice-known .given i .fits) more (turn .loop .inv .1) (turn .loop .inv .2) (run .run .ensures) (c .after .ensures) (c .before .before .before .put-text .ensures),
       search (needs, run .run .kept .1 .0, turn .loop .inv .1),
       search (needs, run .run .kept .1 .1 .1 .1 .0, turn .loop .inv .2),
     )
@@ -75,7 +76,7 @@ returns : tie.Need-returns Inv-loop μ-loop
 returns c =
     let turn = c .before .before in
     let test = turn .before .before .before in
-    along-end (turn .loop .inv .0) (sym (test .before .is-sound .ensures .0) ∙ test .if1 .taken) (sym (c .before .goes-on .ensures) ∙ c .if2 .left)
+    means-end (turn .loop .inv .0) (sym (test .before .is-sound .ensures .0) ∙ test .if1 .taken) (sym (c .before .goes-on .ensures) ∙ c .if2 .left)
 
 returns-2 : tie.Need-returns-2 Inv-loop μ-loop
 returns-2 c = nothing-listed _ _ _ (sym (c .before .is-sound .ensures .0) ∙ c .if1 .left)

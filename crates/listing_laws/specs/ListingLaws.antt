@@ -1,9 +1,8 @@
 -- The text of `list`: the calls list what the nibbles one by one do, the reader answers as the meaning does, and each answer has its row.
-use mathlib.Core.Path.{_≡_, refl, _∙_, ap, ap₂, sym}
-use mathlib.Core.List.{List, [], _∷_, _++_, append-assoc}
+use mathlib.Core.Path.{_≡_, refl, _∙_, ap, ap₂}
+use mathlib.Core.List.{List, [], _++_, append-assoc}
 use Prim.Native.Nat.{ℕ, _+_, _≤_, _<_}
-use lib.ListN.{getD, take, drop, take-append-drop}
-use lib.Seq.{drop-drop}
+use lib.ListN.{getD}
 use borrow.Author.Tests.{le-ltb}
 use Rattle.counts.specs.Counts.{oneMore}
 use Rattle.profile.specs.declared.Profile.{Profile}
@@ -13,7 +12,6 @@ use Rattle.stream.specs.declared.Answer.{Answer}
 use Rattle.stream.specs.Answers.{Outcome, nothing, line, gap, refused, answerFor}
 use Rattle.stream.specs.Stream.{State, fresh, finish, step}
 use Rattle.stream.specs.Written.{nibbles}
-use Rattle.stream.specs.NibblesLaws.{nibbles-append}
 use Rattle.reader.specs.declared.Reader.{Reader}
 use Rattle.reader.specs.Reader.{freshReader, feedOf}
 use Rattle.reader_laws.specs.Passing.{Small, small-none, small-more}
@@ -24,60 +22,24 @@ use Rattle.tally.specs.TallyLaws.{marks-counted}
 use Rattle.verdict.specs.declared.Findings.{Findings}
 use Rattle.verdict.specs.Findings.{noFindings, takeOf, closeOf}
 use Rattle.capture_bytes.specs.UnpackedLaws.{nibbles-small}
+use Rattle.listers.specs.Lists.{listedUpTo, endToEnd, PieceCalls}
+use Rattle.listers.specs.ListsLaws.{pieces-listed}
 use Rattle.listing.specs.Rows.{headerRow, rowOf, rowRoom, rowIfRoom}
 use Rattle.capture_lister.specs.declared.Mode.the-variants.{Rows}
 use Rattle.capture_lister.specs.declared.Lister.{Lister}
-use Rattle.capture_lister.specs.Listed.{freshLister, headText, textOf, belowOf, answerTo, afterNibble, nibbleText, listAfter, listText, takenOf, listedOf, endText, endRoom, finishedOf}
-use Rattle.listing_laws.specs.ListerCalls.{endToEnd, ListerCalls, no-piece, next-piece, one-call, rowsFrom, listingOf}
+use Rattle.capture_lister.specs.Listed.{freshLister, headText, textOf, belowOf, answerTo, afterNibble, nibbleText, captureLists, listAfter, listText, listedOf, endText, endRoom, finishedOf}
+use Rattle.listing_laws.specs.Listing.{rowsFrom, listingOf}
 
 -- Calls: they list what the nibbles one by one do, whatever the pieces and the buffers.
 
--- nibbles, and nibbles after them
-after-append : (v w : List ℕ) (l : Lister) → listAfter l (v ++ w) ≡ listAfter (listAfter l v) w
-after-append [] w l = refl
-after-append (n ∷ v) w l = after-append v w (afterNibble l n)
-
-text-append : (v w : List ℕ) (l : Lister) → listText l (v ++ w) ≡ listText l v ++ listText (listAfter l v) w
-text-append [] w l = refl
-text-append (n ∷ v) w l =
-    ap (λ x. nibbleText l n ++ x) (text-append v w (afterNibble l n)) ∙ sym (append-assoc (nibbleText l n) (listText (afterNibble l n) v) _)
-
--- the nibbles of pieces from a place of the first on
-abbrev ahead : List (List ℕ) → ℕ → List ℕ
-ahead [] from = []
-ahead (piece ∷ pieces) from = drop from (nibbles piece) ++ ahead pieces 0
-
-ahead-bytes : (pieces : List (List ℕ)) → ahead pieces 0 ≡ nibbles (endToEnd pieces)
-ahead-bytes [] = refl
-ahead-bytes (piece ∷ pieces) = ap (λ (w : List ℕ). nibbles piece ++ w) (ahead-bytes pieces) ∙ sym (nibbles-append piece (endToEnd pieces))
-
-calls-list : {l m : Lister} {pieces : List (List ℕ)} {from : ℕ} {text : List ℕ} → ListerCalls l pieces from m text
-    → (m ≡ listAfter l (ahead pieces from)) × (text ≡ listText l (ahead pieces from))
+up-to : (l : Lister) (room : ℕ) (w : List ℕ) → listedOf l room w ≡ listedUpTo captureLists l w (listedOf l room w .taken)
 unfolding listedOf
-calls-list (no-piece l from) = (refl, refl)
-calls-list (next-piece l piece pieces from m text e c) =
-    let q = calls-list c in
-    let d : ahead pieces 0 ≡ drop from (nibbles piece) ++ ahead pieces 0 = ap (λ (v : List ℕ). v ++ ahead pieces 0) (sym e) in
-    (q .0 ∙ ap (listAfter l) d, q .1 ∙ ap (listText l) d)
-calls-list (one-call l piece pieces from room m text c) =
-    let w : List ℕ = drop from (nibbles piece) in
-    let k : ℕ = takenOf l room w in
-    let rest : List ℕ = drop (from + k) (nibbles piece) ++ ahead pieces 0 in
-    let q = calls-list c in
-    let e : take k w ++ rest ≡ w ++ ahead pieces 0 =
-    ap (λ (v : List ℕ). take k w ++ (v ++ ahead pieces 0)) (sym (drop-drop k from (nibbles piece)))
-    ∙ sym (append-assoc (take k w) (drop k w) (ahead pieces 0))
-    ∙ ap (λ (v : List ℕ). v ++ ahead pieces 0) (take-append-drop k w) in (
-      q .0 ∙ sym (after-append (take k w) rest l) ∙ ap (listAfter l) e,
-      ap (λ (v : List ℕ). listText l (take k w) ++ v) (q .1) ∙ sym (text-append (take k w) rest l) ∙ ap (listText l) e,
-    )
+up-to l room w = refl
 
 -- so a capture in pieces is listed as it is whole, rows or frames: the lister after the calls, and their texts
-pub pieces-listed : {l m : Lister} {pieces : List (List ℕ)} {text : List ℕ} → ListerCalls l pieces 0 m text
+pub capture-listed : {l m : Lister} {pieces : List (List ℕ)} {text : List ℕ} → PieceCalls listedOf l pieces 0 m text
     → (m ≡ listAfter l (nibbles (endToEnd pieces))) × (text ≡ listText l (nibbles (endToEnd pieces)))
-pieces-listed {l} {m} {pieces} {text} c =
-    let q = calls-list c in
-    (q .0 ∙ ap (listAfter l) (ahead-bytes pieces), q .1 ∙ ap (listText l) (ahead-bytes pieces))
+capture-listed c = pieces-listed captureLists up-to c
 
 -- Rows.
 
@@ -139,11 +101,11 @@ finished-text l room g = simp (le-ltb room endRoom g)
 -- the law: whatever the pieces of a capture and the buffers of the calls, what stands above the list, the texts of the calls and that of finish are
 -- end to end the listing of the capture's nibbles: the same text whole and in pieces
 pub rows-listed : (p : Profile) (pieces : List (List ℕ)) → ((i : ℕ) → getD (endToEnd pieces) i 0 < 256) → {m : Lister} {text : List ℕ}
-    → ListerCalls (freshLister Rows p) pieces 0 m text → (above below : ℕ) → rowRoom ≤ above → endRoom ≤ below
+    → PieceCalls listedOf (freshLister Rows p) pieces 0 m text → (above below : ℕ) → rowRoom ≤ above → endRoom ≤ below
     → rowIfRoom above (headText Rows) ++ (text ++ finishedOf m below .text) ≡ listingOf p (nibbles (endToEnd pieces))
 unfolding oneMore
 rows-listed p pieces bytes {m} {text} c above below a z =
-    let q = pieces-listed c in
+    let q = capture-listed c in
     ap₂ (λ (h e : List ℕ). h ++ (text ++ e)) (head-text above a) (finished-text m below z)
     ∙ ap₂ (λ (v : List ℕ) (y : Lister). headerRow ++ (v ++ endText y)) (q .1) (q .0)
     ∙ ap (λ (v : List ℕ). headerRow ++ v) (rows-told p (nibbles-small (endToEnd pieces) bytes) (noFindings p) (freshReader p) fresh (fresh-follows p))
