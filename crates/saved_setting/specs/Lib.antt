@@ -1,0 +1,2 @@
+pub mod SavedSettings
+pub mod SavedSettingsLaws

@@ -1,0 +1,128 @@
+-- Saved settings (02, A11): a list of eight places; saving, finding and going back.
+use mathlib.Core.Path.{_≡_}
+use mathlib.Core.Bool.{Bool, true, false, _&&_, cond}
+use mathlib.Core.List.{List, [], _∷_, _++_}
+use Prim.Native.Nat.{ℕ, _+_}
+use lib.Dec.{eqb, leb}
+use lib.ListN.{length, drop}
+use Rattle.refusal.specs.Refusal.{notSavedSettings, badSetting, versionNotHeld, noVersionLeft}
+use Rattle.exposure.specs.Exposure.{rate25, rate30, fineLimit, coarseLimit, divisorLimit, isGain}
+use Rattle.saved_setting.specs.declared.SavedSetting.{SavedSetting}
+use Rattle.saved_setting.specs.declared.Wanted.{Wanted}
+use Rattle.saved_setting.specs.declared.Saved.{Saved}
+use Rattle.saved_setting.specs.declared.Saved.the-variants as saved
+use Rattle.saved_setting.specs.declared.Held.{Held}
+use Rattle.saved_setting.specs.declared.Held.the-variants as held
+use Rattle.saved_setting.specs.declared.SavedList.{SavedList}
+use Rattle.saved_setting.specs.declared.EightPlaces.{EightPlaces}
+
+-- ---- one setting
+
+-- gain code, divisor and frame rate
+unfoldable pub isAllowed : Wanted → Bool
+isAllowed w = cond (isGain (w .gain)) (cond (leb (w .divisor) divisorLimit) (cond (eqb (w .rate) rate25) true (eqb (w .rate) rate30)) false) false
+
+unfoldable pub lesser : ℕ → ℕ → ℕ
+lesser n limit = cond (leb n limit) n limit
+
+-- what is saved of a wanted setting, its version still to be given
+unfoldable pub clipped : Wanted → SavedSetting
+clipped w =
+    record { version = 0; fine = lesser (w .fine) (fineLimit (w .rate)); coarse = lesser (w .coarse) coarseLimit; gain = w .gain; divisor = w .divisor }
+
+-- the same setting under another version
+unfoldable pub renumbered : SavedSetting → ℕ → SavedSetting
+renumbered s v = record { version = v; fine = s .fine; coarse = s .coarse; gain = s .gain; divisor = s .divisor }
+
+-- ---- the list: used places come first, oldest first, with versions in unbroken sequence
+
+-- version 0 marks an unused place
+abbrev pub isUnused : SavedSetting → Bool
+isUnused s = eqb (s .version) 0
+
+-- an unused place after any other; after a used one also the next version
+unfoldable pub mayFollow : SavedSetting → SavedSetting → Bool
+mayFollow before after = cond (isUnused after) true (cond (isUnused before) false (eqb (before .version + 1) (after .version)))
+
+unfoldable pub versionsInOrder : List SavedSetting → Bool
+versionsInOrder [] = true
+versionsInOrder (s ∷ []) = true
+versionsInOrder (s ∷ t ∷ list) = mayFollow s t && versionsInOrder (t ∷ list)
+
+abbrev pub placeCount : ℕ
+placeCount = 8
+
+abbrev pub isSavedList : List SavedSetting → Bool
+isSavedList list = eqb (length list) placeCount && versionsInOrder list
+
+-- ---- versions
+
+abbrev pub lastVersion : ℕ
+lastVersion = 65535
+
+-- the version of the last used place; 0 where none is used
+unfoldable pub laterVersion : ℕ → ℕ → ℕ
+laterVersion v after = cond (eqb after 0) v after
+
+unfoldable pub newestVersion : List SavedSetting → ℕ
+newestVersion [] = 0
+newestVersion (s ∷ list) = laterVersion (s .version) (newestVersion list)
+
+-- the setting that has a version
+unfoldable pub heldHere : SavedSetting → ℕ → Held → Held
+heldHere s v rest = cond (eqb (s .version) v) (held.Setting s) rest
+
+unfoldable pub lookUp : ℕ → List SavedSetting → Held
+lookUp v [] = held.Refused versionNotHeld
+lookUp v (s ∷ list) = heldHere s v (lookUp v list)
+
+-- ---- a setting is put into the list: where all places are used the oldest is dropped
+
+unfoldable pub allUsed : List SavedSetting → Bool
+allUsed [] = true
+allUsed (s ∷ list) = cond (isUnused s) false (allUsed list)
+
+-- at the first unused place, or behind them all
+unfoldable pub putIn : SavedSetting → List SavedSetting → List SavedSetting
+putIn s [] = s ∷ []
+putIn s (t ∷ list) = cond (isUnused t) (s ∷ list) (t ∷ putIn s list)
+
+unfoldable pub savedInto : SavedSetting → List SavedSetting → List SavedSetting
+savedInto s list = putIn s (cond (allUsed list) (drop 1 list) list)
+
+-- ---- what the calls answer, and the list that they leave
+
+abbrev pub refusing : ℕ → List SavedSetting → SavedList
+refusing n list = record { answer = saved.Refused n; list = list }
+
+-- a setting is saved as it is, under one more than the newest version held
+unfoldable pub savedNext : List SavedSetting → SavedSetting → SavedList
+savedNext list s =
+    cond (eqb (newestVersion list) lastVersion) (refusing noVersionLeft list)
+    (record { answer = saved.Version (newestVersion list + 1); list = savedInto (renumbered s (newestVersion list + 1)) list })
+
+unfoldable pub savedWanted : List SavedSetting → Wanted → SavedList
+savedWanted list w =
+    cond (isSavedList list) (cond (isAllowed w) (savedNext list (clipped w)) (refusing badSetting list)) (refusing notSavedSettings list)
+
+unfoldable pub foundIn : List SavedSetting → ℕ → Held
+foundIn list v = cond (isSavedList list) (cond (eqb v 0) (held.Refused versionNotHeld) (lookUp v list)) (held.Refused notSavedSettings)
+
+-- going back: what is found is saved as it stands
+abbrev pub savedFound : List SavedSetting → Held → SavedList
+savedFound list (held.Setting s) = savedNext list s
+savedFound list (held.Refused n) = refusing n list
+
+unfoldable pub savedAgain : List SavedSetting → ℕ → SavedList
+savedAgain list v = savedFound list (foundIn list v)
+
+-- ---- contracts
+
+-- the eight places as a list
+abbrev pub placesOf : EightPlaces → List SavedSetting
+placesOf p = p .a ∷ p .b ∷ p .c ∷ p .d ∷ p .e ∷ p .f ∷ p .g ∷ p .h ∷ []
+
+-- a call that answers, and leaves the list, as said
+pub record Leaves (said : SavedList) (answer : Saved) (after : List SavedSetting) : Type 0 where
+  pub answers : answer ≡ said .answer
+  pub leaves : after ≡ said .list
