@@ -1,0 +1,2 @@
+pub mod SettingRegisters
+pub mod SettingRegistersLaws
