@@ -1,9 +1,7 @@
 -- A list of another length than eight is answered 37, and stays as it is.
 use mathlib.Core.Path.{_≡_}
-use mathlib.Core.Bool.{false, _&&_}
 use mathlib.Core.List.{List}
 use Prim.Native.Nat.{ℕ}
-use lib.Dec.{eqb}
 use lib.ListN.{length}
 use borrow.Author.Tests.{ne-eqb}
 use Rattle.refusal.specs.Refusal.{notSavedSettings}
@@ -11,7 +9,7 @@ use Rattle.saved_setting.specs.declared.SavedSetting.{SavedSetting}
 use Rattle.saved_setting.specs.declared.Wanted.{Wanted}
 use Rattle.saved_setting.specs.declared.Saved.the-variants as saved
 use Rattle.saved_setting.specs.declared.Held.the-variants as held
-use Rattle.saved_setting.specs.SavedSettings.{versionsInOrder, placeCount, savedWanted, foundIn, savedFound, savedAgain, Leaves}
+use Rattle.saved_setting.specs.SavedSettings.{placeCount, savedWanted, foundIn, savedAgain, Leaves}
 
 module _ (list : List SavedSetting) (other : length list ≡ placeCount → ⊥) where
   pub wanted-refused : (w : Wanted) → Leaves (savedWanted list w) (saved.Refused notSavedSettings) list

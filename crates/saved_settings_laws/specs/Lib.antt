@@ -1,0 +1,4 @@
+pub mod Histories
+pub mod HistoryLaws
+pub mod OrderLaws
+pub mod PutInLaws
