@@ -4,6 +4,7 @@ use mathlib.Core.Bool.{true, false}
 use mathlib.Core.List.{List}
 use Prim.Native.Nat.{ℕ}
 use lib.ListN.{replicate}
+use Rattle.exposure.specs.Exposure.{isGain}
 use Rattle.text.specs.Text.{ascii, decimal, hexDigit}
 use Rattle.profile.specs.declared.Profile.{Profile}
 use Rattle.profile.specs.declared.Profile.the-variants.{VV5404, VV5300}
@@ -27,5 +28,5 @@ on-the-VV5300 = record { texts = refl; refuses = refl }
 -- two bytes for fine, four gain codes, and no setup3
 pub on-the-VV5404 : Worked VV5404 (ascii "# night\n  fine \t 255\r\n\ngain 6\nsetup3 15\nsetup50 3\nfine 120 for the night scene") (ascii "20 20 00\n20 21 ff\n")
     (ascii "line 4: gain takes 0, 1, 3 or 7\nline 5: no setting of the VV5404, and no message\nline 6: no setting of the VV5404, and no message\nline 7: 24 characters or more\n")
-unfolding decimal hexDigit firstWordIs digitOnto double gainCode sharedSetting settingVV5404 isMessage isBlank lineHead noGainText unknownText tooLongText textBy refusedBy textOf refusedOf lineText lineRefused lineAfter blankAfter keptAfter placeAfter textOn refusedOn
+unfolding decimal hexDigit firstWordIs digitOnto double gainCode sharedSetting settingVV5404 isMessage isBlank lineHead noGainText unknownText tooLongText textBy refusedBy textOf refusedOf lineText lineRefused lineAfter blankAfter keptAfter placeAfter textOn refusedOn isGain
 on-the-VV5404 = record { texts = refl; refuses = refl }

@@ -2,24 +2,18 @@
 use mathlib.Core.Bool.{cond}
 use mathlib.Core.List.{List}
 use Prim.Native.Nat.{ℕ, _/_, _%_}
-use lib.Dec.{eqb, ltb}
+use lib.Dec.{ltb}
 use lib.ListN.{drop}
 use Rattle.text.specs.Text.{ascii}
 use Rattle.profile.specs.declared.Profile.{Profile}
 use Rattle.profile.specs.declared.Profile.the-variants.{VV5404, VV5300}
+use Rattle.exposure.specs.Exposure.{fineLimit25, coarseLimit, divisorLimit, isGain}
 use Rattle.two_wire.specs.RegisterNames.{setup0, setup1, setup2, setup3, setup4, setup5, fineHigh, fineLow, coarseHigh, coarseLow, gain, clockDivisor}
 use Rattle.setting.specs.declared.Setting.{Setting}
 use Rattle.setting.specs.declared.Setting.the-variants.{Single, Double, Beyond, NoGain, Unknown}
 use Rattle.setting.specs.Number.{firstWordIs, valueIn}
 
--- ---- limits
-
--- fine exposure: 438 at 25 frames a second, 360 at 30 (004, Table 24), where the sensor clips what is above
-abbrev pub fineLimit : ℕ
-fineLimit = 438
-
-abbrev pub coarseLimit : ℕ
-coarseLimit = 302
+-- ---- limits: those of the VV5404 are the ones of crate `exposure`, fine exposure that at 25 frames a second
 
 -- the VV5300's: fine FF at 50 Hz, A8 at 60 Hz, coarse 91 (000, page 32); all eight gain codes (page 33)
 abbrev pub fineLimitVV5300 : ℕ
@@ -30,9 +24,6 @@ coarseLimitVV5300 = 0x91
 
 abbrev pub gainLimitVV5300 : ℕ
 gainLimitVV5300 = 7
-
-abbrev pub divisorLimit : ℕ
-divisorLimit = 3
 
 abbrev pub byteLimit : ℕ
 byteLimit = 255
@@ -46,10 +37,9 @@ single at i limit n = cond (ltb limit n) (Beyond at limit) (Single i n)
 unfoldable pub double : ℕ → ℕ → ℕ → ℕ → ℕ → Setting
 double at high low limit n = cond (ltb limit n) (Beyond at limit) (Double high (n / 256) low (n % 256))
 
--- a gain code of the VV5404, for a gain of 1, 2, 4 or 8
+-- a gain code of the VV5404
 unfoldable pub gainCode : ℕ → Setting
-gainCode n =
-    cond (eqb n 0) (Single gain 0) (cond (eqb n 1) (Single gain 1) (cond (eqb n 3) (Single gain 3) (cond (eqb n 7) (Single gain 7) NoGain)))
+gainCode n = cond (isGain n) (Single gain n) NoGain
 
 -- ---- names
 
@@ -70,7 +60,7 @@ sharedSetting line =
 
 unfoldable pub settingVV5404 : List ℕ → Setting
 settingVV5404 line =
-    cond (firstWordIs (ascii "fine") line) (two line 4 fineHigh fineLow fineLimit)
+    cond (firstWordIs (ascii "fine") line) (two line 4 fineHigh fineLow fineLimit25)
     (cond (firstWordIs (ascii "coarse") line) (two line 6 coarseHigh coarseLow coarseLimit)
     (cond (firstWordIs (ascii "gain") line) (gainCode (valueIn (drop 4 line)))
     (cond (firstWordIs (ascii "setup5") line) (one line 6 setup5 byteLimit) (sharedSetting line))))

@@ -3,9 +3,10 @@ use mathlib.Core.Bool.{Bool, true, false, cond}
 use mathlib.Core.List.{List}
 use Prim.Native.Nat.{ℕ, _≤_}
 use native.Mathlib.Omega.{arith}
-use lib.Dec.{ltb, eqb}
+use lib.Dec.{ltb}
 use Rattle.profile.specs.declared.Profile.{Profile}
 use Rattle.profile.specs.declared.Profile.the-variants.{VV5404, VV5300}
+use Rattle.exposure.specs.Exposure.{isGain}
 use Rattle.setting.specs.declared.Setting.{Setting}
 use Rattle.setting.specs.declared.Setting.the-variants.{Single, Double, Beyond, NoGain, Unknown}
 use Rattle.setting.specs.Number.{firstWordIs}
@@ -33,8 +34,7 @@ double-name at high low limit n h = either (ltb limit n) _ _ h (omega arith)
 
 gain-name : (n : ℕ) → nameLength (gainCode n) ≤ 8
 unfolding gainCode
-gain-name n =
-    either (eqb n 0) _ _ (omega arith) (either (eqb n 1) _ _ (omega arith) (either (eqb n 3) _ _ (omega arith) (either (eqb n 7) _ _ (omega arith) (omega arith))))
+gain-name n = either (isGain n) _ _ (omega arith) (omega arith)
 
 shared-name : (line : List ℕ) → nameLength (sharedSetting line) ≤ 8
 unfolding sharedSetting

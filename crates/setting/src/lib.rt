@@ -32,19 +32,12 @@ pub enum Setting {
     Unknown,
 }
 
-// The greatest fine exposure, at 25 frames a second, and coarse exposure (004, Table 24).
-const FINE_LIMIT: u16 = 438;
-
-const COARSE_LIMIT: u16 = 302;
-
 // The VV5300's, at 50 Hz (000, page 32), and its greatest gain code (page 33).
 const FINE_LIMIT_VV5300: u8 = 255;
 
 const COARSE_LIMIT_VV5300: u8 = 145;
 
 const GAIN_LIMIT_VV5300: u8 = 7;
-
-const DIVISOR_LIMIT: u8 = 3;
 
 const BYTE_LIMIT: u8 = 255;
 
@@ -78,7 +71,13 @@ fn read_vv5404(line: &[u8]) -> Setting
     ensures { λ r. ⌜ r ≡ settingVV5404 (now (line .entry)) ⌝ }
 {
     if begins(line, b"fine") {
-        return double(line, 4, register::FINE_HIGH, register::FINE_LOW, FINE_LIMIT);
+        return double(
+            line,
+            4,
+            register::FINE_HIGH,
+            register::FINE_LOW,
+            exposure::FINE_LIMIT_25,
+        );
     }
     if begins(line, b"coarse") {
         return double(
@@ -86,7 +85,7 @@ fn read_vv5404(line: &[u8]) -> Setting
             6,
             register::COARSE_HIGH,
             register::COARSE_LOW,
-            COARSE_LIMIT,
+            exposure::COARSE_LIMIT,
         );
     }
     if begins(line, b"gain") {
@@ -121,7 +120,7 @@ fn read_shared(line: &[u8]) -> Setting
     ensures { λ r. ⌜ r ≡ sharedSetting (now (line .entry)) ⌝ }
 {
     if begins(line, b"divisor") {
-        return single(line, 7, register::CLOCK_DIVISOR, DIVISOR_LIMIT);
+        return single(line, 7, register::CLOCK_DIVISOR, exposure::DIVISOR_LIMIT);
     }
     if begins(line, b"setup0") {
         return single(line, 6, register::SETUP0, BYTE_LIMIT);
@@ -164,17 +163,8 @@ fn double(line: &[u8], at: usize, high: u8, low: u8, limit: u16) -> Setting
 fn gain_code(value: u32) -> Setting
     ensures { λ r. ⌜ r ≡ gainCode value ⌝ }
 {
-    if value == 0 {
-        return Setting::Single(register::GAIN, 0);
-    }
-    if value == 1 {
-        return Setting::Single(register::GAIN, 1);
-    }
-    if value == 3 {
-        return Setting::Single(register::GAIN, 3);
-    }
-    if value == 7 {
-        return Setting::Single(register::GAIN, 7);
+    if exposure::is_gain(value) {
+        return Setting::Single(register::GAIN, value as u8);
     }
     Setting::NoGain
 }
