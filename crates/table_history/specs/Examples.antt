@@ -1,0 +1,79 @@
+-- A morning at the table, computed.
+use mathlib.Core.Path.{_≡_, refl}
+use mathlib.Core.List.{List, [], _∷_}
+use Prim.Native.Nat.{ℕ}
+use Rattle.profile.specs.Profile.{profileNumbered}
+use Rattle.stream.specs.declared.Answer.the-variants as answers
+use Rattle.mark_answer.specs.Judge.{judge}
+use Rattle.reader.specs.Reader.{isMark, passes, finishOf}
+use Rattle.recovery.specs.Calls.{feed, done}
+use Rattle.refinement.specs.Runs.{one}
+use Rattle.reader_table.specs.declared.ReaderTable.{ReaderTable}
+use Rattle.reader_table.specs.Table.{isTechnician, emptyTable, placeAt, withPlace, heldBy, at-place, not-placed, openPlace, openPlaceOf, callPlaceOf, closePlaceOf}
+use Rattle.table_history.specs.History.{Request, toOpen, toRead, toClose, TableCall, TableReply, openReply, callReply, serve}
+
+abbrev by : ℕ → Request → TableCall
+by n q = record { who = n; request = q }
+
+-- what everyone is told
+abbrev allTold : ReaderTable → List TableCall → List TableReply
+allTold t [] = []
+allTold t (c ∷ h) = serve t (c .who) (c .request) .told ∷ allTold (serve t (c .who) (c .request) .table) h
+
+morning : allTold emptyTable
+    (by 1 (toOpen 0)
+    ∷ by 2 (toOpen 1)
+    ∷ by 3 (toOpen 0)
+    ∷ by 1 (toOpen 2)
+    ∷ by 2 (toRead 0 (one done))
+    ∷ by 2 (toRead 1 (one done))
+    ∷ by 1 (toRead 8 (one (feed 7 (1 ∷ 2 ∷ []))))
+    ∷ by 3 (toRead 0 (one done))
+    ∷ by 1 (toClose 1)
+    ∷ by 1 (toClose 0)
+    ∷ by 1 (toClose 0)
+    ∷ by 2 (toOpen 0)
+    ∷ [])
+    ≡ openReply (at-place 0)
+    ∷ openReply (at-place 1)
+    ∷ openReply (not-placed 32)
+    ∷ openReply (not-placed 11)
+    ∷ callReply (answers.Refused 34) 0 []
+    ∷ callReply answers.Nothing 0 []
+    ∷ callReply (answers.Refused 34) 0 (1 ∷ 2 ∷ [])
+    ∷ callReply (answers.Refused 32) 0 []
+    ∷ callReply (answers.Refused 34) 0 []
+    ∷ callReply answers.Nothing 0 []
+    ∷ callReply (answers.Refused 34) 0 []
+    ∷ openReply (at-place 0)
+    ∷ []
+unfolding openPlaceOf openPlace callPlaceOf closePlaceOf heldBy placeAt withPlace isTechnician profileNumbered finishOf passes isMark judge
+morning = refl
+
+ninth : allTold emptyTable
+    (by 1 (toOpen 0)
+    ∷ by 2 (toOpen 0)
+    ∷ by 1 (toOpen 0)
+    ∷ by 2 (toOpen 0)
+    ∷ by 1 (toOpen 0)
+    ∷ by 2 (toOpen 0)
+    ∷ by 1 (toOpen 0)
+    ∷ by 2 (toOpen 0)
+    ∷ by 1 (toOpen 0)
+    ∷ by 2 (toClose 3)
+    ∷ by 1 (toOpen 1)
+    ∷ [])
+    ≡ openReply (at-place 0)
+    ∷ openReply (at-place 1)
+    ∷ openReply (at-place 2)
+    ∷ openReply (at-place 3)
+    ∷ openReply (at-place 4)
+    ∷ openReply (at-place 5)
+    ∷ openReply (at-place 6)
+    ∷ openReply (at-place 7)
+    ∷ openReply (not-placed 33)
+    ∷ callReply answers.Nothing 0 []
+    ∷ openReply (at-place 3)
+    ∷ []
+unfolding openPlaceOf openPlace callPlaceOf closePlaceOf heldBy placeAt withPlace isTechnician profileNumbered
+ninth = refl

@@ -1,0 +1,78 @@
+-- Histories of the table (02, A12): calls of technicians on one table, what each is told, and isolation as a statement. Definitions only.
+use mathlib.Core.Path.{_≡_}
+use mathlib.Core.Bool.{cond}
+use mathlib.Core.List.{List, [], _∷_}
+use Prim.Native.Nat.{ℕ}
+use lib.Dec.{eqb}
+use Rattle.stream.specs.declared.Answer.{Answer}
+use Rattle.refinement.specs.Runs.{RunCall}
+use Rattle.reader_table.specs.declared.ReaderTable.{ReaderTable}
+use Rattle.reader_table.specs.Table.{emptyTable, Placing, PlaceOpened, openPlaceOf, PlaceCalled, callPlaceOf, closePlaceOf}
+
+-- what is asked of the table: a reader of the profile with this number; a feed, run or finish of a place, with the buffer lent; or that a
+-- place is closed
+pub data Request : Type 0 where
+  toOpen : ℕ → Request
+  toRead : ℕ → RunCall → Request
+  toClose : ℕ → Request
+
+-- a call: the technician's number, and the request
+pub record TableCall : Type 0 where
+  pub who : ℕ
+  pub request : Request
+
+-- what a call is told: an opening's answer; or an answer, how many nibbles a run took, and the lent buffer as it is then
+pub data TableReply : Type 0 where
+  openReply : Placing → TableReply
+  callReply : Answer → ℕ → List ℕ → TableReply
+
+-- the table after a call, and what the call is told
+pub record Served : Type 0 where
+  pub table : ReaderTable
+  pub told : TableReply
+
+abbrev pub servedOpening : PlaceOpened → Served
+servedOpening a = record { table = a .table; told = openReply (a .placing) }
+
+abbrev pub served : PlaceCalled → Served
+served a = record { table = a .table; told = callReply (a .answer) (a .taken) (a .buffer) }
+
+-- a request, served
+abbrev pub serve : ReaderTable → ℕ → Request → Served
+serve t who (toOpen n) = servedOpening (openPlaceOf t who n)
+serve t who (toRead i c) = served (callPlaceOf t who i c)
+serve t who (toClose i) = served (closePlaceOf t who i)
+
+-- the table after a history
+abbrev pub tableAfter : ReaderTable → List TableCall → ReaderTable
+tableAfter t [] = t
+tableAfter t (c ∷ h) = tableAfter (serve t (c .who) (c .request) .table) h
+
+-- One technician's part of a history.
+
+-- what they ask, in order
+abbrev pub requestsOf : ℕ → List TableCall → List Request
+requestsOf who [] = []
+requestsOf who (c ∷ h) = cond (eqb (c .who) who) (c .request ∷ requestsOf who h) (requestsOf who h)
+
+-- what they are told, in order, from the table t on
+abbrev pub toldTo : ℕ → ReaderTable → List TableCall → List TableReply
+toldTo who t [] = []
+toldTo who t (c ∷ h) =
+    let s : Served = serve t (c .who) (c .request) in
+    cond (eqb (c .who) who) (s .told ∷ toldTo who (s .table) h) (toldTo who (s .table) h)
+
+-- the openings' answers among it
+abbrev pub openingsIn : List TableReply → List Placing
+openingsIn [] = []
+openingsIn (openReply o ∷ ts) = o ∷ openingsIn ts
+openingsIn (callReply a n buffer ∷ ts) = openingsIn ts
+
+-- Isolation: in two histories from an empty table in which a technician asks the same in the same order, lending the same buffers, with any
+-- other calls between, and their openings get the same answers, everything that they are told, and their buffers, are the same
+abbrev pub Isolated : ℕ → Type 0
+Isolated who =
+    (h k : List TableCall)
+    → requestsOf who h ≡ requestsOf who k
+    → openingsIn (toldTo who emptyTable h) ≡ openingsIn (toldTo who emptyTable k)
+    → toldTo who emptyTable h ≡ toldTo who emptyTable k

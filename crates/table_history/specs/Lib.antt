@@ -1,0 +1,13 @@
+pub mod History
+pub mod Openings
+pub mod FreePlaces
+pub mod Places
+pub mod Views
+pub mod Isolation
+pub mod OpeningLaws
+pub mod Parts
+pub mod OpeningDemand
+pub mod Lowest
+pub mod Closed
+pub mod Reached
+pub mod Examples
