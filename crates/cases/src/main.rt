@@ -3,6 +3,7 @@
 mod buffer;
 mod bus;
 mod frames;
+mod table;
 mod text;
 mod written;
 
@@ -74,6 +75,7 @@ impl Bench {
             b'n' | b's' | b'f' | b'i' | b'l' | b'e' => self.reading(command, line, n),
             b'b' | b'p' | b'w' | b'r' | b'h' => self.writing(command, n),
             b'j' | b'd' | b'g' | b'o' => self.judging(command, n),
+            b't' => self.shared(line),
             _ => self,
         }
     }
@@ -117,6 +119,12 @@ impl Bench {
             b'g' => self.with_hearing(hearing.lines(byte(n.n0), short(n.n1), short(n.n2))),
             _ => self.with_hearing(hearing.end()),
         }
+    }
+
+    // table.
+    fn shared(self, line: &[u8]) -> Bench {
+        table::calls(line);
+        self
     }
 
     fn with_bus(self, bus: Bus) -> Bench {
