@@ -3,8 +3,8 @@
 // In: a technician, 1 or 2, and a place, 0 to 7. Opening gives the lowest free place a fresh reader; feed, run, finish and close are for
 // who opened the place. Out: beside the next table, what the reader in that place answers. Refused, with table and buffer as before: 32 no
 // such technician; opening: 11 no such profile, 33 no place free; the others: 34 no such place, or it is free or another's, which are told
-// alike; then what the reader itself refuses. Finish leaves the place to its technician, and close answers no mark. Cost: the table, 3 kB, is
-// copied at each call, so a run costs little more than the reader's own, and a single nibble about a third more.
+// alike; then what the reader itself refuses. Finish leaves the place to its technician, and close answers no mark. Cost: the reader's own call,
+// and a few copies of the table, 3 kB: feed runs of nibbles rather than single ones.
 ghost use mathlib.Core.Path.{_≡_};
 ghost use Rattle.stream.specs.Answers.{refused, answerFor};
 ghost use Rattle.recovery.specs.Calls.{feed, done};
