@@ -1,0 +1,2 @@
+pub mod MarkFinder
+pub mod MarkFinderLaws
