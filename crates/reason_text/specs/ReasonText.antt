@@ -18,7 +18,7 @@ use Rattle.reason.specs.declared.FailedSums.{FailedSums}
 use Rattle.reason.specs.declared.Reason.{Reason}
 use Rattle.reason.specs.declared.Reason.the-variants.{GoodLine, GoodGap, DamagedCode, ReservedCode, UnfinishedLine, WrongLength, BadNumber, BadBody, NoEndOfLine, EndWithoutLine, BadGap, ShortGap, Refused}
 use Rattle.reason.specs.Explanation.{explanation}
-use Rattle.reason_text.specs.declared.Located.{Located}
+use Rattle.mark_finder.specs.declared.Located.{Located}
 
 -- The mark's reason, of the capture's bytes from the one that the mark begins in.
 

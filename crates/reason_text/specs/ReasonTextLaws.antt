@@ -23,7 +23,7 @@ use Rattle.capture_bytes.specs.UnpackedLaws.{front-nibbles, drop-most}
 use Rattle.reason.specs.declared.FailedSums.{FailedSums}
 use Rattle.reason.specs.declared.Reason.{Reason}
 use Rattle.reason.specs.declared.Reason.the-variants.{GoodLine, GoodGap, DamagedCode, ReservedCode, UnfinishedLine, WrongLength, BadNumber, BadBody, NoEndOfLine, EndWithoutLine, BadGap, ShortGap, Refused}
-use Rattle.reason_text.specs.declared.Located.{Located}
+use Rattle.mark_finder.specs.declared.Located.{Located}
 use Rattle.reason_text.specs.ReasonText.{mostBytes, nibblesBefore, runIn, reasonIn, codeIn, isBeyond, kindName, lineName, markWords, withLineName, sumWord, sumWords, damagedWords, reservedWords, unfinishedWords, lengthWords, numberWords, bodyWords, endWords, badGapWords, shortWords, longLineWords, answerWords, longGapWords, goodGapWords, refusedNumber, explainedWords, badPlace, spaced, hexes, part, shownBeside, around, aroundWords, markLine, lineRoom}
 
 kind-short : (k : Kind) → length (kindName k) ≤ 20

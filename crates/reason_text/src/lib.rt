@@ -12,26 +12,13 @@ ghost use Rattle.text.specs.Put.{Puts, AtFront};
 ghost use Rattle.reason_text.specs.ReasonText.{nibblesBefore, reasonOfRun, reasonIn, codeIn, kindName, lineName, markWords, withLineName, sumWord, sumWords, damagedWords, reservedWords, unfinishedWords, lengthWords, numberWords, bodyWords, endWords, badGapWords, shortWords, longLineWords, answerWords, longGapWords, goodGapWords, refusedNumber, explainedWords, badPlace, spaced, hexes, around, aroundWords, markLine, lineIfRoom};
 use line_code::Kind;
 use line_code::LineKind;
+use mark_finder::Located;
 use profile::Profile;
 use reason::FailedSums;
 use reason::Reason;
 use text::put;
 use text::put_decimal;
 use text::put_hex;
-
-// A mark of a capture.
-pub struct Located {
-    pub profile: Profile,
-    // The number of the kind of the mark before it, 0 for none.
-    pub before: u8,
-    // Its own number, counted from 1 as a listing does.
-    pub number: u64,
-    // The number that the reader refuses it with, 0 for a good line or gap.
-    pub refusal: u8,
-    // The place in the capture of the byte that it begins in, and whether it begins at the byte's low nibble.
-    pub place: u64,
-    pub low: bool,
-}
 
 // The bytes of a mark that are looked at.
 pub const MOST: usize = 1024;

@@ -1,14 +1,12 @@
 // Tells why marks of a capture are refused (paper 02, A9): the mark with the number given, as `list` counts them, or every refused mark. One
-// line for each, as reason_text says it. The capture is read in pieces, from a file or from standard input, and of the open mark no more bytes
-// are kept than are looked at. An open, a read or a write that fails is told once, on standard error, and ends the search.
+// line for each: mark_finder finds the mark, reason_text says the line. The capture is read in pieces, from a file or from standard input, and
+// of the open mark no more bytes are kept than are looked at. An open, a read or a write that fails is told once, on standard error, and ends
+// the search.
 use command::Word;
 use libc::STDOUT_FILENO;
+use mark_finder::Finder;
+use mark_finder::Located;
 use profile::Profile;
-use reader::Reader;
-use reason_text::Located;
-use stream::Answer;
-use stream::Before;
-use stream::Mark;
 
 fn main() {
     let asked = words();
@@ -154,408 +152,116 @@ fn seek_asked(asked: Asked) {
     libc::close(input.fd);
 }
 
-// The bytes in front of each piece: those before it, since a mark may begin there.
-const FRONT: usize = 4;
-
-// The bytes from the end of the next mark's code on that are kept as well, since they are shown where that code is the bad place.
-const BEHIND: usize = 5;
-
-// The open mark: its number, its place in the capture, whether it begins at a low nibble, and where its bytes go on in the piece at hand.
-struct Current {
-    number: u64,
-    place: u64,
-    low: bool,
-    from: usize,
-}
-
-// A search: the reader; the open mark, and its bytes from earlier pieces; the bytes of earlier pieces, and the last four of them; whether a line
-// was told; and whether the search has ended.
-struct Seeker {
-    reader: Reader,
-    current: Current,
-    held: [u8; reason_text::KEPT],
-    length: usize,
-    offset: u64,
-    front: [u8; FRONT],
+// A search: the finder, whether a line was told, and whether the search has ended.
+struct Search {
+    finder: Finder,
     told: bool,
     ended: bool,
 }
 
-// Searches the whole of an input. Nothing says that an input ends, so the loop counts its turns down, from a number that no run uses up.
 fn seek_all(profile: Profile, wanted: u64, fd: i32, name: &[u8]) {
-    let mut seeker = begun(profile);
+    let mut buf = io::large_buffer();
+    let mut held = [0u8; reason_text::KEPT];
+    seek_in(profile, wanted, fd, name, &mut buf, &mut held);
+}
+
+// Searches the whole of an input, behind the finder's first piece. Nothing says that an input ends, so the loop counts its turns down, from a
+// number that no run uses up.
+fn seek_in(
+    profile: Profile,
+    wanted: u64,
+    fd: i32,
+    name: &[u8],
+    buf: &mut [u8],
+    held: &mut [u8],
+) {
+    let finder = Finder::new(profile);
+    let mut search = Search {
+        finder,
+        told: false,
+        ended: false,
+    };
+    let mut n = text::put(&mark_finder::FRONT, buf, 0);
+    let mut from: usize = 0;
     let mut turns = u64::MAX;
     while turns > 0 {
-        seeker = seek_some(seeker, wanted, fd, name);
-        if seeker.ended {
+        search = seek_piece(search, wanted, buf, n, from, held);
+        if search.ended {
             return;
         }
+        mark_finder::carry(buf, n);
+        let got = read_behind(fd, buf);
+        if got < 0 {
+            os::fail(name);
+            return;
+        }
+        if got == 0 {
+            finish(search, wanted, held);
+            return;
+        }
+        n = with_overlap(got, buf);
+        from = 2 * mark_finder::OVERLAP;
         turns -= 1;
     }
 }
 
-// The reader has taken an end of line, which is mark 0 and not told: so the first mark of the capture is answered where the next one begins,
-// as all others are.
-fn begun(profile: Profile) -> Seeker {
-    let fresh = Reader::fresh(profile);
-    let start = fresh.head;
-    let mut body = fresh.body;
-    let mut line = [0u8; Profile::WIDTH];
-    let front = [0xFFu8, 0xFF, 0x00, 0x80];
-    let t = capture_bytes::run(start, &mut body, &front, 0, &mut line);
-    let head = t.head;
-    let reader = Reader { head, body };
-    let current = Current {
-        number: 0,
-        place: 0,
-        low: false,
-        from: 0,
-    };
-    Seeker {
-        reader,
-        current,
-        held: [0; reason_text::KEPT],
-        length: 0,
-        offset: 0,
-        front,
-        told: false,
-        ended: false,
-    }
-}
-
-// Reads once, and searches what came.
-fn seek_some(seeker: Seeker, wanted: u64, fd: i32, name: &[u8]) -> Seeker {
-    let mut buf = io::large_buffer();
-    let front = seeker.front;
-    buf[0] = front[0];
-    buf[1] = front[1];
-    buf[2] = front[2];
-    buf[3] = front[3];
-    let got = read_behind(fd, &mut buf);
-    if got < 0 {
-        os::fail(name);
-        return end(seeker);
-    }
-    if got == 0 {
-        return finish(seeker, wanted);
-    }
-    let n = with_front(got, &buf);
-    seek_front(seeker, wanted, &buf, n)
-}
-
-// Searches the first n bytes of a buffer.
-fn seek_front(seeker: Seeker, wanted: u64, buf: &[u8], n: usize) -> Seeker {
-    if buf.len() < n {
-        return end(seeker);
-    }
-    seek_piece(seeker, wanted, &buf[..n])
-}
-
-// Reads a piece, behind the bytes in front of it.
+// Reads a piece, behind the bytes that it has in common with the one before.
 fn read_behind(fd: i32, buf: &mut [u8]) -> isize {
-    if buf.len() < FRONT {
+    if buf.len() < mark_finder::OVERLAP {
         return 0;
     }
-    libc::read(fd, &mut buf[FRONT..])
+    libc::read(fd, &mut buf[mark_finder::OVERLAP..])
 }
 
-// How many bytes a piece has, with those in front of it, when a read has answered this.
-fn with_front(got: isize, buf: &[u8]) -> usize {
+// How many bytes a piece has, with those, when a read has answered this.
+fn with_overlap(got: isize, buf: &[u8]) -> usize {
     let n = io::count(got, buf);
-    if buf.len() - n < FRONT {
+    if buf.len() - n < mark_finder::OVERLAP {
         return buf.len();
     }
-    n + FRONT
+    n + mark_finder::OVERLAP
 }
 
-// Searches a piece, mark after mark.
-fn seek_piece(seeker: Seeker, wanted: u64, piece: &[u8]) -> Seeker {
-    let reader = seeker.reader;
-    let mut head = reader.head;
-    let mut body = reader.body;
-    let mut line = [0u8; Profile::WIDTH];
-    let mut current = seeker.current;
-    let mut held = seeker.held;
-    let mut length = seeker.length;
-    let mut told = seeker.told;
-    let mut at = 2 * FRONT;
+// Searches the first n bytes of a buffer, mark after mark, from a nibble's place on.
+fn seek_piece(
+    search: Search,
+    wanted: u64,
+    buf: &[u8],
+    n: usize,
+    from: usize,
+    held: &mut [u8],
+) -> Search {
+    let mut finder = search.finder;
+    let mut told = search.told;
+    if buf.len() < n {
+        return end(finder, told);
+    }
+    let piece = &buf[..n];
+    let mut at = from;
     while at / 2 < piece.len() {
-        let mark = head.at;
-        let t = capture_bytes::run(head, &mut body, piece, at, &mut line);
-        head = t.head;
-        let answer = t.answer;
-        let next = later(at, t.taken);
+        let found = finder.find(piece, at, held);
+        let next = later(at, found.taken);
         if next <= at {
-            return end(seeker);
-        }
-        if answer.is_answer() {
-            if is_wanted(current.number, wanted, answer) {
-                let profile = head.profile;
-                told = tell_in(
-                    profile,
-                    mark,
-                    answer,
-                    current,
-                    piece,
-                    next / 2 + BEHIND,
-                    held,
-                    length,
-                );
-                if is_last(told, wanted) {
-                    return end(seeker);
-                }
-            }
-            current = opened(current.number, seeker.offset, next);
-            length = 0;
+            return end(finder, told);
         }
         at = next;
+        finder = found.finder;
+        if found.answered {
+            let mark = found.mark;
+            if mark_finder::is_wanted(mark, wanted) {
+                told = tell(mark, held, found.length);
+                if is_last(told, wanted) {
+                    return end(finder, told);
+                }
+            }
+        }
     }
-    length = keep(piece, current.from, piece.len(), &mut held, length);
-    let reader = Reader { head, body };
-    let current = going_on(current);
-    let offset = further(seeker.offset, piece.len());
-    let front = last_four(piece);
-    Seeker {
-        reader,
-        current,
-        held,
-        length,
-        offset,
-        front,
+    let finder = finder.pass(piece, held);
+    Search {
+        finder,
         told,
         ended: false,
     }
-}
-
-// The search, ended.
-fn end(seeker: Seeker) -> Seeker {
-    let reader = seeker.reader;
-    let current = seeker.current;
-    let held = seeker.held;
-    let front = seeker.front;
-    Seeker {
-        reader,
-        current,
-        held,
-        length: seeker.length,
-        offset: seeker.offset,
-        front,
-        told: seeker.told,
-        ended: true,
-    }
-}
-
-// Answers the last mark, and ends the search. Where nothing was told, says so.
-fn finish(seeker: Seeker, wanted: u64) -> Seeker {
-    let reader = seeker.reader;
-    let head = reader.head;
-    let mark = head.at;
-    let profile = head.profile;
-    let current = seeker.current;
-    let held = seeker.held;
-    let fed = reader.finish();
-    let answer = fed.answer;
-    let mut told = seeker.told;
-    if is_wanted(current.number, wanted, answer) {
-        tell(profile, mark, answer, current, &held, seeker.length);
-        told = true;
-    }
-    if told {
-        return end(seeker);
-    }
-    if wanted == 0 {
-        command::complain(b"no mark of the capture is refused\n");
-    } else {
-        command::complain(b"the capture has no mark of that number\n");
-    }
-    end(seeker)
-}
-
-// Whether a mark's answer is to be told: the number asked for, or else any refusal. The end of line that was put in front has the number 0.
-fn is_wanted(number: u64, wanted: u64, answer: Answer) -> bool {
-    if number == 0 {
-        return false;
-    }
-    if 0 < wanted {
-        return number == wanted;
-    }
-    match answer {
-        Answer::Nothing => false,
-        Answer::Line(_) => false,
-        Answer::Gap(_) => false,
-        Answer::Refused(_) => true,
-    }
-}
-
-// Whether a line that was told, or could not be, is the last.
-fn is_last(told: bool, wanted: u64) -> bool {
-    if told {
-        return 0 < wanted;
-    }
-    true
-}
-
-// Tells a mark. Its bytes are the first n of those held, and those of the piece up to a place.
-fn tell_in(
-    profile: Profile,
-    mark: Mark,
-    answer: Answer,
-    current: Current,
-    piece: &[u8],
-    to: usize,
-    held: [u8; reason_text::KEPT],
-    n: usize,
-) -> bool {
-    let mut all = held;
-    let length = keep(piece, current.from, to, &mut all, n);
-    tell(profile, mark, answer, current, &all, length)
-}
-
-// Tells a mark. Its bytes are the first n of those held.
-fn tell(
-    profile: Profile,
-    mark: Mark,
-    answer: Answer,
-    current: Current,
-    held: &[u8],
-    n: usize,
-) -> bool {
-    if held.len() < n {
-        return false;
-    }
-    let before = kind_before(mark);
-    let refusal = refusal_in(answer);
-    let located = Located {
-        profile,
-        before,
-        number: current.number,
-        refusal,
-        place: current.place,
-        low: current.low,
-    };
-    let mut out = io::buffer();
-    let used = reason_text::tell(located, &held[..n], &mut out);
-    write_front(&out, used)
-}
-
-// The number that an answer refuses with, 0 for a good line or gap.
-fn refusal_in(answer: Answer) -> u8 {
-    match answer {
-        Answer::Nothing => 0,
-        Answer::Line(_) => 0,
-        Answer::Gap(_) => 0,
-        Answer::Refused(number) => number,
-    }
-}
-
-// Writes the first n bytes of a buffer.
-fn write_front(buf: &[u8], n: usize) -> bool {
-    if buf.len() < n {
-        return false;
-    }
-    write(&buf[..n])
-}
-
-// Writes a text, or says why it cannot.
-fn write(text: &[u8]) -> bool {
-    let is_written = io::write_all(STDOUT_FILENO, text);
-    if !is_written {
-        os::fail(b"standard output");
-    }
-    is_written
-}
-
-// The number of the kind of the mark before, 0 for none.
-fn kind_before(mark: Mark) -> u8 {
-    match mark {
-        Mark::NoMark => 0,
-        Mark::Open(before, _) => number_before(before),
-    }
-}
-
-fn number_before(before: Before) -> u8 {
-    match before {
-        Before::NoLine => 0,
-        Before::RefusedLine(kind) => kind.number(),
-        Before::HandedOut(kind) => kind.number(),
-    }
-}
-
-// Puts the bytes of a piece from one place up to another behind the first n of those held, as far as there is room, and gives how many are
-// held then.
-fn keep(piece: &[u8], from: usize, to: usize, held: &mut [u8], n: usize) -> usize {
-    let mut length = n;
-    let mut i = from;
-    while i < to {
-        if piece.len() <= i {
-            return length;
-        }
-        if held.len() <= length {
-            return length;
-        }
-        held[length] = piece[i];
-        length += 1;
-        i += 1;
-    }
-    length
-}
-
-// The mark whose code ends just before a nibble of the piece.
-fn opened(number: u64, offset: u64, next: usize) -> Current {
-    let number = counts::one_more(number);
-    if next < 2 * FRONT {
-        return Current {
-            number,
-            place: offset,
-            low: false,
-            from: 0,
-        };
-    }
-    let start = next - 2 * FRONT;
-    let from = start / 2;
-    let place = place_of(offset, from);
-    let low = start % 2 == 1;
-    Current {
-        number,
-        place,
-        low,
-        from,
-    }
-}
-
-// The open mark at the end of a piece: in the next one its bytes go on behind the front.
-fn going_on(current: Current) -> Current {
-    Current {
-        number: current.number,
-        place: current.place,
-        low: current.low,
-        from: FRONT,
-    }
-}
-
-// The place in the capture of a piece's byte: in front of the piece stand the last bytes of those before it.
-fn place_of(offset: u64, i: usize) -> u64 {
-    let place = added(offset, i);
-    if place < 4 {
-        return 0;
-    }
-    place - 4
-}
-
-// The bytes of all pieces, with one piece more.
-fn further(offset: u64, length: usize) -> u64 {
-    if length < FRONT {
-        return offset;
-    }
-    added(offset, length - FRONT)
-}
-
-fn added(offset: u64, n: usize) -> u64 {
-    let more = n as u64;
-    if u64::MAX - more < offset {
-        return offset;
-    }
-    offset + more
 }
 
 // A place and some nibbles more: the same place where there are more than any piece has.
@@ -569,11 +275,58 @@ fn later(at: usize, taken: usize) -> usize {
     at + taken
 }
 
-// The last four bytes of a piece.
-fn last_four(piece: &[u8]) -> [u8; FRONT] {
-    let n = piece.len();
-    if n < FRONT {
-        return [0; FRONT];
+fn end(finder: Finder, told: bool) -> Search {
+    Search {
+        finder,
+        told,
+        ended: true,
     }
-    [piece[n - 4], piece[n - 3], piece[n - 2], piece[n - 1]]
+}
+
+// Whether a line that was told, or could not be, is the last.
+fn is_last(told: bool, wanted: u64) -> bool {
+    if told {
+        return 0 < wanted;
+    }
+    true
+}
+
+// Tells the last mark, where it is asked for. Where nothing was told, says so.
+fn finish(search: Search, wanted: u64, held: &[u8]) {
+    let finder = search.finder;
+    let mark = finder.finish();
+    if mark_finder::is_wanted(mark, wanted) {
+        tell(mark, held, finder.length);
+        return;
+    }
+    if search.told {
+        return;
+    }
+    if wanted == 0 {
+        command::complain(b"no mark of the capture is refused\n");
+    } else {
+        command::complain(b"the capture has no mark of that number\n");
+    }
+}
+
+// Tells a mark, whose bytes are the first n of those held.
+fn tell(mark: Located, held: &[u8], n: usize) -> bool {
+    if held.len() < n {
+        return false;
+    }
+    let mut out = io::buffer();
+    let used = reason_text::tell(mark, &held[..n], &mut out);
+    write_front(&out, used)
+}
+
+// Writes the first n bytes of a buffer, or says why it cannot.
+fn write_front(buf: &[u8], n: usize) -> bool {
+    if buf.len() < n {
+        return false;
+    }
+    let is_written = io::write_all(STDOUT_FILENO, &buf[..n]);
+    if !is_written {
+        os::fail(b"standard output");
+    }
+    is_written
 }
