@@ -75,7 +75,7 @@ opening f r next =
 -- Its bytes.
 
 -- the bytes from one place up to another
-unfoldable pub span : List ℕ → ℕ → ℕ → List ℕ
+abbrev pub span : List ℕ → ℕ → ℕ → List ℕ
 span bytes from to = take (to - from) (drop from bytes)
 
 -- those of a piece up to a place are put behind the ones that are kept, as far as there is room: how many there are then, and the buffer

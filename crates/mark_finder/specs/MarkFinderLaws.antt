@@ -33,7 +33,6 @@ use Rattle.mark_finder.specs.MarkFinder.{located, opening, span, answeri
 -- a part of a list, cut to its length
 span-cut : (bytes : List ℕ) (from to end first : ℕ) → end ≡ min to (length bytes) → first ≡ min from end
     → take (end - first) (drop first bytes) ≡ span bytes from to
-unfolding span
 span-cut bytes from to end first e f = go (leb from end) refl
   where
     go : (b : Bool) → leb from end ≡ b → take (end - first) (drop first bytes) ≡ take (to - from) (drop from bytes)

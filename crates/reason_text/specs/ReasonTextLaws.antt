@@ -1,91 +1,23 @@
 -- How long the line on a mark can be; and the bytes in hex one at a time.
 use mathlib.Core.Path.{_≡_, refl, ap, ap₂, sym, subst, _∙_}
-use mathlib.Core.Bool.{Bool, true, false, cond}
+use mathlib.Core.Bool.{Bool, true, false}
 use mathlib.Core.List.{List, [], _∷_, _++_}
 use Prim.Native.Nat.{ℕ, zero, suc, _+_, _-_, _*_, _/_, _≤_, _<_, min}
 use native.Mathlib.Omega.{arith}
-use lib.Dec.{leb, eqb, ltb}
+use lib.Dec.{leb, ltb}
 use lib.ListN.{length, take, drop, getD, length-append, length-take, length-drop}
 use lib.Seq.{take-all}
 use borrow.Author.Tests.{leb-true, leb-false}
-use Rattle.text.specs.Text.{ascii}
 use Rattle.text.specs.Put.{Puts}
 use Rattle.text.specs.TextLaws.{decimal-short}
-use Rattle.line_code.specs.declared.Kind.{Kind}
-use Rattle.line_code.specs.declared.Kind.the-variants.{BL, BK, VL, SOF, EOF}
-use Rattle.line_code.specs.declared.LineKind.{LineKind}
-use Rattle.line_code.specs.declared.LineKind.the-variants.{NotLine, LineOf}
-use Rattle.line_code.specs.LineCode.{readingOf, kindOf}
 use Rattle.stream.specs.Written.{nibbles}
 use Rattle.stream.specs.NibblesLaws.{nibbles-length}
 use Rattle.capture_bytes.specs.Unpacked.{unpacked}
 use Rattle.capture_bytes.specs.UnpackedLaws.{front-nibbles, drop-most}
-use Rattle.reason.specs.declared.FailedSums.{FailedSums}
-use Rattle.reason.specs.declared.Reason.{Reason}
-use Rattle.reason.specs.declared.Reason.the-variants.{GoodLine, GoodGap, DamagedCode, ReservedCode, UnfinishedLine, WrongLength, BadNumber, BadBody, NoEndOfLine, EndWithoutLine, BadGap, ShortGap, Refused}
+use Rattle.reason_words.specs.ReasonWordsLaws.{either-short, reason-short}
 use Rattle.mark_finder.specs.declared.Located.{Located}
-use Rattle.reason_text.specs.ReasonText.{mostBytes, nibblesBefore, runIn, reasonIn, codeIn, isBeyond, kindName, lineName, markWords, withLineName, sumWord, sumWords, damagedWords, reservedWords, unfinishedWords, lengthWords, numberWords, bodyWords, endWords, badGapWords, shortWords, longLineWords, answerWords, longGapWords, goodGapWords, refusedNumber, explainedWords, badPlace, spaced, hexes, part, shownBeside, around, aroundWords, markLine, lineRoom}
-
-kind-short : (k : Kind) → length (kindName k) ≤ 20
-kind-short BL = omega arith
-kind-short BK = omega arith
-kind-short VL = omega arith
-kind-short SOF = omega arith
-kind-short EOF = omega arith
-
-name-short : (k : LineKind) → length (lineName k) ≤ 20
-name-short NotLine = omega arith
-name-short (LineOf k) = kind-short k
-
-line-short : (words : List ℕ) (code : ℕ) → length (withLineName words code) ≤ length words + 20
-unfolding withLineName
-line-short words code = simp length-append (omega (arith, name-short (kindOf (readingOf code))))
-
-either-short : (b : Bool) (v w : List ℕ) (n : ℕ) → length v ≤ n → length w ≤ n → length (cond b v w) ≤ n
-either-short true v w n h g = h
-either-short false v w n h g = g
-
-sum-short : (b : Bool) (name : List ℕ) → length (sumWord b name) ≤ length name
-unfolding sumWord
-sum-short true name = omega arith
-sum-short false name = omega arith
-
-sums-short : (s : FailedSums) → length (sumWords s) ≤ 12
-unfolding sumWords
-sums-short s =
-    simp length-append
-    (omega (arith, sum-short (s .p0) (ascii " P0"), sum-short (s .p1) (ascii " P1"), sum-short (s .p2) (ascii " P2"), sum-short (s .p3) (ascii " P3")))
-
-long-line-short : (refusal code : ℕ) → length (longLineWords refusal code) ≤ 120
-unfolding longLineWords refusedNumber
-long-line-short refusal code = simp length-append (omega (arith, decimal-short refusal, line-short (ascii ": ") code))
-
-answer-short : (refusal : ℕ) → length (answerWords refusal) ≤ 40
-unfolding answerWords refusedNumber
-answer-short refusal = either-short (eqb refusal 0) _ _ 40 (omega arith) (simp length-append (omega (arith, decimal-short refusal)))
-
-long-gap-short : (refusal : ℕ) → length (longGapWords refusal) ≤ 120
-unfolding longGapWords
-long-gap-short refusal = simp length-append (omega (arith, answer-short refusal))
-
-reason-short : (cut : Bool) (refusal code : ℕ) (r : Reason) → length (explainedWords cut refusal code r) ≤ 120
-unfolding explainedWords goodGapWords damagedWords reservedWords unfinishedWords lengthWords numberWords bodyWords endWords badGapWords shortWords refusedNumber
-reason-short cut refusal code GoodLine = omega (arith, line-short (ascii "good ") code)
-reason-short cut refusal code GoodGap = either-short cut _ _ 120 (long-gap-short refusal) (omega arith)
-reason-short cut refusal code (DamagedCode byte sums) = simp length-append (omega (arith, sums-short sums))
-reason-short cut refusal code ReservedCode = simp length-append (omega arith)
-reason-short cut refusal code UnfinishedLine =
-    either-short cut _ _ 120 (long-line-short refusal code)
-    (simp length-append (omega (arith, line-short (ascii "refused 3: ") code)))
-reason-short cut refusal code (WrongLength found wanted) =
-    simp length-append (omega (arith, line-short (ascii "refused 4: ") code, decimal-short found, decimal-short wanted))
-reason-short cut refusal code (BadNumber place byte) = simp length-append (omega (arith, line-short (ascii "refused 5: ") code, decimal-short place))
-reason-short cut refusal code (BadBody place byte) = simp length-append (omega (arith, line-short (ascii "refused 6: ") code, decimal-short place))
-reason-short cut refusal code (NoEndOfLine next) = simp length-append (omega (arith, line-short (ascii "refused 7: ") code))
-reason-short cut refusal code EndWithoutLine = omega arith
-reason-short cut refusal code (BadGap place nibble) = simp length-append (omega (arith, decimal-short place))
-reason-short cut refusal code (ShortGap nibbles) = simp length-append (omega (arith, decimal-short nibbles))
-reason-short cut refusal code (Refused number) = simp length-append (omega (arith, decimal-short number))
+use Rattle.mark_finder.specs.MarkFinder.{span}
+use Rattle.reason_text.specs.ReasonText.{mostBytes, nibblesBefore, runIn, reasonIn, codeIn, isBeyond, markWords, badPlace, spacedHex, hexes, shownBeside, aroundBad, aroundWords, markLine, lineRoom}
 
 -- Bytes in hex.
 
@@ -98,11 +30,11 @@ take-short zero w = omega arith
 take-short (suc n) [] = omega arith
 take-short (suc n) (x ∷ w) = let h = take-short n w in omega arith
 
-around-short : (bytes : List ℕ) (i : ℕ) → length (around bytes i) ≤ 29
-unfolding around
+around-short : (bytes : List ℕ) (i : ℕ) → length (aroundBad bytes i) ≤ 29
+unfolding aroundBad
 around-short bytes i =
-    let before = part bytes (i - min i shownBeside) i in
-    let after = part bytes (i + 1) (min (length bytes) (i + 1 + shownBeside)) in
+    let before = span bytes (i - min i shownBeside) i in
+    let after = span bytes (i + 1) (min (length bytes) (i + 1 + shownBeside)) in
     simp length-append
     (omega (arith, hexes-length before, hexes-length after, take-short (i - (i - min i shownBeside)) (drop (i - min i shownBeside) bytes), take-short (min (length bytes) (i + 1 + shownBeside) - (i + 1)) (drop (i + 1) bytes)))
 
@@ -122,10 +54,10 @@ mark-line-short m bytes =
     (omega (arith, decimal-short (m .number), decimal-short (m .place), reason-short (isBeyond bytes) (m .refusal) (codeIn (m .low) bytes) (reasonIn m bytes), around-words-short bytes (m .low) (badPlace (m .profile) (reasonIn m bytes))))
 
 -- one byte more, and all of them
-pub hexes-more : (bs : List ℕ) (i : ℕ) → i < length bs → hexes (take (suc i) bs) ≡ hexes (take i bs) ++ spaced (getD bs i 0)
+pub hexes-more : (bs : List ℕ) (i : ℕ) → i < length bs → hexes (take (suc i) bs) ≡ hexes (take i bs) ++ spacedHex (getD bs i 0)
 hexes-more [] i h = absurd (omega arith)
 hexes-more (b ∷ bs) zero h = refl
-hexes-more (b ∷ bs) (suc i) h = ap (λ (l : List ℕ). spaced b ++ l) (hexes-more bs i (omega arith))
+hexes-more (b ∷ bs) (suc i) h = ap (λ (l : List ℕ). spacedHex b ++ l) (hexes-more bs i (omega arith))
 
 pub hexes-whole : (bs : List ℕ) (i : ℕ) {d d₁ : List ℕ} {at r : ℕ} → length bs ≤ i → Puts d at (hexes (take i bs)) r d₁ → Puts d at (hexes bs) r d₁
 hexes-whole bs i {d} {d₁} {at} {r} h p = subst (λ (t : List ℕ). Puts d at (hexes t) r d₁) (take-all i bs h) p

@@ -167,14 +167,7 @@ fn seek_all(profile: Profile, wanted: u64, fd: i32, name: &[u8]) {
 
 // Searches the whole of an input, behind the finder's first piece. Nothing says that an input ends, so the loop counts its turns down, from a
 // number that no run uses up.
-fn seek_in(
-    profile: Profile,
-    wanted: u64,
-    fd: i32,
-    name: &[u8],
-    buf: &mut [u8],
-    held: &mut [u8],
-) {
+fn seek_in(profile: Profile, wanted: u64, fd: i32, name: &[u8], buf: &mut [u8], held: &mut [u8]) {
     let finder = Finder::new(profile);
     let mut search = Search {
         finder,
@@ -300,6 +293,10 @@ fn finish(search: Search, wanted: u64, held: &[u8]) {
         return;
     }
     if search.told {
+        return;
+    }
+    if mark.number == 0 {
+        command::complain(b"the capture has no mark\n");
         return;
     }
     if wanted == 0 {

@@ -27,7 +27,7 @@ same-length : tie.Need-same-length
 same-length c = search needs
 
 returns : tie.Need-returns
-returns c = 
+returns c =
     let put = c .before .before in
     let a = put .before .before .before .before .before .before .before .args in
     span-put (now (a .piece)) (a .begin) (a .to) (put .before .before .before .before .lesser .ensures) (put .before .before .before .lesser2 .ensures) (put .put .ensures)

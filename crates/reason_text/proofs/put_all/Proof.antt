@@ -15,7 +15,7 @@ returns c =
     let mark = reason .before .before .before .before in
     let code = mark .before .before in
     simp (← code .before .reason-in .ensures, ← code .code-in .ensures, ← place .bad-place .ensures .0)
-    (then (mark .put-mark .ensures) (then (reason .put-reason .ensures) (then (around .put-around .ensures) (end .put .ensures))))
+    (then (mark .put-mark .ensures) (then (reason .put-explained .ensures) (then (around .put-around .ensures) (end .put .ensures))))
 
 pub put-all-spec : {M : Type 1} → statement M
 put-all-spec =

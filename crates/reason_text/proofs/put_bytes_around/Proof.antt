@@ -1,12 +1,12 @@
 -- The bytes before, the one in brackets, and the bytes after, one after another.
 use Rattle.text.specs.PutLaws.{then}
-use Rattle.reason_text.specs.ReasonText.{around}
+use Rattle.reason_text.specs.ReasonText.{aroundBad}
 use borrow.Author.Needs.{needs}
 use Rattle.reason_text.proofs.put_bytes_around.Statement.{statement}
 use Rattle.reason_text.proofs.put_bytes_around.Tie as tie
 
 returns : tie.Need-returns
-unfolding around
+unfolding aroundBad
 returns c =
     let after = c .before .before in
     let close = after .before .before .before .before .before in

@@ -24,7 +24,7 @@ is-answer-requires : tie.Need-is-answer-requires
 is-answer-requires c κs = search needs
 
 add-next : tie.Need-add-next
-add-next c = 
+add-next c =
     let run = c .before .before .before .before .before .before .before in
     let start = run .before .before .before .before .before .before .before in
     let a = start .args in
@@ -44,7 +44,7 @@ same-length c = search needs
 
 returns : tie.Need-returns
 unfolding findOf
-returns c = 
+returns c =
     let keep = c .before .before .before in
     let test = keep .before .before .before in
     let locate = test .before .before in
@@ -53,7 +53,7 @@ returns c =
 
 returns-2 : tie.Need-returns-2
 unfolding findOf
-returns-2 c = 
+returns-2 c =
     let a = c .before .before .before .before .before .before .before .before .before .before .before .before .before .args in
     finds-on (a .self) (now (a .piece)) (a .from) (now (a .held)) (c .before .before .before .before .before .before .run .ensures) (sym (c .before .is-answer .ensures) ∙ c .if1 .left) (c .before .before .locate .ensures)
 

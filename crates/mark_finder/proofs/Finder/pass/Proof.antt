@@ -18,7 +18,7 @@ same-length c = search needs
 
 returns : tie.Need-returns
 unfolding passOf
-returns c = 
+returns c =
     let keep = c .before .before .before .before .before in
     record { gives = simp (keep .keep .ensures .place, c .before .further .ensures, c .before .before .less .ensures); leaves = keep .keep .ensures .stored }
 

@@ -1,0 +1,4 @@
+pub mod Standing
+pub mod RunMeans
+pub mod BeginLaws
+pub mod StandingLaws

@@ -1,0 +1,1 @@
+// Laws only: the marks that are found are the capture's own.
