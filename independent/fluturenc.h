@@ -1,10 +1,12 @@
 /* Fluturenc for C: reads, writes and judges the digital video bus of VV5404 sensors (profile 0) and of VV5300 sensors in 8-bit conversion
- * (profile 1). The functions are proved in Rattle; crates/fluturenc/src/lib.rt has their contracts, and `rt staticlib fluturenc` writes
- * target/staticlib/libfluturenc.a to link, for x86-64. Nothing checks these declarations against that source.
+ * (profile 1), and what goes with it, a group of calls after another. The functions are proved in Rattle. Each group has a crate of its own, named
+ * at its head: crates/CRATE/src/lib.rt has the contracts, and `rt staticlib CRATE` writes target/staticlib/libCRATE.a to link, for x86-64. An archive
+ * needs no other. Nothing checks these declarations against that source.
  *
  * Buffers are lent: no call keeps a pointer or allocates. No pointer may be null, and no two buffers of a call may overlap. Nothing is
  * asked of what they hold: every call is answered, and room beyond what it writes stays as it was. A call that is refused changes nothing,
- * but that feeding takes what stands before an input above 15. */
+ * but that feeding takes what stands before an input above 15. A call that fills a buffer answers 0 and puts the length at `written`, or answers
+ * the refusal, puts 0 there and fills nothing. Refusals are listed in the order in which they are looked for. */
 #ifndef FLUTURENC_H
 #define FLUTURENC_H
 
@@ -29,6 +31,8 @@ extern "C" {
 /* The bytes of a body of each profile. A line buffer for the longer will do for both. */
 #define FLUTURENC_VV5404_BODY 356
 #define FLUTURENC_VV5300_BODY 168
+
+/* ---- Reading, writing and judging: crate fluturenc. */
 
 /* The reader. Its state is bytes, which may be moved and copied: a copy is a reader of its own. */
 
@@ -109,6 +113,50 @@ uint8_t fluturenc_judge(uint32_t *judge, uint8_t kind, uint16_t number);
 #define FLUTURENC_WAITING 0
 #define FLUTURENC_GOING 1
 #define FLUTURENC_COMPLETE 2
+
+/* ---- Pictures, and the order of pixels: crate fluturenc_picture. */
+
+/* A picture is the visible lines of a complete profile 0 frame, top to bottom and end to end: 292 rows of 356 pixels with borders on, 288 with
+ * borders off. Its file is a binary PGM: a header of 15 bytes, and the pixels. */
+#define FLUTURENC_MOST_PIXELS (292 * FLUTURENC_VV5404_BODY)
+#define FLUTURENC_LONGEST_FILE (15 + FLUTURENC_MOST_PIXELS)
+
+/* The file of rows. Refused: 21 the rows are not 292 or 288, 22 a pixel is not 01 to FE, 12 too little room. */
+uint8_t fluturenc_picture_write(const uint8_t *rows, size_t rows_length, uint8_t *file, size_t file_length, size_t *written);
+
+/* The rows of a file. Refused: 20 not such a header, 21 not as many pixels as it says, 22 a pixel is not 01 to FE, 12 too little room. */
+uint8_t fluturenc_picture_read(const uint8_t *file, size_t file_length, uint8_t *rows, size_t rows_length, size_t *written);
+
+/* The pixels, in their order, of a body from a head that sends odd pixels first; and the body that such a head sends of pixels. Each undoes the
+ * other. Refused: 23 the kind is not FLUTURENC_VL, 15 what is given is not 356 bytes, 12 too little room. */
+uint8_t fluturenc_to_pixels(uint8_t kind, const uint8_t *body, size_t body_length, uint8_t *pixels, size_t pixels_length, size_t *written);
+
+uint8_t fluturenc_to_body(uint8_t kind, const uint8_t *pixels, size_t pixels_length, uint8_t *body, size_t body_length, size_t *written);
+
+/* ---- Two-wire messages: crate fluturenc_two_wire. */
+
+/* A sensor as messages see it is bytes, which may be moved and copied: 128 registers, the current index, and 1 where the increment flag is set,
+ * else 0. A message is the list of its acknowledged bytes between start and stop or repeated start. */
+#define FLUTURENC_SENSOR_INDEX 128
+#define FLUTURENC_SENSOR_INCREMENT 129
+
+/* The first byte of a message that writes, and of one that reads. */
+#define FLUTURENC_WRITE_ADDRESS 32
+#define FLUTURENC_READ_ADDRESS 33
+
+/* The bytes of a sensor. */
+size_t fluturenc_sensor_length(void);
+
+/* Puts a fresh sensor there, all 0: 0; or 12 fewer bytes than fluturenc_sensor_length(). */
+uint8_t fluturenc_sensor_reset(uint8_t *sensor, size_t sensor_length);
+
+/* Takes one message: 0; or the refusal: 11 the bytes hold no sensor, 24 shorter than two bytes, 25 address, 26 the second byte of a read is not the
+ * index and the flag held, 27 read data differs, 28 data past register 127. */
+uint8_t fluturenc_sensor_message(uint8_t *sensor, size_t sensor_length, const uint8_t *message, size_t message_length);
+
+/* Writes a message of three bytes for each pair of the list: index, value, index, value, .. Refused: 24 the list ends within a pair, 28 an index
+ * above 127, 12 too little room. */
+uint8_t fluturenc_messages(const uint8_t *pairs, size_t pairs_length, uint8_t *messages, size_t messages_length, size_t *written);
 
 #ifdef __cplusplus
 }

@@ -1,12 +1,16 @@
-//! A reader, a writer and a judge of the video bus in plain Rust, written from the papers alone: an independent version to compare
-//! Fluturenc's proved code with, by running both. Simple on purpose: a text is a vector of nibbles, and a mark is looked for at its end.
+//! Fluturenc's calls in plain Rust, written from the papers alone: an independent version to compare the proved code with, by running both. Simple
+//! on purpose: a text is a vector of nibbles, and a mark is looked for at its end.
 //!
-//! `proved` is the proved code behind safe functions; `random` and `streams` make what both are run on.
+//! The proved code is called through its safe wrapper (rust/), in types, and in numbers where no type lets a wrong call through. `random` and
+//! `streams` make what both are run on; `check` ends a run at the first difference.
 
+pub mod check;
 pub mod judge;
 pub mod layout;
-pub mod proved;
+pub mod picture;
 pub mod random;
 pub mod reader;
 pub mod streams;
+pub mod told;
+pub mod two_wire;
 pub mod writer;

@@ -10,6 +10,7 @@ use lib.Dec.{eqb, leb, ltb}
 use lib.ListN.{length, length-replicate}
 use Rattle.bits.specs.Every.{and-left, and-right}
 use Rattle.refusal.specs.Refusal.{notANibble, badState, noRoom}
+use Rattle.lent_call.specs.LentCall.{bitOf, Called}
 use Rattle.line_code.specs.declared.Kind.{Kind}
 use Rattle.line_code.specs.declared.Kind.the-variants.{BL, BK, VL, SOF, EOF}
 use Rattle.line_code.specs.LineCode.{kindNumber, repairNumber}
@@ -33,8 +34,8 @@ use Rattle.frame.specs.declared.Judge.{Judge}
 use Rattle.frame.specs.declared.Judge.the-variants.{Waiting, Due}
 use Rattle.frame.specs.Frame.{judgeOf}
 use Rattle.frame.specs.Frame as frame
-use Rattle.fluturenc.specs.State.{stateLength, bitOf, stored, holdsReader, readerIn}
-use Rattle.fluturenc.specs.Calls.{Called, FeedCalled, answerNumber, openCall, feedCall, feedRan, finishCall, judgeNumber, judgeNumbered, rulingNumber, judgeCall}
+use Rattle.fluturenc.specs.State.{stateLength, stored, holdsReader, readerIn}
+use Rattle.fluturenc.specs.Calls.{FeedCalled, answerNumber, openCall, feedCall, feedRan, finishCall, judgeNumber, judgeNumbered, rulingNumber, judgeCall}
 use Rattle.fluturenc.specs.StateLaws.{reader-back, stored-length, stored-holds}
 
 -- Readers that calls reach: the code is a byte, the test passes, and the body has its length.

@@ -5,6 +5,7 @@ use Prim.Native.Nat.{ℕ, _+_, _*_, _%_}
 use lib.Dec.{eqb, leb, ltb}
 use lib.ListN.{length}
 use Rattle.refusal.specs.Refusal.{badState, noRoom}
+use Rattle.lent_call.specs.LentCall.{bitOf, Called}
 use Rattle.line_code.specs.LineCode.{kindNumber, repairNumber}
 use Rattle.profile.specs.declared.Numbered.{Numbered}
 use Rattle.profile.specs.declared.Numbered.the-variants as numbered
@@ -15,8 +16,6 @@ use Rattle.stream.specs.declared.Answer.the-variants as answers
 use Rattle.stream.specs.Answers.{eitherRepaired, refused, answerFor, bufferAfter}
 use Rattle.reader.specs.Reader.{freshReader, finishOf}
 use Rattle.run.specs.Run.{Ran, ran, runOf}
-use Rattle.lent_buffer.specs.Filled as filled
-use Rattle.lent_buffer.specs.Filled.{Output}
 use Rattle.frame.specs.declared.Borders.{Borders}
 use Rattle.frame.specs.declared.Borders.the-variants.{Unsettled, On, Off}
 use Rattle.frame.specs.declared.Judge.{Judge}
@@ -24,7 +23,7 @@ use Rattle.frame.specs.declared.Judge.the-variants as judge
 use Rattle.frame.specs.declared.Ruling.{Ruling}
 use Rattle.frame.specs.declared.Ruling.the-variants as ruling
 use Rattle.frame.specs.Frame.{judgeOf}
-use Rattle.fluturenc.specs.State.{stateLength, bitOf, stored, holdsReader, readerIn}
+use Rattle.fluturenc.specs.State.{stateLength, stored, holdsReader, readerIn}
 
 -- Answers as numbers.
 
@@ -37,11 +36,6 @@ answerNumber (answers.Gap g) = 0x100000000 * g .period .0 + 0x2000000 + 0x100 * 
 answerNumber (answers.Refused n) = n
 
 -- A call on a reader's state.
-
--- its answer, and the state afterwards
-pub record Called : Type 0 where
-  pub answer : ℕ
-  pub state : List ℕ
 
 abbrev pub openFor : Numbered → List ℕ → Called
 openFor numbered.NoProfile s = record { answer = badState; state = s }
@@ -78,16 +72,6 @@ feedRan t s line =
 -- 11, or what a run of the reader that the state holds answers and leaves: of the state, the nibbles and the line buffer
 unfoldable pub feedCall : List ℕ → List ℕ → List ℕ → FeedCalled
 feedCall s w line = feedRan (cond (holdsReader s) (runOf (readerIn s) w (length line)) (ran (readerIn s) (refused badState) 0)) s line
-
--- Writing: 0 or the refusal, and how many nibbles.
-
-abbrev pub writtenNumber : Output → ℕ
-writtenNumber (filled.used n w) = 0
-writtenNumber (filled.refused n) = n
-
-abbrev pub writtenCount : Output → ℕ
-writtenCount (filled.used n w) = n
-writtenCount (filled.refused n) = 0
 
 -- Judging.
 

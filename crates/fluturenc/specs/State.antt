@@ -6,6 +6,7 @@ use mathlib.Core.List.{List, [], _∷_, _++_}
 use Prim.Native.Nat.{ℕ, _+_, _-_, _*_, _/_, _%_}
 use lib.Dec.{eqb, leb, ltb}
 use lib.ListN.{length, getD, take, drop}
+use Rattle.lent_call.specs.LentCall.{bitOf}
 use Rattle.line_code.specs.LineCode.{kindNumber, kindNumbered}
 use Rattle.profile.specs.declared.Profile.{Profile}
 use Rattle.profile.specs.declared.Profile.the-variants.{VV5404, VV5300}
@@ -49,10 +50,6 @@ markNumber (Open before code) = beforeNumber before
 abbrev pub codeOf : Mark → ℕ
 codeOf NoMark = 0
 codeOf (Open before code) = code
-
-abbrev pub bitOf : Bool → ℕ
-bitOf true = 1
-bitOf false = 0
 
 -- a number's four bytes, the highest first, in front of others
 abbrev pub fourBytes : ℕ → List ℕ → List ℕ

@@ -9,6 +9,7 @@ use lib.Dec.{eqb, leb}
 use lib.ListN.{length, getD, take, drop, length-append, length-drop}
 use lib.Seq.{take-at}
 use Rattle.bits.specs.Every.{and-left, and-both}
+use Rattle.lent_call.specs.LentCallLaws.{bit-back, bit-tag}
 use Rattle.line_code.specs.declared.Kind.the-variants.{BL, BK, VL, SOF, EOF}
 use Rattle.line_code.specs.LineCode.{kindNumbered}
 use Rattle.profile.specs.declared.Profile.{Profile}
@@ -21,7 +22,7 @@ use Rattle.stream.specs.declared.Mark.the-variants.{NoMark, Open}
 use Rattle.reader.specs.declared.Head.{Head}
 use Rattle.reader.specs.declared.Reader.{Reader}
 use Rattle.reader.specs.Reader.{passes}
-use Rattle.fluturenc.specs.State.{stateLength, beforeNumber, beforeNumbered, greatestMark, markNumber, codeOf, bitOf, headBytes, stored, profileOf, markNumbered, numberOf, headIn, readerIn, tagged, holdsReader}
+use Rattle.fluturenc.specs.State.{stateLength, beforeNumber, beforeNumbered, greatestMark, markNumber, codeOf, headBytes, stored, profileOf, markNumbered, numberOf, headIn, readerIn, tagged, holdsReader}
 
 pub holds-length : (s : List ℕ) → holdsReader s ≡ true → stateLength ≤ length s
 unfolding holdsReader
@@ -67,10 +68,6 @@ mark-back (Open before code) = open-back before code ∙ ap (λ (b : Before). Op
 number-back : (n : ℕ) → numberOf (n / 0x1000000) (n / 0x10000 % 256) (n / 0x100 % 256) (n % 256) ≡ n
 number-back n = omega arith
 
-bit-back : (b : Bool) → eqb (bitOf b) 1 ≡ b
-bit-back true = refl
-bit-back false = refl
-
 head-back : (h : Head) (w : List ℕ) → headIn (headBytes h ++ w) ≡ h
 unfolding headIn headBytes
 head-back h w =
@@ -93,10 +90,6 @@ mark-tag (Open (HandedOut EOF) code) = refl
 profile-tag : (p : Profile) → leb (profileNumber p) 1 ≡ true
 profile-tag VV5404 = refl
 profile-tag VV5300 = refl
-
-bit-tag : (b : Bool) → leb (bitOf b) 1 ≡ true
-bit-tag true = refl
-bit-tag false = refl
 
 -- A stored reader is read back.
 

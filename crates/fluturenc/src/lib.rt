@@ -26,13 +26,14 @@ ghost use lib.ListN.{length, drop};
 ghost use lib.Seq.{paste};
 ghost use Rattle.profile.specs.Profile.{profileNumber};
 ghost use Rattle.writer.specs.Writer.{writeOf};
-ghost use Rattle.fluturenc.specs.State.{headLength, stateLength, markNumber, codeOf, markNumbered, profileOf, numberOf, bitOf, headBytes, headIn, tagged, holdsReader, readerIn, stored};
+ghost use Rattle.lent_call.specs.LentCall.{StateGives, WriteGives};
+ghost use Rattle.fluturenc.specs.State.{headLength, stateLength, markNumber, codeOf, markNumbered, profileOf, numberOf, headBytes, headIn, tagged, holdsReader, readerIn, stored};
 ghost use Rattle.fluturenc.specs.Calls.{answerNumber, openCall, feedCall, finishCall, judgeNumber, judgeNumbered, rulingNumber, judgeCall};
-ghost use Rattle.fluturenc.specs.Gives.{StateGives, FeedCallGives, WriteGives, JudgeGives};
+ghost use Rattle.fluturenc.specs.Gives.{FeedCallGives, JudgeGives};
 use frame::Borders;
 use frame::Judge;
 use frame::Ruling;
-use lent_buffer::Filled;
+use lent_call::bit;
 use line_code::Kind;
 use mark_answer::Kept;
 use profile::Numbered;
@@ -133,16 +134,7 @@ pub extern "C" fn fluturenc_write(
     ensures { λ r. ⌜ WriteGives (writeOf profile kind number (now (body .entry)) first second nulls (length (now (nibbles .entry)))) r (now (written .exit)) (now (nibbles .entry)) (now (nibbles .exit)) ⌝ }
 {
     let w = writer::write(profile, kind, number, body, first, second, nulls, nibbles);
-    match w {
-        Filled::Length(n) => {
-            *written = n;
-            0
-        }
-        Filled::Refused(n) => {
-            *written = 0;
-            n
-        }
-    }
+    lent_call::number_written(w, written)
 }
 
 // Judges one line of a profile 0 frame, or a broken one. Refused, and then the judge stays as it was: 11, 13, 14, in this order.
@@ -364,15 +356,6 @@ fn mark_number(at: Mark) -> u8
             Before::HandedOut(kind) => NO_MARK + kind.number(),
         },
     }
-}
-
-fn bit(b: bool) -> u8
-    ensures { λ r. ⌜ r ≡ bitOf b ⌝ }
-{
-    if b {
-        return 1;
-    }
-    0
 }
 
 fn code_of(at: Mark) -> u8

@@ -1,11 +1,11 @@
 //! How fast the proved reader is beside the independent one: the same nibbles, fed in runs of 64 Ki, in one run of this program, round
 //! after round, the least time of each. Both are lent the same line buffer again and again, which is not cleared between calls.
 
+use fluturenc::bus;
 use independent::layout::Profile;
-use independent::proved;
 use independent::random::Random;
 use independent::reader::{Answer, Reader};
-use independent::streams;
+use independent::{streams, told};
 use std::hint::black_box;
 use std::time::Instant;
 
@@ -46,8 +46,11 @@ fn tally(nibbles: &[u8], mut feed: impl FnMut(&[u8], &mut [u8]) -> (Option<Answe
 }
 
 fn proved_pass(nibbles: &[u8]) -> Tally {
-    let mut reader = proved::Reader::new(0);
-    tally(nibbles, |run, line| reader.feed(run, line))
+    let mut reader = bus::Reader::new(bus::Profile::Vv5404);
+    tally(nibbles, |run, line| {
+        let fed = reader.feed(run, line);
+        (told::answer(fed.answer), fed.taken)
+    })
 }
 
 fn plain_pass(nibbles: &[u8]) -> Tally {

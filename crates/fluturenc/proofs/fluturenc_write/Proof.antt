@@ -1,28 +1,11 @@
--- The writer's answer gives the number and the count in each of its two cases, and the buffer is as the writer leaves it.
+-- The writer gives its answer and leaves the buffer; the answer is told in numbers.
+use Rattle.lent_call.specs.LentCallLaws.{in-numbers}
 use borrow.Author.Needs.{needs}
 use Rattle.fluturenc.proofs.fluturenc_write.Statement.{statement}
 use Rattle.fluturenc.proofs.fluturenc_write.Tie as tie
 
 returns : tie.Need-returns
-returns c =
-    let e = c .before .before .before .before .before .write .ensures in
-    let w = c .before .w .given .1 in
-    record { says = simp (← e .says, w); count = simp (← e .says, w); leaves = e .leaves }
-
-returns-2 : tie.Need-returns-2
-returns-2 c =
-    let e = c .before .before .before .before .before .write .ensures in
-    let w = c .before .w2 .given .1 in
-    record { says = simp (← e .says, w); count = simp (← e .says, w); leaves = e .leaves }
+returns c = in-numbers _ _ _ _ _ _ (c .before .before .before .before .write .ensures) (c .number-written .ensures)
 
 pub fluturenc-write-spec : {M : Type 1} → statement M
-fluturenc-write-spec =
-    tie.close
-    (tie.spec
-    (λ c κs. search needs)
-    (λ c. search needs)
-    (λ c. search needs)
-    (λ c. search needs)
-    returns
-    (λ c. search needs)
-    returns-2)
+fluturenc-write-spec = tie.close (tie.spec (λ c κs. search needs) (λ c κs. search needs) (λ c. search needs) returns)

@@ -1,15 +1,15 @@
-//! Runs the proved code and the independent version on the same inputs and compares all that they give back, call by call:
-//! compare [NIBBLES [SEED]]. Shows the first difference and exits 1, if there is one.
+//! Reading, writing and judging: runs the proved code and the independent version on the same inputs and compares all that they give back, call
+//! by call: compare_bus [TIMES [SEED]]. Shows the first difference and exits 1, if there is one.
 
+use fluturenc::bus::{self, raw};
+use independent::check::{arguments, same};
 use independent::judge::{Judge, Ruling};
 use independent::layout::Profile;
-use independent::proved;
 use independent::random::Random;
 use independent::reader::{Answer, Reader};
 use independent::streams::{self, Line, Sort, SORTS};
-use independent::writer;
+use independent::{told, writer};
 use std::fmt::Debug;
-use std::process::exit;
 
 const LONGEST: usize = 356;
 
@@ -37,17 +37,10 @@ impl Count {
     }
 }
 
-/// The first difference ends the run.
-fn same<T: PartialEq + Debug>(what: &str, context: &dyn Debug, proved: T, plain: T) {
-    if proved != plain {
-        println!("difference in {what}\nproved      {proved:?}\nindependent {plain:?}\nat          {context:?}");
-        exit(1);
-    }
-}
-
-/// Both readers of one profile. The proved one's state lies within a larger buffer and moves about.
+/// Both readers of one profile: the proved one, whose state lies within a larger buffer and moves about, and again with types; and the plain one.
 struct Pair {
     proved: Vec<u8>,
+    typed: bus::Reader,
     plain: Reader,
 }
 
@@ -56,25 +49,27 @@ const BEYOND: [u8; 3] = [0xA5, 0x00, 0xFF];
 
 impl Pair {
     fn new(profile: Profile) -> Pair {
-        let mut state = vec![0xC3; proved::state_length()];
+        let mut state = vec![0xC3; raw::state_length()];
         state.extend(BEYOND);
-        same("open", &profile, proved::open(streams::profile_number(profile), &mut state), 0);
-        Pair { proved: state, plain: Reader::new(profile) }
+        same("open", &profile, raw::open(streams::profile_number(profile), &mut state), 0);
+        Pair { proved: state, typed: bus::Reader::new(told::profile(profile)), plain: Reader::new(profile) }
     }
 
     fn check_beyond(&self) {
-        same("room beyond the state", &(), &self.proved[proved::state_length()..], &BEYOND[..]);
+        same("room beyond the state", &(), &self.proved[raw::state_length()..], &BEYOND[..]);
     }
 
     /// Feeds a run to both. The answer, and how many nibbles were taken.
     fn feed(&mut self, nibbles: &[u8], line: &[u8], count: &mut Count, context: &dyn Debug) -> (Option<Answer>, usize) {
-        let (mut ours, mut theirs) = (line.to_vec(), line.to_vec());
+        let (mut ours, mut typed, mut theirs) = (line.to_vec(), line.to_vec(), line.to_vec());
         let before = self.proved.clone();
-        let (number, taken) = proved::feed(&mut self.proved, nibbles, &mut ours);
-        let ours_said = (proved::answer(number), taken);
+        let (number, taken) = raw::feed(&mut self.proved, nibbles, &mut ours);
+        let ours_said = (told::answer(raw::answer(number)), taken);
+        let fed = self.typed.feed(nibbles, &mut typed);
         let theirs_said = self.plain.run(nibbles, &mut theirs);
         same("feeding", context, &ours_said, &theirs_said);
-        same("the line buffer", context, ours, theirs);
+        same("feeding with types", context, &(told::answer(fed.answer), fed.taken), &theirs_said);
+        same("the line buffers", context, (&ours, &typed), (&theirs, &theirs));
         if taken == 0 {
             same("the state after a call that took nothing", context, &self.proved, &before);
         }
@@ -85,12 +80,13 @@ impl Pair {
     }
 
     fn finish(&mut self, count: &mut Count, context: &dyn Debug) -> Option<Answer> {
-        let ours = proved::answer(proved::finish(&mut self.proved));
+        let ours = told::answer(raw::answer(raw::finish(&mut self.proved)));
+        let typed = told::answer(Ok(self.typed.finish()));
         let theirs = self.plain.finish();
-        same("finish", context, &ours, &theirs);
+        same("finish", context, (&ours, &typed), (&theirs, &theirs));
         self.check_beyond();
-        let mut fresh = vec![0; proved::state_length()];
-        proved::open(streams::profile_number(self.plain.profile), &mut fresh);
+        let mut fresh = vec![0; raw::state_length()];
+        raw::open(streams::profile_number(self.plain.profile), &mut fresh);
         same("the state after finish", context, &self.proved[..fresh.len()], &fresh[..]);
         count.answer(&ours);
         ours
@@ -217,50 +213,50 @@ fn compare_edges(count: &mut Count) {
     }
     for (nulls, bytes) in [(25, 393), (103, 471)] {
         let mut nibbles = vec![0; 2000];
-        let written = proved::write(0, 1, 303, &blank, (255, 255), nulls, &mut nibbles);
-        same("the length of a line period", &nulls, written, Ok(2 * bytes));
+        let written = raw::write(0, 1, 303, &blank, (255, 255), nulls, &mut nibbles);
+        same("the length of a line period", &nulls, written, (0, 2 * bytes));
     }
 }
 
 /// Calls that must be refused and leave everything as it was, and states that no call left.
 fn compare_refused_states(random: &mut Random, count: &mut Count) {
-    let n = proved::state_length();
+    let n = raw::state_length();
     for profile in 2..=255 {
         let mut state = vec![0x77; n];
-        same("open, profile", &profile, proved::open(profile, &mut state), 11);
+        same("open, profile", &profile, raw::open(profile, &mut state), 11);
         same("the state after 11", &profile, state, vec![0x77; n]);
     }
     for short in 0..n {
         let mut state = vec![0x77; short];
         for profile in [0, 1] {
-            same("open, room", &short, proved::open(profile, &mut state), 12);
+            same("open, room", &short, raw::open(profile, &mut state), 12);
         }
-        same("feeding a short state", &short, proved::feed(&mut state, &[1, 2, 3], &mut [0; LONGEST]), (11, 0));
-        same("finishing a short state", &short, proved::finish(&mut state), 11);
+        same("feeding a short state", &short, raw::feed(&mut state, &[1, 2, 3], &mut [0; LONGEST]), (11, 0));
+        same("finishing a short state", &short, raw::finish(&mut state), 11);
         same("the state after them", &short, state, vec![0x77; short]);
     }
     for turn in 0..20_000 {
         let mut state = if turn % 2 == 0 { vec![0; n] } else { (0..n).map(|_| random.byte()).collect() };
-        proved::open((turn % 4 / 2) as u8, &mut state);
+        raw::open((turn % 4 / 2) as u8, &mut state);
         let nibbles = streams::noise(random, 40);
-        proved::feed(&mut state, &nibbles, &mut [0; LONGEST]);
+        raw::feed(&mut state, &nibbles, &mut [0; LONGEST]);
         for _ in 0..random.below(4) + 1 {
             let place = random.below(14);
             state[place] = random.pick(&[0, 1, 2, 3, 6, 7, 255, 0x9D, 0x80]);
         }
         let before = state.clone();
         let mut line = [0x44; LONGEST];
-        let (empty, none) = proved::feed(&mut state, &[], &mut line);
+        let (empty, none) = raw::feed(&mut state, &[], &mut line);
         same("what no nibbles leave", &before, (&state, none, line), (&before, 0, [0x44; LONGEST]));
         let nibbles = streams::noise(random, 400);
-        let (answer, taken) = proved::feed(&mut state, &nibbles, &mut line);
+        let (answer, taken) = raw::feed(&mut state, &nibbles, &mut line);
         same("11 for no nibbles", &before, empty == 11, answer == 11);
         if answer == 11 {
             same("what 11 leaves", &before, (&state, taken, line), (&before, 0, [0x44; LONGEST]));
-            same("finish after 11", &before, proved::finish(&mut state), 11);
+            same("finish after 11", &before, raw::finish(&mut state), 11);
             same("what finish leaves after 11", &before, &state, &before);
         } else {
-            same("11 from a state that a call left", &before, proved::finish(&mut state) == 11, false);
+            same("11 from a state that a call left", &before, raw::finish(&mut state) == 11, false);
         }
         count.answers += 3;
     }
@@ -303,20 +299,25 @@ fn compare_writer(random: &mut Random, calls: usize, count: &mut Count) {
         let (profile, l, room) = for_writer(random);
         let fill = random.byte();
         let mut ours = vec![fill; room];
-        let answer = proved::write(profile, l.kind, l.number, &l.body, l.gap, l.nulls, &mut ours);
+        let answer = raw::write(profile, l.kind, l.number, &l.body, l.gap, l.nulls, &mut ours);
         let mut theirs = vec![fill; room];
         let wanted = match writer::write(profile, l.kind, l.number, &l.body, l.gap, l.nulls, room) {
             Ok(nibbles) => {
                 theirs[..nibbles.len()].copy_from_slice(&nibbles);
-                Ok(nibbles.len())
+                (0, nibbles.len())
             }
             Err(n) => {
                 refused[n as usize] += 1;
-                Err((n, 0))
+                (n, 0)
             }
         };
         same("writing", &(profile, &l, room), answer, wanted);
-        same("the nibbles written", &(profile, &l, room), ours, theirs);
+        same("the nibbles written", &(profile, &l, room), &ours, &theirs);
+        if let (Some(profile), Some(kind)) = (Profile::from_number(profile), told::kind(l.kind)) {
+            let mut typed = vec![fill; room];
+            let written = bus::write(told::profile(profile), kind, l.number, &l.body, l.gap, l.nulls, &mut typed);
+            same("writing with types", &(profile, &l, room), (told::filled(written), &typed), (wanted, &theirs));
+        }
         count.written += 1;
     }
     for n in [11, 12, 13, 14, 15, 16, 17] {
@@ -324,23 +325,32 @@ fn compare_writer(random: &mut Random, calls: usize, count: &mut Count) {
     }
 }
 
+#[derive(Default)]
 struct Judges {
-    proved: u32,
+    proved: bus::Judge,
     plain: Judge,
 }
 
 impl Judges {
     fn line(&mut self, kind: u8, number: u16, count: &mut Count) -> Ruling {
-        let ours = proved::ruling(proved::judge(&mut self.proved, kind, number));
+        let kinds = told::kind(kind);
         let theirs = self.plain.line(kind, number);
-        same("judging", &(kind, number, self.proved), ours, theirs);
         count.judged += 1;
-        ours
+        if kind == 0 || kinds.is_some() {
+            let before = self.proved.clone();
+            let ours = told::ruling(self.proved.line(kinds, number));
+            same("judging", &(kind, number, before), ours, theirs);
+        } else {
+            // No kind with types has this number; in numbers it is refused by every judge.
+            same("judging no kind", &(kind, number), raw::judge(&mut 0, kind, number), 13);
+            same("judging no kind", &(kind, number), theirs, Ruling::Refused(13));
+        }
+        theirs
     }
 }
 
 fn compare_judge(random: &mut Random, frames: usize, count: &mut Count) {
-    let mut judges = Judges { proved: 0, plain: Judge::default() };
+    let mut judges = Judges::default();
     let mut complete = 0;
     for _ in 0..frames {
         let kinds = streams::frame_kinds(random.once_in(2));
@@ -374,7 +384,7 @@ fn compare_judge(random: &mut Random, frames: usize, count: &mut Count) {
             _ => false,
         };
         let mut judge = number;
-        let answer = proved::judge(&mut judge, 6, 0);
+        let answer = raw::judge(&mut judge, 6, 0);
         same("a judge's own test", &number, (answer, judge), (if reached { 13 } else { 11 }, number));
         count.judged += 1;
     }
@@ -383,7 +393,7 @@ fn compare_judge(random: &mut Random, frames: usize, count: &mut Count) {
 /// Whole frames through the proved writer, reader and judge, beside the independent ones.
 fn compare_frames(random: &mut Random, frames: usize, count: &mut Count) {
     let mut pair = Pair::new(Profile::P0);
-    let mut judges = Judges { proved: 0, plain: Judge::default() };
+    let mut judges = Judges::default();
     let mut complete = 0;
     for frame in 0..frames {
         let borders = random.once_in(2);
@@ -409,18 +419,14 @@ fn compare_frames(random: &mut Random, frames: usize, count: &mut Count) {
 }
 
 fn main() {
-    let mut arguments = std::env::args().skip(1);
-    let wanted: usize = arguments.next().map_or(3_000_000, |a| a.parse().expect("how many nibbles"));
-    let seed: u64 = arguments.next().map_or(0x5404_5300, |a| a.parse().expect("a seed"));
-    println!("seed {seed}");
-    let mut random = Random::new(seed);
+    let (times, mut random) = arguments();
     let mut count = Count::default();
     compare_edges(&mut count);
     compare_refused_states(&mut random, &mut count);
-    compare_writer(&mut random, wanted / 100 + 1000, &mut count);
-    compare_judge(&mut random, wanted / 100_000 + 4, &mut count);
-    compare_frames(&mut random, wanted / 1_000_000 + 2, &mut count);
-    let wanted = count.nibbles + wanted;
+    compare_writer(&mut random, 31_000 * times, &mut count);
+    compare_judge(&mut random, 34 * times, &mut count);
+    compare_frames(&mut random, 5 * times, &mut count);
+    let wanted = count.nibbles + 3_000_000 * times;
     compare_streams(&mut random, wanted, &mut count);
     let refusals: Vec<String> = count.refusals.iter().enumerate().filter(|(_, n)| **n > 0).map(|(i, n)| format!("{i}: {n}")).collect();
     println!("{} lines, {} good gaps; refusals {}", count.lines, count.gaps, refusals.join(", "));

@@ -1,5 +1,5 @@
-/* Lists the marks of a profile 0 capture, the bytes of an 8-wire bus on standard input: a row for each answer, with the mark's number, and
- * a line's kind and number, or GAP, or REFUSED and the number why. Built and run by independent/run. */
+/* Lists the marks of a profile 0 capture, the bytes of an 8-wire bus on standard input, as the program `list` does: a row for each answer, with the
+ * mark's number, and a line's kind, number and whether a code was repaired, or GAP, or REFUSED and the number why. */
 #include "fluturenc.h"
 
 #include <stdio.h>
@@ -10,11 +10,12 @@ static void show(unsigned long mark, uint64_t answer)
     static const char *const kinds[] = {"", "BL", "BK", "VL", "SOF", "EOF"};
 
     if (fluturenc_is_line(answer))
-        printf("%lu %s %u\n", mark, kinds[fluturenc_line_kind(answer)], (unsigned)fluturenc_line_number(answer));
+        printf("%lu %s %u %s\n", mark, kinds[fluturenc_line_kind(answer)], (unsigned)fluturenc_line_number(answer),
+               fluturenc_line_repaired(answer) ? "repaired" : "clean");
     else if (fluturenc_is_gap(answer))
-        printf("%lu GAP\n", mark);
+        printf("%lu GAP - ok\n", mark);
     else
-        printf("%lu REFUSED %u\n", mark, (unsigned)answer);
+        printf("%lu REFUSED - %u\n", mark, (unsigned)answer);
 }
 
 int main(void)
@@ -27,6 +28,7 @@ int main(void)
 
     if (state == NULL || fluturenc_open(FLUTURENC_VV5404, state, length) != 0)
         return EXIT_FAILURE;
+    puts("mark answer number note");
     while ((got = fread(bytes, 1, sizeof bytes, stdin)) > 0) {
         for (at = 0; at < got; at++) {
             nibbles[2 * at] = bytes[at] >> 4;

@@ -1,0 +1,2 @@
+pub mod SensorBytes
+pub mod SensorBytesLaws

@@ -1,0 +1,101 @@
+-- Laws of a sensor's state in bytes: it is read back as it was stored; a reset leaves a fresh sensor, and each message does to the bytes what
+-- it does to the sensor.
+use mathlib.Core.Path.{_≡_, refl, sym, ap, subst, _∙_}
+use mathlib.Core.Bool.{Bool, true}
+use mathlib.Core.List.{List, _∷_, _++_}
+use Prim.Native.Nat.{ℕ, _+_, _≤_}
+use native.Mathlib.Omega.{arith}
+use borrow.Author.Tests.{le-leb, leb-true}
+use lib.Dec.{eqb, leb, lit≤}
+use lib.ListN.{length, getD, take, drop, length-append, length-drop, length-replicate}
+use lib.Seq.{take-at, getD-at, getD-append-add}
+use Rattle.bits.specs.Every.{and-left, and-both}
+use Rattle.lent_call.specs.LentCall.{bitOf, Called}
+use Rattle.lent_call.specs.LentCallLaws.{bit-back, bit-tag}
+use Rattle.two_wire.specs.declared.Sensor.{Sensor}
+use Rattle.two_wire.specs.Registers.{registerCount, lastIndex, fresh}
+use Rattle.two_wire.specs.Messages.{Acceptance, accepted, refused, sensorAfter, messageOn}
+use Rattle.two_wire.specs.TwoWireLaws.{Kept, message-keeps}
+use Rattle.fluturenc_two_wire.specs.SensorBytes.{indexPlace, flagPlace, sensorLength, withSensor, sensorIn, holdsSensor, resetCall, messageCalled, messageCall}
+
+pub holds-length : (b : List ℕ) → holdsSensor b ≡ true → sensorLength ≤ length b
+unfolding holdsSensor
+holds-length b h = leb-true sensorLength (length b) (and-left _ _ h)
+
+-- A sensor that calls reach: 128 registers, and the index of one.
+
+pub record WholeSensor (s : Sensor) : Type 0 where
+  pub full : length (s .registers) ≡ registerCount
+  pub index : s .index ≤ lastIndex
+
+fresh-whole : WholeSensor fresh
+fresh-whole = record { full = length-replicate {A = ℕ} registerCount 0; index = lit≤ tt }
+
+-- A stored sensor is read back.
+
+module _ (s : Sensor) (b : List ℕ) (whole : WholeSensor s) where
+  registers-back : take registerCount (withSensor s b) ≡ s .registers
+  unfolding withSensor
+  registers-back = take-at (s .registers) _ registerCount (whole .full)
+
+  index-back : getD (withSensor s b) indexPlace 0 ≡ s .index
+  unfolding withSensor
+  index-back = getD-at (s .registers) (s .index) _ 0 registerCount (whole .full)
+
+  flag-back : getD (withSensor s b) flagPlace 0 ≡ bitOf (s .increment)
+  unfolding withSensor
+  flag-back =
+      let bytes : List ℕ = s .index ∷ bitOf (s .increment) ∷ drop sensorLength b in
+      let e : flagPlace ≡ length (s .registers) + 1 = omega (arith, whole .full) in
+      ap (λ (k : ℕ). getD (s .registers ++ bytes) k 0) e ∙ getD-append-add (s .registers) bytes 1 0
+
+  pub sensor-back : sensorIn (withSensor s b) ≡ s
+  unfolding sensorIn
+  sensor-back = simp (registers-back, index-back, flag-back, bit-back (s .increment))
+
+  module _ (room : sensorLength ≤ length b) where
+    pub with-length : length (withSensor s b) ≡ length b
+    unfolding withSensor
+    with-length = simp (length-append, whole .full) (omega (arith, length-drop sensorLength b))
+
+    pub sensor-held : holdsSensor (withSensor s b) ≡ true
+    unfolding holdsSensor
+    sensor-held =
+        and-both (leb sensorLength (length (withSensor s b))) _ (le-leb sensorLength (length (withSensor s b)) (omega (arith, with-length)))
+        (and-both (leb (getD (withSensor s b) indexPlace 0) lastIndex) _ (simp (index-back, le-leb _ _ (whole .index))) (simp (flag-back, bit-tag (s .increment))))
+
+-- Calls on bytes that hold a sensor.
+
+pub record HoldsSensor (b : List ℕ) (s : Sensor) : Type 0 where
+  pub whole : WholeSensor s
+  pub room : sensorLength ≤ length b
+  pub held : holdsSensor b ≡ true
+  pub read : sensorIn b ≡ s
+
+stored-held : (s : Sensor) (b : List ℕ) → WholeSensor s → sensorLength ≤ length b → HoldsSensor (withSensor s b) s
+stored-held s b w h =
+    record { whole = w; room = omega (arith, with-length s b w h); held = sensor-held s b w h; read = sensor-back s b w }
+
+-- a reset leaves a fresh sensor
+pub resets : (b : List ℕ) → sensorLength ≤ length b → (resetCall b .answer ≡ 0) × HoldsSensor (resetCall b .state) fresh
+unfolding resetCall
+resets b h = simp (le-leb sensorLength (length b) h) (refl, stored-held fresh b fresh-whole h)
+
+called-held : (o : Acceptance) (b : List ℕ) (s : Sensor) → Kept registerCount o → HoldsSensor b s
+    → HoldsSensor (messageCalled o b .state) (sensorAfter o s)
+called-held (accepted t) b s k h = stored-held t b (record { full = k .1; index = k .0 }) (h .room)
+called-held (refused n) b s k h = h
+
+pub message-call : (b message : List ℕ) (s : Sensor) → holdsSensor b ≡ true → sensorIn b ≡ s
+    → messageCall b message ≡ messageCalled (messageOn s message) b
+unfolding messageCall
+message-call b message s held read = simp held (ap (λ (x : Sensor). messageCalled (messageOn x message) b) read)
+
+-- a message is answered, and leaves the bytes, as the sensor that they hold has it
+pub takes : (b message : List ℕ) (s : Sensor) → HoldsSensor b s
+    → (messageCall b message ≡ messageCalled (messageOn s message) b)
+    × HoldsSensor (messageCall b message .state) (sensorAfter (messageOn s message) s)
+takes b message s h =
+    let e = message-call b message s (h .held) (h .read) in
+    let k = subst (λ (n : ℕ). Kept n (messageOn s message)) (h .whole .full) (message-keeps s message) in
+    (e, subst (λ (c : Called). HoldsSensor (c .state) (sensorAfter (messageOn s message) s)) (sym e) (called-held (messageOn s message) b s k h))

@@ -1,0 +1,2 @@
+pub mod LentCall
+pub mod LentCallLaws

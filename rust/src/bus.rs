@@ -1,0 +1,246 @@
+//! The video bus: the reader, the writer of lines, and the judge of frames.
+
+use crate::Refusal;
+
+#[derive(Clone, Copy, PartialEq, Eq, Hash, Debug)]
+pub enum Profile {
+    /// VV5404 and VV6404
+    Vv5404 = 0,
+    /// VV5300 in 8-bit conversion
+    Vv5300 = 1,
+}
+
+impl Profile {
+    /// The bytes of a body.
+    pub fn body_length(self) -> usize {
+        match self {
+            Profile::Vv5404 => 356,
+            Profile::Vv5300 => 168,
+        }
+    }
+}
+
+#[derive(Clone, Copy, PartialEq, Eq, Hash, Debug)]
+pub enum Kind {
+    Blank = 1,
+    Black = 2,
+    Visible = 3,
+    StartOfFrame = 4,
+    EndOfFrame = 5,
+}
+
+impl Kind {
+    fn numbered(number: u8) -> Kind {
+        match number {
+            1 => Kind::Blank,
+            2 => Kind::Black,
+            3 => Kind::Visible,
+            4 => Kind::StartOfFrame,
+            5 => Kind::EndOfFrame,
+            n => panic!("{n} is no kind"),
+        }
+    }
+}
+
+/// The answer to a mark.
+#[derive(Clone, PartialEq, Eq, Debug)]
+pub enum Answer {
+    /// A line, whose body is the front of the line buffer; with the bit that was repaired in the code that starts it, and in the one that ends it.
+    Line { kind: Kind, number: u16, start: Option<u8>, end: Option<u8> },
+    /// A good gap: its two bytes, and its line's period in nibbles, 0 where the line was not handed out, or the end of the capture closed the gap.
+    Gap { first: u8, second: u8, period: u16 },
+    /// Refusals 1 to 9.
+    Refused(Refusal),
+}
+
+/// What feeding brings: how many nibbles were taken, and the first answer, if there is one; or why the call was refused or stopped (10, 12).
+#[derive(Clone, PartialEq, Eq, Debug)]
+pub struct Fed {
+    pub taken: usize,
+    pub answer: Result<Option<Answer>, Refusal>,
+}
+
+/// A reader; a copy is a reader of its own.
+#[derive(Clone, PartialEq, Eq, Debug)]
+pub struct Reader {
+    state: Box<[u8]>,
+}
+
+impl Reader {
+    pub fn new(profile: Profile) -> Reader {
+        let mut state = vec![0; raw::state_length()].into_boxed_slice();
+        assert_eq!(raw::open(profile as u8, &mut state), 0);
+        Reader { state }
+    }
+
+    /// Feeds nibbles, a byte each, up to the first answer or the end: the next call goes on from there. The line buffer has room for a body.
+    pub fn feed(&mut self, nibbles: &[u8], line: &mut [u8]) -> Fed {
+        let (number, taken) = raw::feed(&mut self.state, nibbles, line);
+        Fed { taken, answer: raw::answer(number) }
+    }
+
+    /// The last mark's answer, if there was a mark; the reader is fresh again.
+    pub fn finish(&mut self) -> Option<Answer> {
+        raw::answer(raw::finish(&mut self.state)).expect("the state of a reader")
+    }
+}
+
+/// Writes one line's nibbles, with its gap's two bytes and so many null bytes, and gives how many nibbles that is.
+pub fn write(
+    profile: Profile,
+    kind: Kind,
+    number: u16,
+    body: &[u8],
+    gap: (u8, u8),
+    nulls: u32,
+    nibbles: &mut [u8],
+) -> Result<usize, Refusal> {
+    let (answer, written) = raw::write(profile as u8, kind as u8, number, body, gap, nulls, nibbles);
+    Refusal::or_length(answer, written)
+}
+
+/// What the judge says of a line.
+#[derive(Clone, Copy, PartialEq, Eq, Debug)]
+pub enum Ruling {
+    Waiting,
+    Going,
+    /// The frame's last line.
+    Complete,
+    /// The frame is given up: 18 or 19.
+    GivenUp(Refusal),
+}
+
+/// A judge of profile 0 frames; a copy is a judge of its own.
+#[derive(Clone, PartialEq, Eq, Debug, Default)]
+pub struct Judge {
+    number: u32,
+}
+
+impl Judge {
+    pub fn new() -> Judge {
+        Judge::default()
+    }
+
+    /// Judges a line by its kind and number, or a broken one: no kind, for each answer 1 to 7. Refused: 14.
+    pub fn line(&mut self, kind: Option<Kind>, number: u16) -> Result<Ruling, Refusal> {
+        match raw::judge(&mut self.number, kind.map_or(0, |k| k as u8), number) {
+            0 => Ok(Ruling::Waiting),
+            1 => Ok(Ruling::Going),
+            2 => Ok(Ruling::Complete),
+            n @ (18 | 19) => Ok(Ruling::GivenUp(Refusal::answered(n))),
+            n => Err(Refusal::answered(n)),
+        }
+    }
+}
+
+/// The exported functions, in numbers.
+pub mod raw {
+    use super::{Answer, Kind};
+    use crate::Refusal;
+
+    extern "C" {
+        fn fluturenc_state_length() -> usize;
+        fn fluturenc_open(profile: u8, state: *mut u8, state_length: usize) -> u8;
+        fn fluturenc_feed(
+            state: *mut u8,
+            state_length: usize,
+            nibbles: *const u8,
+            nibbles_length: usize,
+            line: *mut u8,
+            line_length: usize,
+            taken: *mut usize,
+        ) -> u64;
+        fn fluturenc_finish(state: *mut u8, state_length: usize) -> u64;
+        fn fluturenc_write(
+            profile: u8,
+            kind: u8,
+            number: u16,
+            body: *const u8,
+            body_length: usize,
+            gap_one: u8,
+            gap_two: u8,
+            nulls: u32,
+            nibbles: *mut u8,
+            nibbles_length: usize,
+            written: *mut usize,
+        ) -> u8;
+        fn fluturenc_judge(judge: *mut u32, kind: u8, number: u16) -> u8;
+    }
+
+    // Each call hands over slices that live for the call and do not overlap, with their own lengths, and asks nothing more.
+
+    pub fn state_length() -> usize {
+        unsafe { fluturenc_state_length() }
+    }
+
+    /// 0, or the refusal.
+    pub fn open(profile: u8, state: &mut [u8]) -> u8 {
+        unsafe { fluturenc_open(profile, state.as_mut_ptr(), state.len()) }
+    }
+
+    /// The answer, and how many nibbles were taken.
+    pub fn feed(state: &mut [u8], nibbles: &[u8], line: &mut [u8]) -> (u64, usize) {
+        let mut taken = usize::MAX;
+        let answer = unsafe {
+            fluturenc_feed(state.as_mut_ptr(), state.len(), nibbles.as_ptr(), nibbles.len(), line.as_mut_ptr(), line.len(), &mut taken)
+        };
+        (answer, taken)
+    }
+
+    pub fn finish(state: &mut [u8]) -> u64 {
+        unsafe { fluturenc_finish(state.as_mut_ptr(), state.len()) }
+    }
+
+    /// 0 or the refusal, and how many nibbles were written.
+    #[allow(clippy::too_many_arguments)]
+    pub fn write(profile: u8, kind: u8, number: u16, body: &[u8], gap: (u8, u8), nulls: u32, nibbles: &mut [u8]) -> (u8, usize) {
+        let mut written = usize::MAX;
+        let refusal = unsafe {
+            fluturenc_write(
+                profile,
+                kind,
+                number,
+                body.as_ptr(),
+                body.len(),
+                gap.0,
+                gap.1,
+                nulls,
+                nibbles.as_mut_ptr(),
+                nibbles.len(),
+                &mut written,
+            )
+        };
+        (refusal, written)
+    }
+
+    pub fn judge(judge: &mut u32, kind: u8, number: u16) -> u8 {
+        unsafe { fluturenc_judge(judge, kind, number) }
+    }
+
+    /// What an answer's number says.
+    pub fn answer(number: u64) -> Result<Option<Answer>, Refusal> {
+        match number >> 24 & 0xFF {
+            0 => match u8::try_from(number).expect("a refusal is a byte") {
+                0 => Ok(None),
+                n @ 1..=9 => Ok(Some(Answer::Refused(Refusal::answered(n)))),
+                n => Err(Refusal::answered(n)),
+            },
+            1 => {
+                let (start, end) = (repair(number >> 32 & 0xFFFF), repair(number >> 48));
+                assert_eq!(number >> 19 & 1 == 1, start.is_some() || end.is_some(), "{number:#x} is repaired, or is not");
+                let kind = Kind::numbered((number >> 16 & 7) as u8);
+                Ok(Some(Answer::Line { kind, number: number as u16, start, end }))
+            }
+            2 => {
+                let period = u16::try_from(number >> 32).expect("a period is held at 65,535");
+                Ok(Some(Answer::Gap { first: (number >> 8) as u8, second: number as u8, period }))
+            }
+            _ => panic!("{number:#x} is no answer"),
+        }
+    }
+
+    /// The bit of a repair's number; none is 0.
+    fn repair(number: u64) -> Option<u8> {
+        number.checked_sub(1).map(|bit| u8::try_from(bit).expect("a bit is a byte"))
+    }
+}
