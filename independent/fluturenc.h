@@ -158,6 +158,57 @@ uint8_t fluturenc_sensor_message(uint8_t *sensor, size_t sensor_length, const ui
  * above 127, 12 too little room. */
 uint8_t fluturenc_messages(const uint8_t *pairs, size_t pairs_length, uint8_t *messages, size_t messages_length, size_t *written);
 
+/* ---- Two lists of lines compared: crate fluturenc_compare. */
+
+/* A list is its profile 0 lines end to end, each the kind, the number in two bytes, high byte first, and the body of 356: 359 bytes. */
+#define FLUTURENC_LINE (3 + FLUTURENC_VV5404_BODY)
+
+/* The first byte of a difference. The number in two bytes follows, high byte first, and then: for a line that one list only has, its kind and its body;
+ * for kinds that differ, both, the first list's first; for bodies that differ at a place, the place from 0 in two bytes, high byte first, and both
+ * bytes there. */
+#define FLUTURENC_ONLY_FIRST 1
+#define FLUTURENC_ONLY_SECOND 2
+#define FLUTURENC_KINDS_DIFFER 3
+#define FLUTURENC_BYTES_DIFFER 4
+
+/* The most bytes that the differences of one number take. */
+#define FLUTURENC_MOST_DIFFERENCES (5 + 7 * FLUTURENC_VV5404_BODY)
+
+/* All differences of two lists, in rising number, kinds before places, then by place; none where they are equal. Refused, each looked for over
+ * both lists before the next: 35 numbers that don't rise strictly, 14 a number above 4095, 13 a kind not 1 to 5, 15 a list cut within a line,
+ * 12 too little room. */
+uint8_t fluturenc_compare(const uint8_t *first, size_t first_length, const uint8_t *second, size_t second_length, uint8_t *differences,
+                          size_t differences_length, size_t *written);
+
+/* ---- Why a mark is answered as it is: crate fluturenc_why. */
+
+#define FLUTURENC_GOOD_LINE 128
+#define FLUTURENC_GOOD_GAP 129
+
+/* In place of a value that there is not. */
+#define FLUTURENC_NO_VALUE SIZE_MAX
+
+/* The number of the answer to a run's first mark, and up to two values that say why; of a profile, the kind of the mark before, 0 for none or no
+ * line kind, and nibbles that begin at a mark and go on through the next mark's code, or to the end of the capture. Both values are always set.
+ *   FLUTURENC_GOOD_LINE, FLUTURENC_GOOD_GAP  no values
+ *   1                                        the code byte; its parity sums that fail, P0 to P3, as bits 0 to 3
+ *   2, 3, 8                                  no values
+ *   4                                        the text's nibbles, found and wanted
+ *   5, 6                                     the place of the first bad byte, from 0 in number or body; the byte
+ *   7                                        the code that came
+ *   9                                        the place of the gap's first bad nibble, from 0; the nibble. Or the nibbles of a profile 1 gap under
+ *                                            two bytes, and no second value
+ * Refused: 11 no such profile, 13 a kind above 5, 10 an input above 15 anywhere in the run, 36 it doesn't begin with a mark. */
+uint8_t fluturenc_why(uint8_t profile, uint8_t before, const uint8_t *run, size_t run_length, size_t *first, size_t *second);
+
+/* ---- Exact half-line means of a VV5300: crate fluturenc_means. */
+
+/* The exact means of image places 16 to 79 and of 80 to 143 of a visible line's body, and beside each 64 times the mean that the sensor sent, first or
+ * second, minus the sum. Refused, and then the four places stay as they were: 11 the profile is not FLUTURENC_VV5300, 23 the kind is not FLUTURENC_VL,
+ * 15 a body of the wrong length, 16 a byte of the body or a mean that is not allowed. */
+uint8_t fluturenc_half_means(uint8_t profile, uint8_t kind, const uint8_t *body, size_t body_length, uint8_t first, uint8_t second, double *mean1,
+                             double *mean2, int32_t *beside1, int32_t *beside2);
+
 #ifdef __cplusplus
 }
 #endif

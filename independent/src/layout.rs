@@ -77,15 +77,15 @@ fn pixel(b: u8) -> bool {
     b != 0 && b != 255
 }
 
-/// Whether a body of the right length has allowed bytes.
-pub fn body_allowed(profile: Profile, kind: u8, body: &[u8]) -> bool {
+/// The first place of a body of the right length whose byte is not allowed.
+pub fn bad_place(profile: Profile, kind: u8, body: &[u8]) -> Option<usize> {
     let (image, outer) = match profile {
         Profile::P0 => (0..356, 0),
         Profile::P1 => (4..164, 2),
     };
-    body.iter().enumerate().all(|(i, &b)| {
+    body.iter().enumerate().position(|(i, &b)| {
         let in_image = image.contains(&i);
-        match kind {
+        let allowed = match kind {
             2 | 3 => {
                 if i < outer || i >= body.len() - outer {
                     b == 7
@@ -96,15 +96,29 @@ pub fn body_allowed(profile: Profile, kind: u8, body: &[u8]) -> bool {
             4 if in_image && (i - image.start) % 2 == 0 => true,
             5 if profile == Profile::P1 && in_image && i - image.start < 8 && (i - image.start) % 2 == 0 => pixel(b),
             _ => b == 7,
-        }
+        };
+        !allowed
     })
+}
+
+/// Whether a body of the right length has allowed bytes.
+pub fn body_allowed(profile: Profile, kind: u8, body: &[u8]) -> bool {
+    bad_place(profile, kind, body).is_none()
+}
+
+/// Whether one gap byte of profile 1 may follow a line of the kind.
+pub fn mean_allowed(kind: u8, byte: u8) -> bool {
+    if kind == 3 {
+        pixel(byte)
+    } else {
+        byte == 7
+    }
 }
 
 /// Whether the two gap bytes may follow a line of the kind.
 pub fn gap_allowed(profile: Profile, kind: u8, a: u8, b: u8) -> bool {
-    match (profile, kind) {
-        (Profile::P0, _) => a == 255 && b == 255,
-        (Profile::P1, 3) => pixel(a) && pixel(b),
-        (Profile::P1, _) => a == 7 && b == 7,
+    match profile {
+        Profile::P0 => a == 255 && b == 255,
+        Profile::P1 => mean_allowed(kind, a) && mean_allowed(kind, b),
     }
 }

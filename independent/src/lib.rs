@@ -7,9 +7,12 @@
 pub mod check;
 pub mod judge;
 pub mod layout;
+pub mod lists;
+pub mod means;
 pub mod picture;
 pub mod random;
 pub mod reader;
+pub mod reason;
 pub mod streams;
 pub mod told;
 pub mod two_wire;

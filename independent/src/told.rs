@@ -40,5 +40,7 @@ pub fn profile(profile: crate::layout::Profile) -> bus::Profile {
 
 /// The kind with a number, if there is one.
 pub fn kind(number: u8) -> Option<bus::Kind> {
-    [bus::Kind::Blank, bus::Kind::Black, bus::Kind::Visible, bus::Kind::StartOfFrame, bus::Kind::EndOfFrame].into_iter().find(|k| *k as u8 == number)
+    [bus::Kind::Blank, bus::Kind::Black, bus::Kind::Visible, bus::Kind::StartOfFrame, bus::Kind::EndOfFrame]
+        .into_iter()
+        .find(|k| *k as u8 == number)
 }

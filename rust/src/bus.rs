@@ -30,7 +30,7 @@ pub enum Kind {
 }
 
 impl Kind {
-    fn numbered(number: u8) -> Kind {
+    pub(crate) fn numbered(number: u8) -> Kind {
         match number {
             1 => Kind::Blank,
             2 => Kind::Black,

@@ -4,9 +4,12 @@
 //! who keeps a state in bytes of its own, and for tests. Nothing checks their declarations against the Rattle source (crates/fluturenc*/src/lib.rt).
 
 pub mod bus;
+pub mod lists;
+pub mod means;
 pub mod picture;
 mod refusal;
 pub mod two_wire;
+pub mod why;
 
 pub use bus::{Kind, Profile};
 pub use refusal::Refusal;

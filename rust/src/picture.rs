@@ -39,9 +39,22 @@ pub mod raw {
     extern "C" {
         fn fluturenc_picture_write(rows: *const u8, rows_length: usize, file: *mut u8, file_length: usize, written: *mut usize) -> u8;
         fn fluturenc_picture_read(file: *const u8, file_length: usize, rows: *mut u8, rows_length: usize, written: *mut usize) -> u8;
-        fn fluturenc_to_pixels(kind: u8, body: *const u8, body_length: usize, pixels: *mut u8, pixels_length: usize, written: *mut usize)
-            -> u8;
-        fn fluturenc_to_body(kind: u8, pixels: *const u8, pixels_length: usize, body: *mut u8, body_length: usize, written: *mut usize) -> u8;
+        fn fluturenc_to_pixels(
+            kind: u8,
+            body: *const u8,
+            body_length: usize,
+            pixels: *mut u8,
+            pixels_length: usize,
+            written: *mut usize,
+        ) -> u8;
+        fn fluturenc_to_body(
+            kind: u8,
+            pixels: *const u8,
+            pixels_length: usize,
+            body: *mut u8,
+            body_length: usize,
+            written: *mut usize,
+        ) -> u8;
     }
 
     pub fn write(rows: &[u8], file: &mut [u8]) -> (u8, usize) {

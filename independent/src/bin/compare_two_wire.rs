@@ -113,9 +113,5 @@ fn main() {
             same("messages with types", &pairs, (told::filled(typed::write(&listed, &mut theirs)), &theirs), (answer, &ours));
         }
     }
-    counted.tell(&[
-        ("sensor_reset", &[0, 12]),
-        ("sensor_message", &[0, 11, 24, 25, 26, 27, 28]),
-        ("messages", &[0, 24, 28, 12]),
-    ]);
+    counted.tell(&[("sensor_reset", &[0, 12]), ("sensor_message", &[0, 11, 24, 25, 26, 27, 28]), ("messages", &[0, 24, 28, 12])]);
 }
