@@ -4,7 +4,7 @@
  * needs no other. Nothing checks these declarations against that source.
  *
  * Buffers are lent: no call keeps a pointer or allocates. No pointer may be null, and no two buffers of a call may overlap. Nothing is
- * asked of what they hold: every call is answered, and room beyond what it writes stays as it was. A call that is refused changes nothing,
+ * asked of what they hold: every call is answered, and room beyond what it writes stays as it was. A call that is refused changes no buffer,
  * but that feeding takes what stands before an input above 15. A call that fills a buffer answers 0 and puts the length at `written`, or answers
  * the refusal, puts 0 there and fills nothing. Refusals are listed in the order in which they are looked for. */
 #ifndef FLUTURENC_H
@@ -163,9 +163,9 @@ uint8_t fluturenc_messages(const uint8_t *pairs, size_t pairs_length, uint8_t *m
 /* A list is its profile 0 lines end to end, each the kind, the number in two bytes, high byte first, and the body of 356: 359 bytes. */
 #define FLUTURENC_LINE (3 + FLUTURENC_VV5404_BODY)
 
-/* The first byte of a difference. The number in two bytes follows, high byte first, and then: for a line that one list only has, its kind and its body;
- * for kinds that differ, both, the first list's first; for bodies that differ at a place, the place from 0 in two bytes, high byte first, and both
- * bytes there. */
+/* The first byte of a difference. The number in two bytes follows, high byte first, and then: for a line that one list only has, its kind and
+ * its body; for kinds that differ, both, the first list's first; for bodies that differ at a place, the place from 0 in two bytes, high byte
+ * first, and both bytes there. */
 #define FLUTURENC_ONLY_FIRST 1
 #define FLUTURENC_ONLY_SECOND 2
 #define FLUTURENC_KINDS_DIFFER 3
@@ -203,9 +203,9 @@ uint8_t fluturenc_why(uint8_t profile, uint8_t before, const uint8_t *run, size_
 
 /* ---- Exact half-line means of a VV5300: crate fluturenc_means. */
 
-/* The exact means of image places 16 to 79 and of 80 to 143 of a visible line's body, and beside each 64 times the mean that the sensor sent, first or
- * second, minus the sum. Refused, and then the four places stay as they were: 11 the profile is not FLUTURENC_VV5300, 23 the kind is not FLUTURENC_VL,
- * 15 a body of the wrong length, 16 a byte of the body or a mean that is not allowed. */
+/* The exact means of image places 16 to 79 and of 80 to 143 of a visible line's body, and beside each 64 times the mean that the sensor sent,
+ * first or second, minus the sum. Refused, and then the four places stay as they were: 11 the profile is not FLUTURENC_VV5300, 23 the kind is not
+ * FLUTURENC_VL, 15 a body of the wrong length, 16 a byte of the body or a mean that is not allowed. */
 uint8_t fluturenc_half_means(uint8_t profile, uint8_t kind, const uint8_t *body, size_t body_length, uint8_t first, uint8_t second, double *mean1,
                              double *mean2, int32_t *beside1, int32_t *beside2);
 

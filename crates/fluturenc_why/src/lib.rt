@@ -2,8 +2,8 @@
 //
 //   fluturenc_why(profile, before, run, first, second)    the number of the first mark's answer, and up to two values that say why
 //
-// It takes numbers, a slice (in C a pointer and then a length) of nibbles, a byte each, that begins at a mark, and two places for the values (pointers).
-// The answer is one number, and every call fills both places; a value that there is not is the greatest number of its type.
+// It takes numbers, a slice (in C a pointer and then a length) of nibbles, a byte each, that begins at a mark, and two places for the values
+// (pointers). The answer is one number, and every call sets both values; one that there is not is the greatest number of its type.
 //
 //   128 a good line, 129 a good gap     no values
 //   1                                   the code byte; its failed parity sums, P0 to P3, as bits 0 to 3
@@ -12,7 +12,7 @@
 //   7                                   the code that came
 //   9                                   the place of the gap's first bad nibble, and the nibble; or the nibbles of a gap under two bytes
 //   2, 3, 8                             no values
-//   11, 13, 10, 36                      refused, in this order: no such profile, a kind above 5, an input above 15, a run that doesn't begin with a mark
+//   11, 13, 10, 36                      refused, in this order: no such profile, a kind above 5, an input above 15, no mark at the beginning
 ghost use mathlib.Core.Path.{_≡_};
 ghost use Rattle.reason.specs.Explanation.{explanation};
 ghost use Rattle.fluturenc_why.specs.Why.{whyNumber, whyFirst, whySecond, sumBits, WhyGives};
@@ -28,7 +28,7 @@ const GOOD_GAP: u8 = 129;
 // In place of a value: there is none.
 const NO_VALUE: usize = usize::MAX;
 
-// Why the run's first mark is answered as it is: of the profile's number, and of the number of the kind of the mark before, 0 for none or no line kind.
+// Why the run's first mark is answered as it is: by the number of the profile, and that of the kind of the mark before, 0 for none or no line kind.
 #[no_mangle]
 pub extern "C" fn fluturenc_why(
     profile: u8,
