@@ -1,21 +1,23 @@
 -- Laws of a sensor's state in bytes: it is read back as it was stored; a reset leaves a fresh sensor, and each message does to the bytes what
--- it does to the sensor.
+-- it does to the sensor. So the messages written from pairs, taken a call each, set the registers listed.
 use mathlib.Core.Path.{_≡_, refl, sym, ap, subst, _∙_}
-use mathlib.Core.Bool.{Bool, true}
-use mathlib.Core.List.{List, _∷_, _++_}
+use mathlib.Core.Bool.{true, false, true≢false}
+use mathlib.Core.List.{List, [], _∷_, _++_}
 use Prim.Native.Nat.{ℕ, _+_, _≤_}
 use native.Mathlib.Omega.{arith}
 use borrow.Author.Tests.{le-leb, leb-true}
-use lib.Dec.{eqb, leb, lit≤}
+use lib.Dec.{leb, lit≤}
 use lib.ListN.{length, getD, take, drop, length-append, length-drop, length-replicate}
 use lib.Seq.{take-at, getD-at, getD-append-add}
 use Rattle.bits.specs.Every.{and-left, and-both}
+use Rattle.lent_buffer.specs.Filled.{used}
 use Rattle.lent_call.specs.LentCall.{bitOf, Called}
 use Rattle.lent_call.specs.LentCallLaws.{bit-back, bit-tag}
 use Rattle.two_wire.specs.declared.Sensor.{Sensor}
 use Rattle.two_wire.specs.Registers.{registerCount, lastIndex, fresh}
-use Rattle.two_wire.specs.Messages.{Acceptance, accepted, refused, sensorAfter, messageOn}
-use Rattle.two_wire.specs.TwoWireLaws.{Kept, message-keeps}
+use Rattle.two_wire.specs.Messages.{Acceptance, accepted, refused, sensorAfter, messageOn, messagesOn}
+use Rattle.two_wire.specs.Writing.{writeOf, inThrees}
+use Rattle.two_wire.specs.TwoWireLaws.{Kept, message-keeps, SetAs, written-read-back}
 use Rattle.fluturenc_two_wire.specs.SensorBytes.{indexPlace, flagPlace, sensorLength, withSensor, sensorIn, holdsSensor, resetCall, messageCalled, messageCall}
 
 pub holds-length : (b : List ℕ) → holdsSensor b ≡ true → sensorLength ≤ length b
@@ -99,3 +101,47 @@ takes b message s h =
     let e = message-call b message s (h .held) (h .read) in
     let k = subst (λ (n : ℕ). Kept n (messageOn s message)) (h .whole .full) (message-keeps s message) in
     (e, subst (λ (c : Called). HoldsSensor (c .state) (sensorAfter (messageOn s message) s)) (sym e) (called-held (messageOn s message) b s k h))
+
+-- Messages one after another, a call each.
+
+-- the bytes after them
+abbrev pub callsOn : List (List ℕ) → List ℕ → List ℕ
+callsOn [] b = b
+callsOn (m ∷ ms) b = callsOn ms (messageCall b m .state)
+
+refused-stays : (ms : List (List ℕ)) (n : ℕ) → messagesOn ms (refused n) ≡ refused n
+refused-stays [] n = refl
+refused-stays (m ∷ ms) n = refused-stays ms n
+
+-- where all are accepted, the bytes hold the sensor after them
+calls-held : (ms : List (List ℕ)) (b : List ℕ) (s t : Sensor) → HoldsSensor b s → messagesOn ms (accepted s) ≡ accepted t → HoldsSensor (callsOn ms b) t
+calls-held [] b s t h e =
+    let same : s ≡ t = cc in
+    subst (HoldsSensor b) same h
+calls-held (m ∷ ms) b s t h e =
+    go (messageOn s m) (takes b m s h .1) (λ x. calls-held ms (messageCall b m .state) x t) e
+  where
+    go : (o : Acceptance) → HoldsSensor (messageCall b m .state) (sensorAfter o s)
+        → ((x : Sensor) → HoldsSensor (messageCall b m .state) x → messagesOn ms (accepted x) ≡ accepted t → HoldsSensor (callsOn ms (messageCall b m .state)) t)
+        → messagesOn ms o ≡ accepted t → HoldsSensor (callsOn ms (messageCall b m .state)) t
+    go (accepted x) g rest f = rest x g f
+    go (refused n) g rest f =
+        let clash : refused n ≡ accepted t = sym (refused-stays ms n) ∙ f in
+        let none : true ≡ false = cc in
+        absurd (true≢false none)
+
+-- the bytes hold a sensor with each listed register at its last value, and the others as they were
+pub record SetIn (pairs : List ℕ) (before : Sensor) (b : List ℕ) : Type 0 where
+  pub after : Sensor
+  pub held : HoldsSensor b after
+  pub set : SetAs pairs before (accepted after)
+
+-- what is written from pairs, taken a call each
+pub pairs-set : (b : List ℕ) (s : Sensor) (pairs bytes : List ℕ) (room n : ℕ) → HoldsSensor b s → writeOf pairs room ≡ used n bytes
+    → SetIn pairs s (callsOn (inThrees bytes) b)
+pairs-set b s pairs bytes room n h w =
+    go (messagesOn (inThrees bytes) (accepted s)) (written-read-back s pairs bytes room n (h .whole .index) (h .whole .full) w) refl
+  where
+    go : (o : Acceptance) → SetAs pairs s o → messagesOn (inThrees bytes) (accepted s) ≡ o → SetIn pairs s (callsOn (inThrees bytes) b)
+    go (accepted t) k e = record { after = t; held = calls-held (inThrees bytes) b s t h e; set = k }
+    go (refused m) k e = absurd k
