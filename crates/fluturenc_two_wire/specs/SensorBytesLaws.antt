@@ -94,10 +94,10 @@ unfolding messageCall
 message-call b message s held read = simp held (ap (λ (x : Sensor). messageCalled (messageOn x message) b) read)
 
 -- a message is answered, and leaves the bytes, as the sensor that they hold has it
-pub takes : (b message : List ℕ) (s : Sensor) → HoldsSensor b s
+pub message-taken : (b message : List ℕ) (s : Sensor) → HoldsSensor b s
     → (messageCall b message ≡ messageCalled (messageOn s message) b)
     × HoldsSensor (messageCall b message .state) (sensorAfter (messageOn s message) s)
-takes b message s h =
+message-taken b message s h =
     let e = message-call b message s (h .held) (h .read) in
     let k = subst (λ (n : ℕ). Kept n (messageOn s message)) (h .whole .full) (message-keeps s message) in
     (e, subst (λ (c : Called). HoldsSensor (c .state) (sensorAfter (messageOn s message) s)) (sym e) (called-held (messageOn s message) b s k h))
@@ -119,7 +119,7 @@ calls-held [] b s t h e =
     let same : s ≡ t = cc in
     subst (HoldsSensor b) same h
 calls-held (m ∷ ms) b s t h e =
-    go (messageOn s m) (takes b m s h .1) (λ x. calls-held ms (messageCall b m .state) x t) e
+    go (messageOn s m) (message-taken b m s h .1) (λ x. calls-held ms (messageCall b m .state) x t) e
   where
     go : (o : Acceptance) → HoldsSensor (messageCall b m .state) (sensorAfter o s)
         → ((x : Sensor) → HoldsSensor (messageCall b m .state) x → messagesOn ms (accepted x) ≡ accepted t → HoldsSensor (callsOn ms (messageCall b m .state)) t)

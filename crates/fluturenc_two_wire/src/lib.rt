@@ -26,8 +26,6 @@ const FLAG: usize = 129;
 
 const LENGTH: usize = 130;
 
-const LAST_INDEX: u8 = 127;
-
 // The bytes of a sensor's state.
 #[no_mangle]
 pub extern "C" fn fluturenc_sensor_length() -> usize
@@ -90,7 +88,7 @@ fn holds_sensor(sensor: &[u8]) -> bool
     if sensor.len() < LENGTH {
         return false;
     }
-    if LAST_INDEX < sensor[INDEX] {
+    if two_wire::LAST_INDEX < sensor[INDEX] {
         return false;
     }
     sensor[FLAG] <= 1

@@ -8,24 +8,24 @@ use Rattle.reason.specs.declared.Reason.{Reason}
 use Rattle.reason.specs.Valued.{Valued, good-line, good-gap, numbered, valued}
 
 -- in place of a refusal's number
-abbrev pub goodLine : ℕ
-goodLine = 128
+abbrev pub goodLineNumber : ℕ
+goodLineNumber = 128
 
-abbrev pub goodGap : ℕ
-goodGap = 129
+abbrev pub goodGapNumber : ℕ
+goodGapNumber = 129
 
 -- in place of a value that there is not: the greatest of 64 bits
 abbrev pub noValue : ℕ
 noValue = 0xFFFFFFFFFFFFFFFF
 
-abbrev pub numberIn : Valued → ℕ
-numberIn good-line = goodLine
-numberIn good-gap = goodGap
-numberIn (numbered n values) = n
+abbrev pub valuedNumber : Valued → ℕ
+valuedNumber good-line = goodLineNumber
+valuedNumber good-gap = goodGapNumber
+valuedNumber (numbered n values) = n
 
-abbrev pub firstOf : List ℕ → ℕ
-firstOf [] = noValue
-firstOf (v ∷ values) = v
+abbrev pub headValue : List ℕ → ℕ
+headValue [] = noValue
+headValue (v ∷ values) = v
 
 -- digits of a number in twos, the lowest first
 abbrev pub inTwos : List ℕ → ℕ
@@ -33,30 +33,30 @@ inTwos [] = 0
 inTwos (x ∷ xs) = x + 2 * inTwos xs
 
 -- what follows the first value: none, the second, or the parity sums as bits
-abbrev pub restOf : List ℕ → ℕ
-restOf [] = noValue
-restOf (v ∷ []) = noValue
-restOf (v ∷ w ∷ []) = w
-restOf (v ∷ a ∷ b ∷ values) = inTwos (a ∷ b ∷ values)
+abbrev pub restValue : List ℕ → ℕ
+restValue [] = noValue
+restValue (v ∷ []) = noValue
+restValue (v ∷ w ∷ []) = w
+restValue (v ∷ a ∷ b ∷ values) = inTwos (a ∷ b ∷ values)
 
-abbrev pub firstIn : Valued → ℕ
-firstIn good-line = noValue
-firstIn good-gap = noValue
-firstIn (numbered n values) = firstOf values
+abbrev pub valuedFirst : Valued → ℕ
+valuedFirst good-line = noValue
+valuedFirst good-gap = noValue
+valuedFirst (numbered n values) = headValue values
 
-abbrev pub secondIn : Valued → ℕ
-secondIn good-line = noValue
-secondIn good-gap = noValue
-secondIn (numbered n values) = restOf values
+abbrev pub valuedSecond : Valued → ℕ
+valuedSecond good-line = noValue
+valuedSecond good-gap = noValue
+valuedSecond (numbered n values) = restValue values
 
 abbrev pub whyNumber : Reason → ℕ
-whyNumber r = numberIn (valued r)
+whyNumber r = valuedNumber (valued r)
 
 abbrev pub whyFirst : Reason → ℕ
-whyFirst r = firstIn (valued r)
+whyFirst r = valuedFirst (valued r)
 
 abbrev pub whySecond : Reason → ℕ
-whySecond r = secondIn (valued r)
+whySecond r = valuedSecond (valued r)
 
 -- the parity sums that fail, as bits
 abbrev pub sumBits : FailedSums → ℕ

@@ -49,7 +49,7 @@ const READ_ADDRESS: u8 = 33;
 // How many registers there are, and the last one's index.
 const REGISTERS: u8 = 128;
 
-const LAST_INDEX: u8 = 127;
+pub const LAST_INDEX: u8 = 127;
 
 // The registers below this one are the sensor's own.
 const FIRST_SETTABLE: u8 = 5;
