@@ -14,8 +14,8 @@ use Rattle.diff_summary.specs.Front.{changeOf}
 unfoldable pub absoluteDifference : ℕ → ℕ → ℕ
 absoluteDifference x y = cond (ltb x y) (y - x) (x - y)
 
-unfoldable pub greater : ℕ → ℕ → ℕ
-greater x y = cond (ltb x y) y x
+unfoldable pub greaterOf : ℕ → ℕ → ℕ
+greaterOf x y = cond (ltb x y) y x
 
 -- nothing differs
 abbrev pub fresh : Summary
@@ -52,21 +52,21 @@ withPixel s n by =
       lines = linesWith s n;
       least = leastWith s n;
       last = n;
-      most = greater (s .most) by;
+      most = greaterOf (s .most) by;
     }
 
 -- with one difference more
-abbrev pub counted : Summary → Change → Summary
-counted s (First n) = withCounts s (oneMore (s .first)) (s .second) (s .kinds)
-counted s (Second n) = withCounts s (s .first) (oneMore (s .second)) (s .kinds)
-counted s (Kinds n k m) = withCounts s (s .first) (s .second) (oneMore (s .kinds))
-counted s (Bytes n p x y) = withPixel s n (absoluteDifference x y)
+abbrev pub withChange : Summary → Change → Summary
+withChange s (First n) = withCounts s (oneMore (s .first)) (s .second) (s .kinds)
+withChange s (Second n) = withCounts s (s .first) (oneMore (s .second)) (s .kinds)
+withChange s (Kinds n k m) = withCounts s (s .first) (s .second) (oneMore (s .kinds))
+withChange s (Bytes n p x y) = withPixel s n (absoluteDifference x y)
 
 -- with all of these
-abbrev pub countedAll : Summary → List Difference → Summary
-countedAll s [] = s
-countedAll s (d ∷ ds) = countedAll (counted s (changeOf d)) ds
+abbrev pub withDifferences : Summary → List Difference → Summary
+withDifferences s [] = s
+withDifferences s (d ∷ ds) = withDifferences (withChange s (changeOf d)) ds
 
 -- the summary of differences
 abbrev pub summaryOf : List Difference → Summary
-summaryOf = countedAll fresh
+summaryOf = withDifferences fresh

@@ -4,6 +4,8 @@ use mathlib.Core.List.{List, [], _++_}
 use Prim.Native.Nat.{ℕ}
 use lib.Dec.{eqb}
 use Rattle.text.specs.Text.{ascii, decimal}
+use Rattle.line_code.specs.declared.Kind.the-variants.{BL, BK, VL, SOF, EOF}
+use Rattle.line_code.specs.LineCode.{kindNumber}
 use Rattle.diff_summary.specs.declared.Change.{Change}
 use Rattle.diff_summary.specs.declared.Change.the-variants.{First, Second, Kinds, Bytes}
 use Rattle.diff_summary.specs.declared.Summary.{Summary}
@@ -16,11 +18,22 @@ lineWord n = ascii "line " ++ decimal n
 unfoldable pub pairWords : ℕ → ℕ → List ℕ
 pairWords x y = ascii ": " ++ (decimal x ++ (ascii ", then " ++ (decimal y ++ ascii "\n")))
 
+-- a kind in words, or any other number as it is
+unfoldable pub kindWord : ℕ → List ℕ
+kindWord k =
+    cond (eqb k (kindNumber BL)) (ascii "blank")
+    (cond (eqb k (kindNumber BK)) (ascii "black")
+    (cond (eqb k (kindNumber VL)) (ascii "visible")
+    (cond (eqb k (kindNumber SOF)) (ascii "start of frame") (cond (eqb k (kindNumber EOF)) (ascii "end of frame") (decimal k)))))
+
+unfoldable pub kindsWords : ℕ → ℕ → List ℕ
+kindsWords x y = ascii ": " ++ (kindWord x ++ (ascii ", then " ++ (kindWord y ++ ascii "\n")))
+
 -- the row of a difference
 unfoldable pub changeRow : Change → List ℕ
 changeRow (First n) = lineWord n ++ ascii " only in the first capture\n"
 changeRow (Second n) = lineWord n ++ ascii " only in the second capture\n"
-changeRow (Kinds n k m) = lineWord n ++ (ascii " kind" ++ pairWords k m)
+changeRow (Kinds n k m) = lineWord n ++ (ascii " kind" ++ kindsWords k m)
 changeRow (Bytes n p x y) = lineWord n ++ (ascii " pixel " ++ (decimal p ++ pairWords x y))
 
 -- The summary.
@@ -40,4 +53,4 @@ unfoldable pub summaryText : Summary → List ℕ
 summaryText s =
     countText (ascii "lines only in the first capture: ") (s .first)
     ++ (countText (ascii "lines only in the second capture: ") (s .second)
-    ++ (countText (ascii "lines of two kinds: ") (s .kinds) ++ (countText (ascii "pixels that differ: ") (s .pixels) ++ placesText s)))
+    ++ (countText (ascii "lines of two kinds (5 where only one capture has borders): ") (s .kinds) ++ (countText (ascii "pixels that differ: ") (s .pixels) ++ placesText s)))

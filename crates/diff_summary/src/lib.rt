@@ -13,9 +13,10 @@ ghost use Rattle.line_list.specs.Lines.{lineSize, fromTwo, frontLine, fullLines
 ghost use Rattle.difference.specs.Difference.{bothKinds, bothBytes, unless, placesFrom, betweenLines, differences};
 ghost use Rattle.difference.specs.Next.{nextDifferences};
 ghost use Rattle.diff_summary.specs.Front.{frontOf, frontSize, changeOf};
-ghost use Rattle.diff_summary.specs.Summary.{absoluteDifference, greater, fresh, withCounts, linesWith, leastWith, withPixel, counted, countedAll, summaryOf};
-ghost use Rattle.diff_summary.specs.Words.{changeRow, lineWord, pairWords, countText, placesText, summaryText};
+ghost use Rattle.diff_summary.specs.Summary.{absoluteDifference, greaterOf, fresh, withCounts, linesWith, leastWith, withPixel, withChange, withDifferences, summaryOf};
+ghost use Rattle.diff_summary.specs.Words.{changeRow, lineWord, kindWord, kindsWords, pairWords, countText, placesText, summaryText};
 use counts::one_more;
+use line_code::Kind;
 use line_list::HEAD;
 use line_list::LINE;
 use line_list::NO_LINE;
@@ -144,7 +145,7 @@ impl Summary {
 
     // With what differs of the next number.
     fn with_next(self, a: &[u8], b: &[u8]) -> Summary
-        ensures { λ r. ⌜ r ≡ countedAll self (nextDifferences (now (a .entry)) (now (b .entry))) ⌝ }
+        ensures { λ r. ⌜ r ≡ withDifferences self (nextDifferences (now (a .entry)) (now (b .entry))) ⌝ }
     {
         let n = line_list::next_number(a);
         let m = line_list::next_number(b);
@@ -163,7 +164,7 @@ impl Summary {
     // With what differs between two lines of one number.
     fn with_between(self, n: usize, a: &[u8], b: &[u8]) -> Summary
         requires { ⌜ (lineSize ≤ length (now a)) × (lineSize ≤ length (now b)) × (n ≡ frontLine (now a) .number) ⌝ }
-        ensures { λ r. ⌜ r ≡ countedAll self (betweenLines (frontLine (now (a .entry))) (frontLine (now (b .entry)))) ⌝ }
+        ensures { λ r. ⌜ r ≡ withDifferences self (betweenLines (frontLine (now (a .entry))) (frontLine (now (b .entry)))) ⌝ }
     {
         let s = self.with_kinds(n, a[0], b[0]);
         s.with_places(n, &a[HEAD..LINE], &b[HEAD..LINE])
@@ -171,7 +172,7 @@ impl Summary {
 
     // With both kinds, where they differ.
     fn with_kinds(self, n: usize, x: u8, y: u8) -> Summary
-        ensures { λ r. ⌜ r ≡ countedAll self (unless (eqb x y) (bothKinds n x y) []) ⌝ }
+        ensures { λ r. ⌜ r ≡ withDifferences self (unless (eqb x y) (bothKinds n x y) []) ⌝ }
     {
         if x == y {
             return self;
@@ -182,7 +183,7 @@ impl Summary {
     // With the places where two bodies differ.
     fn with_places(self, n: usize, a: &[u8], b: &[u8]) -> Summary
         requires { ⌜ length (now a) ≡ length (now b) ⌝ }
-        ensures { λ r. ⌜ r ≡ countedAll self (placesFrom n 0 (now (a .entry)) (now (b .entry))) ⌝ }
+        ensures { λ r. ⌜ r ≡ withDifferences self (placesFrom n 0 (now (a .entry)) (now (b .entry))) ⌝ }
     {
         let mut s = self;
         let mut p: usize = 0;
@@ -195,7 +196,7 @@ impl Summary {
 
     // With a place and both bytes, where they differ.
     fn with_place(self, n: usize, p: usize, x: u8, y: u8) -> Summary
-        ensures { λ r. ⌜ r ≡ countedAll self (unless (eqb x y) (bothBytes n p x y) []) ⌝ }
+        ensures { λ r. ⌜ r ≡ withDifferences self (unless (eqb x y) (bothBytes n p x y) []) ⌝ }
     {
         if x == y {
             return self;
@@ -205,7 +206,7 @@ impl Summary {
 
     // With one difference more.
     fn count(self, change: Change) -> Summary
-        ensures { λ r. ⌜ r ≡ counted self change ⌝ }
+        ensures { λ r. ⌜ r ≡ withChange self change ⌝ }
     {
         match change {
             Change::First(_) => self.with(one_more(self.first), self.second, self.kinds),
@@ -238,7 +239,7 @@ impl Summary {
         let pixels = one_more(self.pixels);
         let lines = self.lines_with(number);
         let least = self.least_with(number);
-        let most = greater(self.most, by);
+        let most = greater_of(self.most, by);
         Summary {
             first: self.first,
             second: self.second,
@@ -283,8 +284,8 @@ fn absolute_difference(x: u8, y: u8) -> u8
     x - y
 }
 
-fn greater(x: u8, y: u8) -> u8
-    ensures { λ r. ⌜ r ≡ greater x y ⌝ }
+fn greater_of(x: u8, y: u8) -> u8
+    ensures { λ r. ⌜ r ≡ greaterOf x y ⌝ }
 {
     if x < y {
         return y;
@@ -310,7 +311,7 @@ pub fn put_row(change: Change, out: &mut [u8], at: usize) -> usize
         Change::Kinds(number, x, y) => {
             let at = put_line(number, out, at);
             let at = put(b" kind", out, at);
-            put_pair(x, y, out, at)
+            put_kinds(x, y, out, at)
         }
         Change::Bytes(number, place, x, y) => {
             let at = put_line(number, out, at);
@@ -326,6 +327,39 @@ fn put_line(number: usize, out: &mut [u8], at: usize) -> usize
 {
     let at = put(b"line ", out, at);
     put_decimal(number as u64, out, at)
+}
+
+// Both kinds in words.
+fn put_kinds(x: u8, y: u8, out: &mut [u8], at: usize) -> usize
+    ensures { λ r. ⌜ Puts (now (out .entry)) at (kindsWords x y) r (now (out .exit)) ⌝ }
+{
+    let at = put(b": ", out, at);
+    let at = put_kind(x, out, at);
+    let at = put(b", then ", out, at);
+    let at = put_kind(y, out, at);
+    put(b"\n", out, at)
+}
+
+// A kind in words, or any other byte as it is.
+fn put_kind(kind: u8, out: &mut [u8], at: usize) -> usize
+    ensures { λ r. ⌜ Puts (now (out .entry)) at (kindWord kind) r (now (out .exit)) ⌝ }
+{
+    if kind == Kind::BL.number() {
+        return put(b"blank", out, at);
+    }
+    if kind == Kind::BK.number() {
+        return put(b"black", out, at);
+    }
+    if kind == Kind::VL.number() {
+        return put(b"visible", out, at);
+    }
+    if kind == Kind::SOF.number() {
+        return put(b"start of frame", out, at);
+    }
+    if kind == Kind::EOF.number() {
+        return put(b"end of frame", out, at);
+    }
+    put_decimal(kind as u64, out, at)
 }
 
 fn put_pair(x: u8, y: u8, out: &mut [u8], at: usize) -> usize
@@ -345,7 +379,12 @@ impl Summary {
     {
         let at = put_count(b"lines only in the first capture: ", self.first, out, at);
         let at = put_count(b"lines only in the second capture: ", self.second, out, at);
-        let at = put_count(b"lines of two kinds: ", self.kinds, out, at);
+        let at = put_count(
+            b"lines of two kinds (5 where only one capture has borders): ",
+            self.kinds,
+            out,
+            at,
+        );
         let at = put_count(b"pixels that differ: ", self.pixels, out, at);
         self.put_places(out, at)
     }

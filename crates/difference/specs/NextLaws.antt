@@ -9,7 +9,7 @@ use lib.Dec.{ltb}
 use lib.ListN.{length, drop, length-append, length-drop}
 use lib.Seq.{drop-drop}
 use Rattle.line_list.specs.Lines.{FullLine, lineSize, noLine, frontLine, fullLines, Next, none, some}
-use Rattle.line_list.specs.LinesLaws.{lines-step, lines-none, part, part-is}
+use Rattle.line_list.specs.LinesLaws.{lines-step, lines-none, lentFrom, lent-from-is}
 use Rattle.difference.specs.Difference.{Difference, onlyFirst, onlySecond, betweenLines, differences, encodedAll}
 use Rattle.difference.specs.DifferenceLaws.{step-first, step-second, step-both, encoded-append}
 use Rattle.difference.specs.Next.{nextNumber, ofLeast, nextDifferences, howFar}
@@ -176,37 +176,37 @@ module _ (x y : List ℕ) (n m : ℕ) (p : Next x n) (q : Next y m) where
 -- From a place of each list on.
 
 -- the bytes of the differences there
-unfoldable pub leftOf : List ℕ → List ℕ → ℕ → ℕ → List ℕ
-leftOf first second i j = encodedAll (differences (fullLines (drop i first)) (fullLines (drop j second)))
+unfoldable pub leftBytes : List ℕ → List ℕ → ℕ → ℕ → List ℕ
+leftBytes first second i j = encodedAll (differences (fullLines (drop i first)) (fullLines (drop j second)))
 
-module _ (first second : List ℕ) (i j n m : ℕ) (p : Next (part first i) n) (q : Next (part second j) m) where
-  here : Stepped (part first i) (part second j) n m
-  here = stepped (part first i) (part second j) n m p q
+module _ (first second : List ℕ) (i j n m : ℕ) (p : Next (lentFrom first i) n) (q : Next (lentFrom second j) m) where
+  here : Stepped (lentFrom first i) (lentFrom second j) n m
+  here = stepped (lentFrom first i) (lentFrom second j) n m p q
 
-  pub left-step : leftOf first second i j ≡ encodedAll (nextDifferences (part first i) (part second j)) ++ leftOf first second (i + howFar n m) (j + howFar m n)
-  unfolding leftOf
+  pub left-step : leftBytes first second i j ≡ encodedAll (nextDifferences (lentFrom first i) (lentFrom second j)) ++ leftBytes first second (i + howFar n m) (j + howFar m n)
+  unfolding leftBytes
   left-step =
-      ap (λ (l : List ℕ). encodedAll (differences (fullLines l) (fullLines (drop j second)))) (sym (part-is first i))
-      ∙ ap (λ (l : List ℕ). encodedAll (differences (fullLines (part first i)) (fullLines l))) (sym (part-is second j))
+      ap (λ (l : List ℕ). encodedAll (differences (fullLines l) (fullLines (drop j second)))) (sym (lent-from-is first i))
+      ∙ ap (λ (l : List ℕ). encodedAll (differences (fullLines (lentFrom first i)) (fullLines l))) (sym (lent-from-is second j))
       ∙ ap encodedAll (here .gives)
-      ∙ encoded-append (nextDifferences (part first i) (part second j)) _
-      ∙ ap (λ (l : List ℕ). encodedAll (nextDifferences (part first i) (part second j)) ++ encodedAll (differences (fullLines l) (fullLines (drop (howFar m n) (part second j)))))
-      (ap (drop (howFar n m)) (part-is first i) ∙ drop-drop (howFar n m) i first)
-      ∙ ap (λ (l : List ℕ). encodedAll (nextDifferences (part first i) (part second j)) ++ encodedAll (differences (fullLines (drop (i + howFar n m) first)) (fullLines l)))
-      (ap (drop (howFar m n)) (part-is second j) ∙ drop-drop (howFar m n) j second)
+      ∙ encoded-append (nextDifferences (lentFrom first i) (lentFrom second j)) _
+      ∙ ap (λ (l : List ℕ). encodedAll (nextDifferences (lentFrom first i) (lentFrom second j)) ++ encodedAll (differences (fullLines l) (fullLines (drop (howFar m n) (lentFrom second j)))))
+      (ap (drop (howFar n m)) (lent-from-is first i) ∙ drop-drop (howFar n m) i first)
+      ∙ ap (λ (l : List ℕ). encodedAll (nextDifferences (lentFrom first i) (lentFrom second j)) ++ encodedAll (differences (fullLines (drop (i + howFar n m) first)) (fullLines l)))
+      (ap (drop (howFar m n)) (lent-from-is second j) ∙ drop-drop (howFar m n) j second)
 
-  pub left-length : length (leftOf first second i j) ≡ length (encodedAll (nextDifferences (part first i) (part second j))) + length (leftOf first second (i + howFar n m) (j + howFar m n))
-  left-length = ap length left-step ∙ length-append (encodedAll (nextDifferences (part first i) (part second j))) _
+  pub left-length : length (leftBytes first second i j) ≡ length (encodedAll (nextDifferences (lentFrom first i) (lentFrom second j))) + length (leftBytes first second (i + howFar n m) (j + howFar m n))
+  left-length = ap length left-step ∙ length-append (encodedAll (nextDifferences (lentFrom first i) (lentFrom second j))) _
 
-  pub left-end : howFar n m + howFar m n ≡ 0 → leftOf first second i j ≡ []
-  unfolding leftOf
+  pub left-end : howFar n m + howFar m n ≡ 0 → leftBytes first second i j ≡ []
+  unfolding leftBytes
   left-end e =
-      ap (λ (l : List ℕ). encodedAll (differences (fullLines l) (fullLines (drop j second)))) (sym (part-is first i))
-      ∙ ap (λ (l : List ℕ). encodedAll (differences (fullLines (part first i)) (fullLines l))) (sym (part-is second j))
+      ap (λ (l : List ℕ). encodedAll (differences (fullLines l) (fullLines (drop j second)))) (sym (lent-from-is first i))
+      ∙ ap (λ (l : List ℕ). encodedAll (differences (fullLines (lentFrom first i)) (fullLines l))) (sym (lent-from-is second j))
       ∙ ap encodedAll (here .ends e)
 
   pub in-first : howFar n m ≤ length first - i
-  in-first = omega (arith, here .first-in, ap length (part-is first i), length-drop i first)
+  in-first = omega (arith, here .first-in, ap length (lent-from-is first i), length-drop i first)
 
   pub in-second : howFar m n ≤ length second - j
-  in-second = omega (arith, here .second-in, ap length (part-is second j), length-drop j second)
+  in-second = omega (arith, here .second-in, ap length (lent-from-is second j), length-drop j second)

@@ -1,4 +1,4 @@
--- The first complete frame of a capture (02, A1 and A2): the capture's nibbles in, piece by piece, and the rows of the frame out.
+-- The first complete frame of a capture (02, A1, A2 and A13): the capture's nibbles in, piece by piece, and the rows of the frame out.
 use mathlib.Core.Path.{_≡_}
 use mathlib.Core.Bool.{Bool, true, false, cond}
 use mathlib.Core.List.{List, [], _∷_}
@@ -10,7 +10,7 @@ use Rattle.profile.specs.Profile.{longest}
 use Rattle.stream.specs.Answers.{answerFor, bufferAfter}
 use Rattle.reader.specs.declared.Reader.{Reader}
 use Rattle.reader.specs.Reader.{Took, passes, freshReader, feedOf}
-use Rattle.frame_rows.specs.declared.Order.{Order}
+use Rattle.frame_rows.specs.declared.Keeping.{Keeping}
 use Rattle.frame_rows.specs.declared.Gatherer.{Gatherer}
 use Rattle.frame_rows.specs.FrameRows.{Output, nothing, complete, refused, outputOf, AfterCall, fresh, quiet}
 use Rattle.frame_rows.specs.Gathering.{Given, call}
@@ -18,8 +18,8 @@ use Rattle.frame_grabber.specs.declared.Grabber.{Grabber}
 use Rattle.frame_grabber.specs.declared.Grabbed.{Grabbed}
 
 -- a fresh profile 0 reader, and a fresh gatherer
-abbrev pub freshGrabber : Order → Grabber
-freshGrabber o = record { reader = freshReader VV5404; gatherer = fresh o }
+abbrev pub freshGrabber : Keeping → Grabber
+freshGrabber k = record { reader = freshReader VV5404; gatherer = fresh k }
 
 -- One nibble.
 

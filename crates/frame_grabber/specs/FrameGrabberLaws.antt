@@ -1,4 +1,4 @@
--- The picture of a capture: a visible line that the reader gives out is laid out as 01 says, so the file of a complete frame is written.
+-- The first complete frame of a capture: a visible line that the reader gives out is laid out as 01 says, so the file of a picture is written.
 use mathlib.Core.Path.{_≡_, refl, sym, ap, subst, _∙_}
 use mathlib.Core.Bool.{Bool, true, false, cond, true≢false}
 use mathlib.Core.List.{List, [], _∷_, _++_}
@@ -23,13 +23,15 @@ use Rattle.frame.specs.declared.Handed.the-variants as hand
 use Rattle.frame.specs.Frame.{brokenKind}
 use Rattle.frame.specs.Handing.{isBrokenLine, asLines, handedLines}
 use Rattle.frame_rows.specs.declared.Order.{Order}
+use Rattle.frame_rows.specs.declared.Keeping.{Keeping}
+use Rattle.frame_rows.specs.declared.Keeping.the-variants.{VisiblePixels}
 use Rattle.frame_rows.specs.FrameRows.{Shown, complete, isVisible}
 use Rattle.frame_rows.specs.FrameRows as rows
 use Rattle.frame_rows.specs.Gathering.{call, start, isRefused, unlessRefused, shown, taken, Laid, Every}
 use Rattle.frame_rows.specs.FrameRowsLaws.{complete-rows}
 use Rattle.frame_rows.specs.PictureLaws.{rows-written}
 use Rattle.frame_grabber.specs.FrameGrabber.{freshGrabber, blank, given, seek, After, grabOf}
-use Rattle.frame_grabber.specs.Pieces.{joined, grabPieces, givens, linesIn, Pictured}
+use Rattle.frame_grabber.specs.Pieces.{joined, grabPieces, givens, linesIn, FrameFound, Pictured}
 use Rattle.frame_grabber.specs.SeekLaws.{seeks}
 use Rattle.frame_grabber.specs.PieceLaws.{grab-is, pieces-whole}
 
@@ -92,29 +94,34 @@ givens-laid (n ∷ w) r x e =
     every-append Laid (unlessRefused (y .output) (shown (handedLines (given t .answer)) (given t .held))) (taken y (givens (t .reader) w))
     (kept-laid (isRefused (y .output)) _ (q .0)) (givens-laid w (t .reader) y (q .1))
 
--- The picture.
+-- The frame.
 
 -- of a whole capture
-first-frame : (o : Order) (held capture : List ℕ) (n : ℕ) (w : List ℕ) → grabOf (freshGrabber o) capture held .output ≡ complete n w
-    → Pictured o held capture n w
-first-frame o held capture n w e =
-    let s = freshGrabber o in
-    let k = seeks capture (s .reader) (s .gatherer) held in
-    let c = complete-rows o held (givens (freshReader VV5404) (k .upTo)) n w
-    (sym (ap (λ (x : rows.AfterCall). x .output) (k .outcome-is)) ∙ sym (ap (λ (a : After). a .output) (grab-is s capture held (passes-test _ (fresh-ok VV5404 .test)))) ∙ e) in
-    let laid = givens-laid (k .upTo) (freshReader VV5404) (start o held) refl in
+first-frame : (k : Keeping) (held capture : List ℕ) (n : ℕ) (w : List ℕ) → grabOf (freshGrabber k) capture held .output ≡ complete n w
+    → FrameFound k held capture n w
+first-frame k held capture n w e =
+    let s = freshGrabber k in
+    let f = seeks capture (s .reader) (s .gatherer) held in
     record {
-      upTo = k .upTo;
+      upTo = f .upTo;
       left = seek (s .reader) (s .gatherer) held capture .left;
-      splits = k .splits;
-      completes = c;
-      laid = laid;
-      written = λ room. rows-written o (linesIn o held (k .upTo)) n w c room laid;
+      splits = f .splits;
+      completes =
+          complete-rows k held (givens (freshReader VV5404) (f .upTo)) n w
+          (sym (ap (λ (x : rows.AfterCall). x .output) (f .outcome-is)) ∙ sym (ap (λ (a : After). a .output) (grab-is s capture held (passes-test _ (fresh-ok VV5404 .test)))) ∙ e);
+      laid = givens-laid (f .upTo) (freshReader VV5404) (start k held) refl;
     }
 
--- whatever the pieces: where a fresh grabber says complete, the rows are those of the visible lines of a whole frame, which the capture's lines up
--- to there end in, and their file is written
-pub picture-written : (o : Order) (held : List ℕ) (ps : List (List ℕ)) (n : ℕ) (w : List ℕ) → grabPieces (freshGrabber o) held ps .output ≡ complete n w
-    → Pictured o held (joined ps) n w
+-- whatever the pieces: where a fresh grabber says complete, the rows are those of the lines of a whole frame, which the capture's lines up to there
+-- end in
+pub frame-found : (k : Keeping) (held : List ℕ) (ps : List (List ℕ)) (n : ℕ) (w : List ℕ) → grabPieces (freshGrabber k) held ps .output ≡ complete n w
+    → FrameFound k held (joined ps) n w
+frame-found k held ps n w e =
+    first-frame k held (joined ps) n w (sym (ap (λ (a : After). a .output) (pieces-whole ps (freshGrabber k) held (fresh-ok VV5404))) ∙ e)
+
+-- and the file of a picture's is written
+pub picture-written : (o : Order) (held : List ℕ) (ps : List (List ℕ)) (n : ℕ) (w : List ℕ)
+    → grabPieces (freshGrabber (VisiblePixels o)) held ps .output ≡ complete n w → Pictured o held (joined ps) n w
 picture-written o held ps n w e =
-    first-frame o held (joined ps) n w (sym (ap (λ (a : After). a .output) (pieces-whole ps (freshGrabber o) held (fresh-ok VV5404))) ∙ e)
+    let f = frame-found (VisiblePixels o) held ps n w e in
+    record { found = f; written = λ room. rows-written o (linesIn (VisiblePixels o) held (f .upTo)) n w (f .completes) room (f .laid) }

@@ -11,6 +11,8 @@ use Rattle.reader.specs.declared.Reader.{Reader}
 use Rattle.reader.specs.Reader.{freshReader, feedOf}
 use Rattle.pgm.specs.Pgm.{imageOf, writeOf}
 use Rattle.frame_rows.specs.declared.Order.{Order}
+use Rattle.frame_rows.specs.declared.Keeping.{Keeping}
+use Rattle.frame_rows.specs.declared.Keeping.the-variants.{VisiblePixels}
 use Rattle.frame_rows.specs.FrameRows.{Shown, nothing, quiet}
 use Rattle.frame_rows.specs.Gathering.{Given, calls, start, taken, pictureOf, CompletesRows, Laid, Every}
 use Rattle.frame_grabber.specs.declared.Grabber.{Grabber}
@@ -54,17 +56,21 @@ pub record StandsFed (s : Grabber) (w rows : List ℕ) (a : After) : Type 0 wher
 -- The picture.
 
 -- the lines that nibbles of a capture hand over, from a fresh reader and a fresh gatherer on
-abbrev pub linesIn : Order → List ℕ → List ℕ → List Shown
-linesIn o rows w = taken (start o rows) (givens (freshReader VV5404) w)
+abbrev pub linesIn : Keeping → List ℕ → List ℕ → List Shown
+linesIn k rows w = taken (start k rows) (givens (freshReader VV5404) w)
 
 -- the rows of a capture's first complete frame: the nibbles up to its last line's answer; their lines, which end in those of a whole frame, its
--- rows being these; each visible body laid out as 01 says; and the rows' file, which is written where there is room for it
-pub record Pictured (o : Order) (rows capture : List ℕ) (n : ℕ) (shown : List ℕ) : Type 0 where
+-- rows being these; and each visible body laid out as 01 says
+pub record FrameFound (k : Keeping) (rows capture : List ℕ) (n : ℕ) (shown : List ℕ) : Type 0 where
   pub upTo : List ℕ
   pub left : List ℕ
   pub splits : capture ≡ upTo ++ left
-  pub completes : CompletesRows o (linesIn o rows upTo) n shown
-  pub laid : Every Laid (linesIn o rows upTo)
-  pub written : (room : ℕ) → length (imageOf (pictureOf (completes .borders)) shown) ≤ room
+  pub completes : CompletesRows k (linesIn k rows upTo) n shown
+  pub laid : Every Laid (linesIn k rows upTo)
+
+-- as a picture: its file is written where there is room for it
+pub record Pictured (o : Order) (rows capture : List ℕ) (n : ℕ) (shown : List ℕ) : Type 0 where
+  pub found : FrameFound (VisiblePixels o) rows capture n shown
+  pub written : (room : ℕ) → length (imageOf (pictureOf (found .completes .borders)) shown) ≤ room
       → writeOf shown room
-      ≡ used (length (imageOf (pictureOf (completes .borders)) shown)) (imageOf (pictureOf (completes .borders)) shown)
+      ≡ used (length (imageOf (pictureOf (found .completes .borders)) shown)) (imageOf (pictureOf (found .completes .borders)) shown)

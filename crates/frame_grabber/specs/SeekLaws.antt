@@ -1,29 +1,28 @@
 -- What is sought, nibble by nibble: it is the gatherer's calls up to the first that says something.
 use mathlib.Core.Path.{_≡_, refl, sym, ap, _∙_}
-use mathlib.Core.Bool.{Bool, true, false, _&&_, cond, true≢false}
+use mathlib.Core.Bool.{Bool, true, false, cond, true≢false}
 use mathlib.Core.List.{List, [], _∷_, _++_}
 use Prim.Native.Nat.{ℕ, _+_, _≤_}
 use native.Mathlib.Omega.{arith}
-use lib.ListN.{length, take, length-append}
-use lib.Dec.{eqb, leb}
+use lib.ListN.{length, length-append}
 use lib.Seq.{length-take-le}
-use borrow.Author.Tests.{leb-true}
 use Rattle.refusal.specs.Refusal.{noRoom}
 use Rattle.profile.specs.declared.Profile.the-variants.{VV5404}
-use Rattle.profile.specs.Profile.{width, longest}
+use Rattle.profile.specs.Profile.{longest}
 use Rattle.reader.specs.declared.Reader.{Reader}
 use Rattle.reader.specs.Reader.{Took, feedOf}
 use Rattle.frame.specs.declared.Judge.{Judge}
+use Rattle.frame.specs.declared.Judge.the-variants.{Waiting, Due}
 use Rattle.frame.specs.declared.Ruling.{Ruling}
 use Rattle.frame.specs.declared.Ruling.the-variants as ruling
 use Rattle.frame.specs.Calls.{called}
 use Rattle.frame.specs.Frame.{breaksFrame}
 use Rattle.frame.specs.Handing.{handedLines}
 use Rattle.frame_rows.specs.declared.Gatherer.{Gatherer}
-use Rattle.frame_rows.specs.FrameRows.{Output, Shown, nothing, complete, refused, isVisible, quiet}
+use Rattle.frame_rows.specs.FrameRows.{Output, Shown, nothing, complete, refused, quiet}
 use Rattle.frame_rows.specs.FrameRows as rows
 use Rattle.frame_rows.specs.Gathering.{Given, call, calls, shown}
-use Rattle.frame_rows.specs.FrameRowsLaws.{Hands, none, one, hands}
+use Rattle.frame_rows.specs.FrameRowsLaws.{row-fits, with-row-length, Hands, none, one, hands}
 use Rattle.frame_grabber.specs.FrameGrabber.{given, isSaid, Sought, sought, seek}
 use Rattle.frame_grabber.specs.Pieces.{fedAll, givens}
 
@@ -133,22 +132,34 @@ either-sized : (b : Bool) (x y : rows.AfterCall) → (b ≡ true → Sized (x .o
 either-sized true x y h g = h refl
 either-sized false x y h g = g
 
+row-sized : (g : Gatherer) (j : Judge) (kept place kind : ℕ) (body held : List ℕ) → Sized (rows.onward g j kept place kind body held .output)
+unfolding rows.onward
+row-sized g j kept place kind body held = either-sized (rows.rowFits (g .keeping) kept kind body held) _ (rows.refuses g noRoom held) (λ _. tt) tt
+
 handed-sized : (g : Gatherer) (l : Shown) (held : List ℕ) → Sized (rows.handed g l held .output)
-unfolding rows.handed rows.onward rows.keepRow rows.completed rows.refusedBy
+unfolding rows.handed rows.completed rows.refusedBy rows.afterBreak
 handed-sized g l held = by (called VV5404 (g .judge) (l .given) .ruling)
   where
     j : Judge
     j = called VV5404 (g .judge) (l .given) .judge
 
+    n : ℕ
+    n = g .kept + rows.rowSize (g .keeping) (l .given .kind)
+
+    last : List ℕ
+    last = rows.withRow (g .keeping) (g .kept) (rows.placeDue (g .judge)) (l .given .kind) (l .body) held
+
+    broken : (i : Judge) → Sized (rows.afterBreak g i (l .given .kind) (l .body) held .output)
+    broken Waiting = tt
+    broken (Due place b) = row-sized g (Due place b) 0 0 (l .given .kind) (l .body) held
+
     by : (v : Ruling) → Sized (rows.byRuling g l held j v .output)
     by ruling.Waiting = tt
-    by ruling.Going =
-        either-sized (isVisible (l .given .kind)) (rows.keepRow g j (l .body) held) (quiet (rows.moved g j (g .kept)) held)
-        (λ _. either-sized (eqb (length (l .body)) width && leb (g .kept + width) (length held)) _ (rows.refuses g noRoom held) (λ _. tt) tt) tt
+    by ruling.Going = row-sized g j (g .kept) (rows.placeDue (g .judge)) (l .given .kind) (l .body) held
     by ruling.Complete =
-        either-sized (leb (g .kept) (length held)) (record { gatherer = rows.moved g j 0; output = complete (g .kept) (take (g .kept) held); buffer = held }) (rows.refuses g noRoom held)
-        (λ e. length-take-le (g .kept) held (leb-true _ _ e)) tt
-    by (ruling.Refused n) = either-sized (breaksFrame n) (quiet (rows.moved g j 0) held) (rows.refuses g n held) (λ _. tt) tt
+        either-sized (rows.rowFits (g .keeping) (g .kept) (l .given .kind) (l .body) held) (rows.completing g j n last) (rows.refuses g noRoom held)
+        (λ e. length-take-le n last (omega (arith, row-fits (g .keeping) (g .kept) (l .given .kind) (l .body) held e .1, with-row-length (g .keeping) (g .kept) (rows.placeDue (g .judge)) (l .given .kind) (l .body) held e))) tt
+    by (ruling.Refused m) = either-sized (breaksFrame m) (rows.afterBreak g j (l .given .kind) (l .body) held) (rows.refuses g m held) (λ _. broken j) tt
 
 call-sized : (x : rows.AfterCall) (a : Given) → Sized (call x a .output)
 call-sized x a = by (shown (handedLines (a .answer)) (a .held)) (call x a) (hands x a)

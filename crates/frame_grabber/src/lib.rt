@@ -1,9 +1,9 @@
-// A frame grabber (paper 02, A1 and A2): the first complete profile 0 frame of a capture.
+// A frame grabber (paper 02, A1, A2 and A13): the first complete profile 0 frame of a capture.
 //
 // In: the bytes of a capture, piece after piece, each byte its two nibbles, the high one first; the place of a nibble from which a piece is
 // taken; and a lent buffer for rows, the same one each time. Each answer of the reader goes to the gatherer of rows. Out: beside the next
 // grabber, how many nibbles were taken, and nothing yet, or the length of a complete frame's rows, which stand at the front of the buffer;
-// `pgm::write` takes them. A piece is taken up to the nibble at which a frame is complete or something is refused. Refused: 11 where the reader
+// `pgm::write` or `line_diff::compare` takes them. A piece is taken up to the nibble at which a frame is complete or something is refused. Refused: 11 where the reader
 // fails its own test, before anything is taken; else as the gatherer refuses: 11 and 14 of the judge, 12 of the rows' buffer. A buffer of
 // pgm::MOST_PIXELS has room for every frame. Cost: that of the reader's runs, and linear in the rows; memory does not grow with the capture.
 ghost use mathlib.Core.Path.{_≡_};
@@ -16,7 +16,7 @@ ghost use Rattle.stream.specs.Written.{nibbles};
 ghost use Rattle.frame_rows.specs.FrameRows.{outputOf};
 ghost use Rattle.frame_grabber.specs.FrameGrabber.{freshGrabber, isSaid, grabOf, Grabs};
 use frame_rows::Gatherer;
-use frame_rows::Order;
+use frame_rows::Keeping;
 use frame_rows::Progress;
 use profile::Profile;
 use reader::Reader;
@@ -36,11 +36,11 @@ pub struct Grabbed {
 
 impl Grabber {
     // A fresh profile 0 reader, and a fresh gatherer.
-    pub fn new(order: Order) -> Grabber
-        ensures { λ r. ⌜ r ≡ freshGrabber order ⌝ }
+    pub fn new(keeping: Keeping) -> Grabber
+        ensures { λ r. ⌜ r ≡ freshGrabber keeping ⌝ }
     {
         let reader = Reader::fresh(Profile::VV5404);
-        let gatherer = Gatherer::new(order);
+        let gatherer = Gatherer::new(keeping);
         Grabber { reader, gatherer }
     }
 

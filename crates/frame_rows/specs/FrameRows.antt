@@ -1,8 +1,9 @@
--- The rows of a picture, gathered from the reader's answers (02, A1 and A2): the visible lines of a complete profile 0 frame, top to bottom.
+-- The rows of a complete profile 0 frame, gathered from the reader's answers (02, A1, A2 and A13): a row is what is kept of a line. For a picture that
+-- is a visible line's pixels, and nothing of any other; for a comparison it is the line whole, as a list of lines has it.
 use mathlib.Core.Path.{_≡_}
-use mathlib.Core.Bool.{Bool, _&&_, cond}
+use mathlib.Core.Bool.{Bool, true, _&&_, cond}
 use mathlib.Core.List.{List, [], _∷_, _++_}
-use Prim.Native.Nat.{ℕ, _+_}
+use Prim.Native.Nat.{ℕ, suc, _+_}
 use lib.Dec.{eqb, leb}
 use lib.ListN.{length, take, drop}
 use Rattle.refusal.specs.Refusal.{noRoom}
@@ -14,7 +15,7 @@ use Rattle.stream.specs.declared.Answer.{Answer}
 use Rattle.frame.specs.declared.Handed.{Handed}
 use Rattle.frame.specs.declared.Handed.the-variants as hand
 use Rattle.frame.specs.declared.Judge.{Judge}
-use Rattle.frame.specs.declared.Judge.the-variants.{Waiting}
+use Rattle.frame.specs.declared.Judge.the-variants.{Waiting, Due}
 use Rattle.frame.specs.declared.Ruling.{Ruling}
 use Rattle.frame.specs.declared.Ruling.the-variants as ruling
 use Rattle.frame.specs.Frame.{breaksFrame}
@@ -22,8 +23,12 @@ use Rattle.frame.specs.Calls.{Line, line, called}
 use Rattle.frame.specs.Handing.{handedOver}
 use Rattle.pixel_order.specs.declared.Way.the-variants.{ToPixels}
 use Rattle.pixel_order.specs.PixelOrder.{reordered}
+use Rattle.line_list.specs.Lines.{lineSize, inTwo}
 use Rattle.frame_rows.specs.declared.Order.{Order}
 use Rattle.frame_rows.specs.declared.Order.the-variants.{AsSent, OddFirst}
+use Rattle.frame_rows.specs.declared.Keeping.{Keeping}
+use Rattle.frame_rows.specs.declared.Keeping.the-variants.{VisiblePixels, WholeLines}
+use Rattle.frame_rows.specs.declared.Row.{Row}
 use Rattle.frame_rows.specs.declared.Gatherer.{Gatherer}
 use Rattle.frame_rows.specs.declared.Gathered.{Gathered}
 use Rattle.frame_rows.specs.declared.Progress.{Progress}
@@ -44,14 +49,23 @@ pixelsOf OddFirst body = reordered ToPixels body
 abbrev pub isVisible : ℕ → Bool
 isVisible k = eqb k (kindNumber VL)
 
--- the row of a visible line; no other line has one
-abbrev pub rowOf : Order → Shown → List ℕ
-rowOf o l = cond (isVisible (l .given .kind)) (pixelsOf o (l .body)) []
+-- the row of the line at a place of its frame, of this kind and with this body
+abbrev pub rowOf : Keeping → ℕ → ℕ → List ℕ → List ℕ
+rowOf (VisiblePixels o) place kind body = cond (isVisible kind) (pixelsOf o body) []
+rowOf WholeLines place kind body = (kind ∷ inTwo place) ++ body
 
--- the rows of lines, top to bottom and end to end
-abbrev pub rowsOf : Order → List Shown → List ℕ
-rowsOf o [] = []
-rowsOf o (l ∷ ls) = rowOf o l ++ rowsOf o ls
+-- how long it is, where the body has 356 bytes
+abbrev pub rowSize : Keeping → ℕ → ℕ
+rowSize (VisiblePixels o) kind = cond (isVisible kind) width 0
+rowSize WholeLines kind = lineSize
+
+-- the rows of lines from a place of the frame on, top to bottom and end to end
+abbrev pub rowsFrom : Keeping → ℕ → List Shown → List ℕ
+rowsFrom k place [] = []
+rowsFrom k place (l ∷ ls) = rowOf k place (l .given .kind) (l .body) ++ rowsFrom k (suc place) ls
+
+abbrev pub rowsOf : Keeping → List Shown → List ℕ
+rowsOf k ls = rowsFrom k 0 ls
 
 -- What a call says and leaves.
 
@@ -82,12 +96,12 @@ pub record Gathers (o : AfterCall) (answer : Gathered) (after : List ℕ) : Type
 -- A line handed to the judge.
 
 -- a fresh judge, and no rows
-abbrev pub fresh : Order → Gatherer
-fresh o = record { judge = Waiting; kept = 0; order = o }
+abbrev pub fresh : Keeping → Gatherer
+fresh k = record { judge = Waiting; kept = 0; keeping = k }
 
 -- the judge afterwards, and the bytes of rows that are kept then
 abbrev pub moved : Gatherer → Judge → ℕ → Gatherer
-moved s j kept = record { judge = j; kept = kept; order = s .order }
+moved s j kept = record { judge = j; kept = kept; keeping = s .keeping }
 
 -- the program's answer
 abbrev pub saying : Gatherer → Progress → Gathered
@@ -100,33 +114,56 @@ quiet s buffer = record { gatherer = s; output = nothing; buffer = buffer }
 abbrev pub refuses : Gatherer → ℕ → List ℕ → AfterCall
 refuses s n buffer = record { gatherer = s; output = refused n; buffer = buffer }
 
--- a visible line that was due puts its row after those kept; 12 where the line buffer is shorter than a row, or the room after them is
-unfoldable pub keepRow : Gatherer → Judge → List ℕ → List ℕ → AfterCall
-keepRow s j body buffer =
-    cond (eqb (length body) width && leb (s .kept + width) (length buffer))
-    (quiet (moved s j (s .kept + width)) (take (s .kept) buffer ++ (pixelsOf (s .order) body ++ drop (s .kept + width) buffer)))
+-- the place of the line that is due: the first, while the judge waits
+abbrev pub placeDue : Judge → ℕ
+placeDue Waiting = 0
+placeDue (Due place b) = place
+
+-- a row of a line that was due is put after the bytes kept, unless the line buffer is shorter than a body, or there is no room for the row
+unfoldable pub rowFits : Keeping → ℕ → ℕ → List ℕ → List ℕ → Bool
+rowFits k kept kind body buffer = eqb (length body) width && leb (kept + rowSize k kind) (length buffer)
+
+unfoldable pub withRow : Keeping → ℕ → ℕ → ℕ → List ℕ → List ℕ → List ℕ
+withRow k kept place kind body buffer = take kept buffer ++ (rowOf k place kind body ++ drop (kept + rowSize k kind) buffer)
+
+-- a call that says whether a row fits, puts it where it does, and says where it then ends
+pub record Keeps (k : Keeping) (kept place kind : ℕ) (body before : List ℕ) (answer : Row) (after : List ℕ) : Type 0 where
+  pub fitting : answer .fits ≡ rowFits k kept kind body before
+  pub ending : answer .fits ≡ true → answer .end ≡ kept + rowSize k kind
+  pub leaves : after ≡ cond (answer .fits) (withRow k kept place kind body before) before
+
+-- a line that was due, and not the last; 12 where its row does not fit
+unfoldable pub onward : Gatherer → Judge → ℕ → ℕ → ℕ → List ℕ → List ℕ → AfterCall
+onward s j kept place kind body buffer =
+    cond (rowFits (s .keeping) kept kind body buffer)
+    (quiet (moved s j (kept + rowSize (s .keeping) kind)) (withRow (s .keeping) kept place kind body buffer))
     (refuses s noRoom buffer)
 
--- a line that was due
-unfoldable pub onward : Gatherer → Judge → ℕ → List ℕ → List ℕ → AfterCall
-onward s j k body buffer = cond (isVisible k) (keepRow s j body buffer) (quiet (moved s j (s .kept)) buffer)
+-- n bytes of rows, at the front of their buffer, are a frame's; none are kept for the next
+abbrev pub completing : Gatherer → Judge → ℕ → List ℕ → AfterCall
+completing s j n buffer = record { gatherer = moved s j 0; output = complete n (take n buffer); buffer = buffer }
 
--- a frame's last line: the rows kept are its rows; 12 where they are longer than the buffer
-unfoldable pub completed : Gatherer → Judge → List ℕ → AfterCall
-completed s j buffer =
-    cond (leb (s .kept) (length buffer))
-    (record { gatherer = moved s j 0; output = complete (s .kept) (take (s .kept) buffer); buffer = buffer })
+-- a frame's last line; 12 where its row does not fit
+unfoldable pub completed : Gatherer → Judge → ℕ → ℕ → List ℕ → List ℕ → AfterCall
+completed s j place kind body buffer =
+    cond (rowFits (s .keeping) (s .kept) kind body buffer)
+    (completing s j (s .kept + rowSize (s .keeping) kind) (withRow (s .keeping) (s .kept) place kind body buffer))
     (refuses s noRoom buffer)
 
--- 18 and 19 break the frame, and its rows are dropped; 11, 13 and 14 change nothing
-unfoldable pub refusedBy : Gatherer → Judge → ℕ → List ℕ → AfterCall
-refusedBy s j n buffer = cond (breaksFrame n) (quiet (moved s j 0) buffer) (refuses s n buffer)
+-- a line that breaks a frame: its rows are dropped; an SOF numbered 0 opens a new frame at once, whose first row is that line's
+unfoldable pub afterBreak : Gatherer → Judge → ℕ → List ℕ → List ℕ → AfterCall
+afterBreak s Waiting kind body buffer = quiet (moved s Waiting 0) buffer
+afterBreak s (Due place b) kind body buffer = onward s (Due place b) 0 0 kind body buffer
+
+-- 18 and 19 break the frame; 11, 13 and 14 change nothing
+unfoldable pub refusedBy : Gatherer → Judge → ℕ → ℕ → List ℕ → List ℕ → AfterCall
+refusedBy s j n kind body buffer = cond (breaksFrame n) (afterBreak s j kind body buffer) (refuses s n buffer)
 
 abbrev pub byRuling : Gatherer → Shown → List ℕ → Judge → Ruling → AfterCall
 byRuling s l buffer j ruling.Waiting = quiet (moved s j 0) buffer
-byRuling s l buffer j ruling.Going = onward s j (l .given .kind) (l .body) buffer
-byRuling s l buffer j ruling.Complete = completed s j buffer
-byRuling s l buffer j (ruling.Refused n) = refusedBy s j n buffer
+byRuling s l buffer j ruling.Going = onward s j (s .kept) (placeDue (s .judge)) (l .given .kind) (l .body) buffer
+byRuling s l buffer j ruling.Complete = completed s j (placeDue (s .judge)) (l .given .kind) (l .body) buffer
+byRuling s l buffer j (ruling.Refused n) = refusedBy s j n (l .given .kind) (l .body) buffer
 
 unfoldable pub handed : Gatherer → Shown → List ℕ → AfterCall
 handed s l buffer = byRuling s l buffer (called VV5404 (s .judge) (l .given) .judge) (called VV5404 (s .judge) (l .given) .ruling)

@@ -1,4 +1,4 @@
--- Laws of the rows: whenever a call says complete, the lines taken end in a whole frame, and the rows are exactly those of its visible lines.
+-- Laws of the rows: whenever a call says complete, the lines taken end in a whole frame, and the rows are exactly those of its lines.
 -- While the judge is in a frame, the rows kept are those of the lines since the last SOF numbered 0 (`HoldsRows`); `complete-frame` says which lines
 -- those are when the judge says Complete.
 use mathlib.Core.Path.{_≡_, refl, sym, ap, subst, _∙_}
@@ -10,7 +10,7 @@ use borrow.Author.Tests.{eqb-true, leb-true}
 use lib.Dec.{eqb, leb}
 use lib.ListN.{length, take, drop, length-append, length-drop, drop-of-length-le}
 use lib.Seq.{length-take-le, take-at, drop-cons}
-use Rattle.refusal.specs.Refusal.{noRoom, badKind, numberTooLarge}
+use Rattle.refusal.specs.Refusal.{noRoom, badKind, numberTooLarge, notTheLineDue}
 use Rattle.bits.specs.Every.{and-left, and-right}
 use Rattle.line_code.specs.declared.Kind.{Kind}
 use Rattle.line_code.specs.declared.Kind.the-variants.{BL, SOF}
@@ -24,6 +24,7 @@ use Rattle.frame.specs.declared.Handed.the-variants as hand
 use Rattle.frame.specs.declared.Judge.{Judge}
 use Rattle.frame.specs.declared.Judge.the-variants.{Waiting, Due}
 use Rattle.frame.specs.declared.Judged.{Judged}
+use Rattle.frame.specs.declared.Ruling.{Ruling}
 use Rattle.frame.specs.declared.Ruling.the-variants as ruling
 use Rattle.frame.specs.Frame.{layout, kindsOf, lastPlace, kindAt, standsAt, kindDue, opens, begun, passes, gives}
 use Rattle.frame.specs.Calls.{Line, called, after, isBreak, accepts, accepted, fits, laidFrom, IsFrame}
@@ -34,11 +35,14 @@ use Rattle.frame.specs.Handing.{handedOver, asLines, handedLines}
 use Rattle.pixel_order.specs.declared.Way.the-variants.{ToPixels}
 use Rattle.pixel_order.specs.PixelOrderLaws.{reordered-length}
 use Rattle.pgm.specs.Pgm.{size}
+use Rattle.line_list.specs.Lines.{lineSize}
 use Rattle.frame_rows.specs.declared.Order.{Order}
 use Rattle.frame_rows.specs.declared.Order.the-variants.{AsSent, OddFirst}
+use Rattle.frame_rows.specs.declared.Keeping.{Keeping}
+use Rattle.frame_rows.specs.declared.Keeping.the-variants.{VisiblePixels, WholeLines}
 use Rattle.frame_rows.specs.declared.Gatherer.{Gatherer}
-use Rattle.frame_rows.specs.FrameRows.{Shown, pixelsOf, isVisible, rowOf, rowsOf, Output, nothing, complete, refused, AfterCall, moved, quiet, refuses, keepRow, onward, completed, refusedBy, byRuling, handed, shownAs, handing, takeOf}
-use Rattle.frame_rows.specs.Gathering.{Given, call, calls, start, unlessRefused, shown, taken, linesOf, pictureOf, CompletesRows, Every, WholeBody}
+use Rattle.frame_rows.specs.FrameRows.{Shown, pixelsOf, isVisible, rowOf, rowSize, rowsFrom, rowsOf, Output, nothing, complete, refused, AfterCall, moved, quiet, refuses, placeDue, rowFits, withRow, onward, completing, completed, afterBreak, refusedBy, byRuling, handed, shownAs, handing, takeOf}
+use Rattle.frame_rows.specs.Gathering.{Given, call, calls, start, unlessRefused, shown, taken, linesOf, pictureOf, frameSize, CompletesRows, Every, WholeBody}
 
 -- Lists of lines.
 
@@ -46,9 +50,19 @@ lines-append : (a b : List Shown) → linesOf (a ++ b) ≡ linesOf a ++ linesOf 
 lines-append [] b = refl
 lines-append (l ∷ a) b = ap (λ (x : List Line). l .given ∷ x) (lines-append a b)
 
-pub rows-append : (o : Order) (a b : List Shown) → rowsOf o (a ++ b) ≡ rowsOf o a ++ rowsOf o b
-rows-append o [] b = refl
-rows-append o (l ∷ a) b = ap (λ (x : List ℕ). rowOf o l ++ x) (rows-append o a b) ∙ sym (append-assoc (rowOf o l) (rowsOf o a) (rowsOf o b))
+pub rows-append : (k : Keeping) (place : ℕ) (a b : List Shown) → rowsFrom k place (a ++ b) ≡ rowsFrom k place a ++ rowsFrom k (place + length a) b
+rows-append k place [] b =
+    let e : place ≡ place + 0 = omega arith in
+    ap (λ (n : ℕ). rowsFrom k n b) e
+rows-append k place (l ∷ a) b =
+    let row : List ℕ = rowOf k place (l .given .kind) (l .body) in
+    let e : suc place + length a ≡ place + suc (length a) = omega arith in
+    ap (λ (x : List ℕ). row ++ x) (rows-append k (suc place) a b ∙ ap (λ (n : ℕ). rowsFrom k (suc place) a ++ rowsFrom k n b) e)
+    ∙ sym (append-assoc row (rowsFrom k (suc place) a) (rowsFrom k (place + suc (length a)) b))
+
+lines-length : (ls : List Shown) → length (linesOf ls) ≡ length ls
+lines-length [] = refl
+lines-length (l ∷ ls) = ap suc (lines-length ls)
 
 -- lines that split, split with their bodies
 record Split (ls : List Shown) (a b : List Line) : Type 0 where
@@ -143,19 +157,33 @@ abbrev visibles : List Line → ℕ
 visibles [] = 0
 visibles (l ∷ ls) = counted (isVisible (l .kind)) + visibles ls
 
-row-length : (o : Order) (l : Shown) → WholeBody l → length (rowOf o l) ≡ counted (isVisible (l .given .kind)) * width
-row-length o l w = either (isVisible (l .given .kind)) w
+-- a row is as long as its size says
+pub row-length : (k : Keeping) (place kind : ℕ) (body : List ℕ) → length body ≡ width → length (rowOf k place kind body) ≡ rowSize k kind
+row-length (VisiblePixels o) place kind body h = either (isVisible kind)
   where
-    either : (t : Bool) → (t ≡ true → length (l .body) ≡ width) → length (cond t (pixelsOf o (l .body)) []) ≡ counted t * width
-    either true h = pixels-length o (l .body) (h refl)
-    either false h = refl
+    either : (t : Bool) → length (cond t (pixelsOf o body) []) ≡ cond t width 0
+    either true = pixels-length o body h
+    either false = refl
+row-length WholeLines place kind body h = omega (arith, h)
 
-rows-length : (o : Order) (ls : List Shown) → Every WholeBody ls → length (rowsOf o ls) ≡ visibles (linesOf ls) * width
-rows-length o [] w = refl
-rows-length o (l ∷ ls) w =
-    let a = row-length o l (w .0) in
-    let b = rows-length o ls (w .1) in
-    length-append (rowOf o l) (rowsOf o ls) ∙ omega arith
+pixel-rows-length : (o : Order) (place : ℕ) (ls : List Shown) → Every WholeBody ls → length (rowsFrom (VisiblePixels o) place ls) ≡ visibles (linesOf ls) * width
+pixel-rows-length o place [] w = refl
+pixel-rows-length o place (l ∷ ls) w =
+    let a = row-length (VisiblePixels o) place (l .given .kind) (l .body) (w .0) in
+    let b = pixel-rows-length o (suc place) ls (w .1) in
+    let c = counted-width (isVisible (l .given .kind)) in
+    length-append (rowOf (VisiblePixels o) place (l .given .kind) (l .body)) (rowsFrom (VisiblePixels o) (suc place) ls) ∙ omega (arith, a, b, c)
+  where
+    counted-width : (t : Bool) → cond t width 0 ≡ counted t * width
+    counted-width true = refl
+    counted-width false = refl
+
+line-rows-length : (place : ℕ) (ls : List Shown) → Every WholeBody ls → length (rowsFrom WholeLines place ls) ≡ lineSize * length ls
+line-rows-length place [] w = refl
+line-rows-length place (l ∷ ls) w =
+    let a = row-length WholeLines place (l .given .kind) (l .body) (w .0) in
+    let b = line-rows-length (suc place) ls (w .1) in
+    length-append (rowOf WholeLines place (l .given .kind) (l .body)) (rowsFrom WholeLines (suc place) ls) ∙ omega (arith, a, b)
 
 -- the visible lines of a layout
 abbrev visibleKinds : List Kind → ℕ
@@ -176,10 +204,11 @@ frame-visibles Unsettled = refl
 frame-visibles On = refl
 frame-visibles Off = refl
 
--- 292 rows with borders on, 288 with borders off
-pub frame-size : (o : Order) (b : Borders) (frame : List Shown) → IsFrame VV5404 b (linesOf frame) → Every WholeBody frame → length (rowsOf o frame) ≡ size (pictureOf b)
-frame-size o b frame f w =
-    rows-length o frame w ∙ ap (λ (k : ℕ). k * width) (laid-visibles b 0 (linesOf frame) (omega (arith, f .0)) (f .1)) ∙ frame-visibles b
+-- 292 rows of pixels with borders on, 288 with borders off; or 304 lines
+pub frame-size : (k : Keeping) (b : Borders) (frame : List Shown) → IsFrame VV5404 b (linesOf frame) → Every WholeBody frame → length (rowsOf k frame) ≡ frameSize k b
+frame-size (VisiblePixels o) b frame f w =
+    pixel-rows-length o 0 frame w ∙ ap (λ (k : ℕ). k * width) (laid-visibles b 0 (linesOf frame) (omega (arith, f .0)) (f .1)) ∙ frame-visibles b
+frame-size WholeLines b frame f w = line-rows-length 0 frame w ∙ ap (λ (n : ℕ). lineSize * n) (sym (lines-length frame) ∙ f .0)
 
 -- A row put after the bytes kept: the rows are longer by it, and the buffer is as long as it was.
 module _ (kept n : ℕ) (buffer row : List ℕ) (e : length row ≡ n) (g : kept + n ≤ length buffer) where
@@ -193,18 +222,66 @@ module _ (kept n : ℕ) (buffer row : List ℕ) (e : length row ≡ n) (g : kept
 
 -- What is kept.
 
+-- so many bytes at a buffer's front are the rows of these lines, the first of a frame, and another place is due
+pub record KeptRows (k : Keeping) (own : List Shown) (place kept : ℕ) (buffer : List ℕ) : Type 0 where
+  pub front : take kept buffer ≡ rowsOf k own
+  pub inside : kept ≤ length buffer
+  pub bodies : Every WholeBody own
+  pub count : length own ≡ place
+
+no-rows : (k : Keeping) (buffer : List ℕ) → KeptRows k [] 0 0 buffer
+no-rows k buffer = record { front = refl; inside = omega arith; bodies = tt; count = refl }
+
+-- a line's row fits: its body is whole, and there is room
+pub row-fits : (k : Keeping) (kept kind : ℕ) (body buffer : List ℕ) → rowFits k kept kind body buffer ≡ true
+    → (length body ≡ width) × (kept + rowSize k kind ≤ length buffer)
+unfolding rowFits
+row-fits k kept kind body buffer e = (eqb-true _ _ (and-left _ _ e), leb-true _ _ (and-right (eqb (length body) width) _ e))
+
+-- with its row put
+pub with-row-length : (k : Keeping) (kept place kind : ℕ) (body buffer : List ℕ) → rowFits k kept kind body buffer ≡ true
+    → length (withRow k kept place kind body buffer) ≡ length buffer
+unfolding withRow
+with-row-length k kept place kind body buffer e =
+    let q = row-fits k kept kind body buffer e in
+    put-length kept (rowSize k kind) buffer (rowOf k place kind body) (row-length k place kind body (q .0)) (q .1)
+
+row-more : (k : Keeping) (own : List Shown) (place kept : ℕ) (buffer : List ℕ) (l : Shown) → KeptRows k own place kept buffer → rowFits k kept (l .given .kind) (l .body) buffer ≡ true
+    → KeptRows k (own ++ (l ∷ [])) (place + 1) (kept + rowSize k (l .given .kind)) (withRow k kept place (l .given .kind) (l .body) buffer)
+unfolding withRow
+row-more k own place kept buffer l h e =
+    let q = row-fits k kept (l .given .kind) (l .body) buffer e in
+    let row : List ℕ = rowOf k place (l .given .kind) (l .body) in
+    let n : length row ≡ rowSize k (l .given .kind) = row-length k place (l .given .kind) (l .body) (q .0) in
+    let here : place ≡ 0 + length own = omega (arith, h .count) in
+    record {
+      front =
+          put-rows kept (rowSize k (l .given .kind)) buffer row n (q .1)
+          ∙ ap (λ (t : List ℕ). t ++ row) (h .front)
+          ∙ ap (λ (i : ℕ). rowsOf k own ++ rowOf k i (l .given .kind) (l .body)) here
+          ∙ ap (λ (r : List ℕ). rowsOf k own ++ r) (sym (append-nil (rowOf k (0 + length own) (l .given .kind) (l .body))))
+          ∙ sym (rows-append k 0 own (l ∷ []));
+      inside = omega (arith, q .1, with-row-length k kept place (l .given .kind) (l .body) buffer e);
+      bodies = every-snoc WholeBody own l (h .bodies) (q .0);
+      count = length-append own (l ∷ []) ∙ omega (arith, h .count);
+    }
+
 -- the rows kept for the frame that the judge is in; none while it waits
-abbrev pub Rows : Order → List Shown → Judge → ℕ → List ℕ → Type 0
-Rows o ls Waiting kept buffer = kept ≡ 0
-Rows o ls (Due place b) kept buffer = (take kept buffer ≡ rowsOf o (latest ls)) × (kept ≤ length buffer) × Every WholeBody (latest ls)
+abbrev pub Rows : Keeping → List Shown → Judge → ℕ → List ℕ → Type 0
+Rows k ls Waiting kept buffer = kept ≡ 0
+Rows k ls (Due place b) kept buffer = KeptRows k (latest ls) place kept buffer
 
 -- after the calls that took these lines
-pub record HoldsRows (o : Order) (ls : List Shown) (x : AfterCall) : Type 0 where
-  pub order : x .gatherer .order ≡ o
+pub record HoldsRows (k : Keeping) (ls : List Shown) (x : AfterCall) : Type 0 where
+  pub keeping : x .gatherer .keeping ≡ k
   pub judge : after VV5404 Waiting (linesOf ls) ≡ x .gatherer .judge
   pub heard : accepted VV5404 Waiting (linesOf ls) ≡ linesOf ls
-  pub rows : Rows o ls (x .gatherer .judge) (x .gatherer .kept) (x .buffer)
-  pub done : (n : ℕ) (rows : List ℕ) → x .output ≡ complete n rows → CompletesRows o ls n rows
+  pub rows : Rows k ls (x .gatherer .judge) (x .gatherer .kept) (x .buffer)
+  pub done : (n : ℕ) (rows : List ℕ) → x .output ≡ complete n rows → CompletesRows k ls n rows
+
+-- after a line more, unless it was refused
+abbrev HoldsNext : Keeping → List Shown → Shown → AfterCall → Type 0
+HoldsNext k ls l y = HoldsRows k (ls ++ unlessRefused (y .output) (l ∷ [])) y
 
 abbrev isComplete : Output → Bool
 isComplete nothing = false
@@ -212,19 +289,19 @@ isComplete (complete n rows) = true
 isComplete (refused n) = false
 
 -- a call that takes no line and says nothing of rows
-still : (o : Order) (ls : List Shown) (x : AfterCall) (out : Output) → isComplete out ≡ false → HoldsRows o ls x
-    → HoldsRows o (ls ++ []) (record { gatherer = x .gatherer; output = out; buffer = x .buffer })
-still o ls x out e h =
+still : (k : Keeping) (ls : List Shown) (x : AfterCall) (out : Output) → isComplete out ≡ false → HoldsRows k ls x
+    → HoldsRows k (ls ++ []) (record { gatherer = x .gatherer; output = out; buffer = x .buffer })
+still k ls x out e h =
     simp append-nil
     (record {
-      order = h .order;
+      keeping = h .keeping;
       judge = h .judge;
       heard = h .heard;
       rows = h .rows;
       done = λ n rows f. absurd (true≢false (sym (ap isComplete f) ∙ e));
     })
 
-module _ (o : Order) (ls : List Shown) (x : AfterCall) (h : HoldsRows o ls x) (l : Shown) where
+module _ (k : Keeping) (ls : List Shown) (x : AfterCall) (h : HoldsRows k ls x) (l : Shown) where
   -- a line that the judge hears
   heard-line : (r : Judged) → called VV5404 (x .gatherer .judge) (l .given) ≡ r → accepts (r .ruling) ≡ true
       → (after VV5404 Waiting (linesOf (ls ++ (l ∷ []))) ≡ r .judge) × (accepted VV5404 Waiting (linesOf (ls ++ (l ∷ []))) ≡ linesOf (ls ++ (l ∷ [])))
@@ -242,10 +319,10 @@ module _ (o : Order) (ls : List Shown) (x : AfterCall) (h : HoldsRows o ls x) (l
 
   -- it leaves this judge, these bytes of rows and this buffer, and nothing is said of rows
   takes : (r : Judged) (kept : ℕ) (buffer : List ℕ) → called VV5404 (x .gatherer .judge) (l .given) ≡ r → accepts (r .ruling) ≡ true
-      → Rows o (ls ++ (l ∷ [])) (r .judge) kept buffer → HoldsRows o (ls ++ (l ∷ [])) (quiet (moved (x .gatherer) (r .judge) kept) buffer)
+      → Rows k (ls ++ (l ∷ [])) (r .judge) kept buffer → HoldsRows k (ls ++ (l ∷ [])) (quiet (moved (x .gatherer) (r .judge) kept) buffer)
   takes r kept buffer e a rows =
       record {
-        order = h .order;
+        keeping = h .keeping;
         judge = heard-line r e a .0;
         heard = heard-line r e a .1;
         rows = rows;
@@ -254,40 +331,20 @@ module _ (o : Order) (ls : List Shown) (x : AfterCall) (h : HoldsRows o ls x) (l
 
   -- The rows, with this line's.
 
-  first-unseen : isFirst l ≡ true → isVisible (l .given .kind) ≡ false
-  first-unseen e = ap isVisible (eqb-true (l .given .kind) (kindNumber SOF) (and-left _ _ e))
+  first-rows : isFirst l ≡ true → (b : Borders) (place kept : ℕ) (buffer : List ℕ) → KeptRows k (l ∷ []) place kept buffer → Rows k (ls ++ (l ∷ [])) (Due place b) kept buffer
+  first-rows e b place kept buffer r = subst (λ (own : List Shown). KeptRows k own place kept buffer) (sym (latest-snoc ls l true e)) r
 
-  rows-first : isFirst l ≡ true → (buffer : List ℕ) → Rows o (ls ++ (l ∷ [])) begun 0 buffer
-  rows-first e buffer =
-      let s : latest (ls ++ (l ∷ [])) ≡ l ∷ [] = latest-snoc ls l true e in
-      let v = first-unseen e in (
-        ap (λ (t : Bool). cond t (pixelsOf o (l .body)) [] ++ []) (sym v) ∙ ap (rowsOf o) (sym s),
-        omega arith,
-        subst (Every WholeBody) (sym s) ((λ w. absurd (true≢false (sym w ∙ v))), tt),
-      )
-
-  rows-later : isFirst l ≡ false → rowsOf o (latest (ls ++ (l ∷ []))) ≡ rowsOf o (latest ls) ++ rowOf o l
-  rows-later e =
-      ap (rowsOf o) (latest-snoc ls l false e)
-      ∙ rows-append o (latest ls) (l ∷ [])
-      ∙ ap (λ (r : List ℕ). rowsOf o (latest ls) ++ r) (append-nil (rowOf o l))
-
-  rows-unseen : isFirst l ≡ false → isVisible (l .given .kind) ≡ false → rowsOf o (latest (ls ++ (l ∷ []))) ≡ rowsOf o (latest ls)
-  rows-unseen e v = rows-later e ∙ ap (λ (t : Bool). rowsOf o (latest ls) ++ cond t (pixelsOf o (l .body)) []) v ∙ append-nil (rowsOf o (latest ls))
-
-  whole-later : isFirst l ≡ false → Every WholeBody (latest ls) → WholeBody l → Every WholeBody (latest (ls ++ (l ∷ [])))
-  whole-later e w p = subst (Every WholeBody) (sym (latest-snoc ls l false e)) (every-snoc WholeBody (latest ls) l w p)
-
-  whole-unseen : isVisible (l .given .kind) ≡ false → WholeBody l
-  whole-unseen v w = absurd (true≢false (sym w ∙ v))
+  later-rows : isFirst l ≡ false → (b : Borders) (place kept : ℕ) (buffer : List ℕ) → KeptRows k (latest ls ++ (l ∷ [])) place kept buffer
+      → Rows k (ls ++ (l ∷ [])) (Due place b) kept buffer
+  later-rows e b place kept buffer r = subst (λ (own : List Shown). KeptRows k own place kept buffer) (sym (latest-snoc ls l false e)) r
 
   -- A line while the judge is in a frame.
 
   passing : passes VV5404 (x .gatherer .judge) ≡ true
   passing = sym (ap (passes VV5404) (h .judge)) ∙ reached-passes VV5404 (linesOf ls)
 
-  kept-rows : (place : ℕ) (b : Borders) → x .gatherer .judge ≡ Due place b → Rows o ls (Due place b) (x .gatherer .kept) (x .buffer)
-  kept-rows place b q = subst (λ (j : Judge). Rows o ls j (x .gatherer .kept) (x .buffer)) q (h .rows)
+  kept-rows : (place : ℕ) (b : Borders) → x .gatherer .judge ≡ Due place b → Rows k ls (Due place b) (x .gatherer .kept) (x .buffer)
+  kept-rows place b q = subst (λ (j : Judge). Rows k ls j (x .gatherer .kept) (x .buffer)) q (h .rows)
 
   -- a line that breaks no frame is no SOF numbered 0
   not-first-within : (place : ℕ) (b : Borders) (r : Judged) → x .gatherer .judge ≡ Due place b → called VV5404 (x .gatherer .judge) (l .given) ≡ r → isBreak (r .ruling) ≡ false → isFirst l ≡ false
@@ -303,63 +360,49 @@ module _ (o : Order) (ls : List Shown) (x : AfterCall) (h : HoldsRows o ls x) (l
           ∙ ap (λ (t : Judged). isBreak (t .ruling)) c
           ∙ e))
 
-  -- a line that was due, and not the last
-  going : (place p : ℕ) (b c : Borders) → x .gatherer .judge ≡ Due place b → called VV5404 (x .gatherer .judge) (l .given) ≡ gives (Due p c) ruling.Going
-      → let y : AfterCall = onward (x .gatherer) (Due p c) (l .given .kind) (l .body) (x .buffer) in HoldsRows o (ls ++ unlessRefused (y .output) (l ∷ [])) y
-  unfolding onward keepRow
-  going place p b c q e = by (isVisible (l .given .kind)) refl
+  -- a line that was due, and not the last: the rows of the lines before it are kept
+  going : (own : List Shown) (place kept : ℕ) (r : Judged) → called VV5404 (x .gatherer .judge) (l .given) ≡ r → accepts (r .ruling) ≡ true
+      → KeptRows (x .gatherer .keeping) own place kept (x .buffer)
+      → ((n : ℕ) (buffer : List ℕ) → KeptRows (x .gatherer .keeping) (own ++ (l ∷ [])) (place + 1) n buffer → Rows k (ls ++ (l ∷ [])) (r .judge) n buffer)
+      → HoldsNext k ls l (onward (x .gatherer) (r .judge) kept place (l .given .kind) (l .body) (x .buffer))
+  unfolding onward
+  going own place kept r e a rows then = by (rowFits (x .gatherer .keeping) kept (l .given .kind) (l .body) (x .buffer)) refl
     where
-      s : Gatherer
-      s = x .gatherer
-
       n : ℕ
-      n = s .kept + width
+      n = kept + rowSize (x .gatherer .keeping) (l .given .kind)
 
-      r : Judged
-      r = gives (Due p c) ruling.Going
+      held : List ℕ
+      held = withRow (x .gatherer .keeping) kept place (l .given .kind) (l .body) (x .buffer)
 
-      kept : Rows o ls (Due place b) (s .kept) (x .buffer)
-      kept = kept-rows place b q
+      by : (t : Bool) → rowFits (x .gatherer .keeping) kept (l .given .kind) (l .body) (x .buffer) ≡ t
+          → HoldsNext k ls l (cond t (quiet (moved (x .gatherer) (r .judge) n) held) (refuses (x .gatherer) noRoom (x .buffer)))
+      by true f = takes r n held e a (then n held (row-more (x .gatherer .keeping) own place kept (x .buffer) l rows f))
+      by false f = still k ls x (refused noRoom) refl h
 
-      later : isFirst l ≡ false
-      later = not-first-within place b r q e refl
+  -- so the first line of a frame
+  opening : (v : Ruling) → isFirst l ≡ true → called VV5404 (x .gatherer .judge) (l .given) ≡ gives begun v → accepts v ≡ true
+      → HoldsNext k ls l (onward (x .gatherer) begun 0 0 (l .given .kind) (l .body) (x .buffer))
+  opening v f e a =
+      going [] 0 0 (gives begun v) e a (no-rows (x .gatherer .keeping) (x .buffer))
+      (λ n buffer r. first-rows f Unsettled 1 n buffer (subst (λ (m : Keeping). KeptRows m (l ∷ []) 1 n buffer) (h .keeping) r))
 
-      row : List ℕ
-      row = pixelsOf (s .order) (l .body)
-
-      -- a row that fits
-      put : isVisible (l .given .kind) ≡ true → length (l .body) ≡ width → n ≤ length (x .buffer)
-          → Rows o (ls ++ (l ∷ [])) (Due p c) n (take (s .kept) (x .buffer) ++ (row ++ drop n (x .buffer)))
-      put v f g =
-          let w = pixels-length (s .order) (l .body) f in (
-            put-rows (s .kept) width (x .buffer) row w g
-                ∙ ap (λ (t : List ℕ). t ++ row) (kept .0)
-                ∙ ap (λ (t : Order). rowsOf o (latest ls) ++ pixelsOf t (l .body)) (h .order)
-                ∙ ap (λ (t : Bool). rowsOf o (latest ls) ++ cond t (pixelsOf o (l .body)) []) (sym v)
-                ∙ sym (rows-later later),
-            omega (arith, put-length (s .kept) width (x .buffer) row w g),
-            whole-later later (kept .2) (λ t. f),
-          )
-
-      fitting : isVisible (l .given .kind) ≡ true → (t u : Bool) → eqb (length (l .body)) width ≡ t → leb n (length (x .buffer)) ≡ u
-          → let y : AfterCall = cond (t && u) (quiet (moved s (Due p c) n) (take (s .kept) (x .buffer) ++ (row ++ drop n (x .buffer)))) (refuses s noRoom (x .buffer)) in
-          HoldsRows o (ls ++ unlessRefused (y .output) (l ∷ [])) y
-      fitting v true true f g = takes r n _ e refl (put v (eqb-true _ _ f) (leb-true _ _ g))
-      fitting v true false f g = still o ls x (refused noRoom) refl h
-      fitting v false u f g = still o ls x (refused noRoom) refl h
-
-      by : (t : Bool) → isVisible (l .given .kind) ≡ t
-          → let y : AfterCall = cond t (keepRow s (Due p c) (l .body) (x .buffer)) (quiet (moved s (Due p c) (s .kept)) (x .buffer)) in
-          HoldsRows o (ls ++ unlessRefused (y .output) (l ∷ [])) y
-      by true v = fitting v (eqb (length (l .body)) width) (leb n (length (x .buffer))) refl refl
-      by false v = takes r (s .kept) (x .buffer) e refl (kept .0 ∙ sym (rows-unseen later v), kept .1, whole-later later (kept .2) (whole-unseen v))
+  -- and a line within one
+  mid-frame : (place : ℕ) (b c : Borders) → x .gatherer .judge ≡ Due place b → called VV5404 (x .gatherer .judge) (l .given) ≡ gives (Due (place + 1) c) ruling.Going
+      → HoldsNext k ls l (onward (x .gatherer) (Due (place + 1) c) (x .gatherer .kept) (placeDue (x .gatherer .judge)) (l .given .kind) (l .body) (x .buffer))
+  mid-frame place b c q e =
+      let s : Gatherer = x .gatherer in
+      let later : isFirst l ≡ false = not-first-within place b (gives (Due (place + 1) c) ruling.Going) q e refl in
+      subst (λ (i : ℕ). HoldsNext k ls l (onward s (Due (place + 1) c) (s .kept) i (l .given .kind) (l .body) (x .buffer))) (sym (ap placeDue q))
+      (going (latest ls) place (s .kept) (gives (Due (place + 1) c) ruling.Going) e refl
+      (subst (λ (m : Keeping). KeptRows m (latest ls) place (s .kept) (x .buffer)) (sym (h .keeping)) (kept-rows place b q))
+      (λ n buffer r. later-rows later c (place + 1) n buffer (subst (λ (m : Keeping). KeptRows m (latest ls ++ (l ∷ [])) (place + 1) n buffer) (h .keeping) r)))
 
   -- a frame's last line
   ending : (place : ℕ) (b : Borders) → x .gatherer .judge ≡ Due place b → IsDue VV5404 b place (l .given) → lastPlace VV5404 ≤ place
       → called VV5404 (x .gatherer .judge) (l .given) ≡ gives Waiting ruling.Complete
-      → let y : AfterCall = completed (x .gatherer) Waiting (x .buffer) in HoldsRows o (ls ++ unlessRefused (y .output) (l ∷ [])) y
+      → HoldsNext k ls l (completed (x .gatherer) Waiting (placeDue (x .gatherer .judge)) (l .given .kind) (l .body) (x .buffer))
   unfolding completed
-  ending place b q d g e = by (leb (s .kept) (length (x .buffer))) refl
+  ending place b q d g e = by (rowFits (s .keeping) (s .kept) (l .given .kind) (l .body) (x .buffer)) refl
     where
       s : Gatherer
       s = x .gatherer
@@ -367,69 +410,76 @@ module _ (o : Order) (ls : List Shown) (x : AfterCall) (h : HoldsRows o ls x) (l
       r : Judged
       r = gives Waiting ruling.Complete
 
-      kept : Rows o ls (Due place b) (s .kept) (x .buffer)
-      kept = kept-rows place b q
+      n : ℕ
+      n = s .kept + rowSize (s .keeping) (l .given .kind)
+
+      held : List ℕ
+      held = withRow (s .keeping) (s .kept) (placeDue (s .judge)) (l .given .kind) (l .body) (x .buffer)
 
       blank : l .given .kind ≡ kindNumber BL
       blank =
           last-blank b (l .given .kind)
           (subst (λ (n : ℕ). kindDue VV5404 b n (l .given .kind) ≡ true) (omega (arith, passes-high VV5404 place b (sym (ap (passes VV5404) q) ∙ passing))) (and-left _ _ (d .0)))
 
-      unseen : isVisible (l .given .kind) ≡ false
-      unseen = ap isVisible blank
-
       later : isFirst l ≡ false
       later = ap (λ (k : ℕ). opens k (l .given .number)) blank
 
-      done : CompletesRows o (ls ++ (l ∷ [])) (s .kept) (take (s .kept) (x .buffer))
-      done =
+      kept : KeptRows (s .keeping) (latest ls) (placeDue (s .judge)) (s .kept) (x .buffer)
+      kept =
+          subst (λ (i : ℕ). KeptRows (s .keeping) (latest ls) i (s .kept) (x .buffer)) (sym (ap placeDue q))
+          (subst (λ (m : Keeping). KeptRows m (latest ls) place (s .kept) (x .buffer)) (sym (h .keeping)) (kept-rows place b q))
+
+      done : rowFits (s .keeping) (s .kept) (l .given .kind) (l .body) (x .buffer) ≡ true → CompletesRows k (ls ++ (l ∷ [])) n (take n held)
+      done fit =
           let c = complete-frame VV5404 (linesOf ls) (l .given) (ap (λ (j : Judge). called VV5404 j (l .given) .ruling) (h .judge) ∙ ap (λ (t : Judged). t .ruling) e) in
           let a : linesOf (ls ++ (l ∷ [])) ≡ c .1 ++ c .2 = sym (heard-line r e refl .1) ∙ ap (accepted VV5404 Waiting) (lines-append ls (l ∷ [])) ∙ c .3 in
           let t = split (ls ++ (l ∷ [])) (c .1) (c .2) a in
           let f : IsFrame VV5404 (c .0) (linesOf (t .back)) = subst (IsFrame VV5404 (c .0)) (sym (t .back-lines)) (c .4) in
-          let m : latest (ls ++ (l ∷ [])) ≡ t .back = ap latest (t .joined) ∙ frame-latest (c .0) (t .front) (t .back) f in
-          let w : take (s .kept) (x .buffer) ≡ rowsOf o (t .back) = kept .0 ∙ sym (rows-unseen later unseen) ∙ ap (rowsOf o) m in
-          let v : Every WholeBody (t .back) = subst (Every WholeBody) m (whole-later later (kept .2) (whole-unseen unseen)) in
+          let m : latest ls ++ (l ∷ []) ≡ t .back = sym (latest-snoc ls l false later) ∙ ap latest (t .joined) ∙ frame-latest (c .0) (t .front) (t .back) f in
+          let w = row-more (s .keeping) (latest ls) (placeDue (s .judge)) (s .kept) (x .buffer) l kept fit in
+          let v : Every WholeBody (t .back) = subst (Every WholeBody) m (w .bodies) in
+          let z : take n held ≡ rowsOf k (t .back) = w .front ∙ ap (rowsOf (s .keeping)) m ∙ ap (λ (o : Keeping). rowsOf o (t .back)) (h .keeping) in
           record {
             borders = c .0;
             earlier = t .front;
             frame = t .back;
             ends = t .joined;
             whole = f;
-            shows = w;
-            sized = ap length w ∙ frame-size o (c .0) (t .back) f v;
-            used = sym (length-take-le (s .kept) (x .buffer) (kept .1));
+            bodies = v;
+            shows = z;
+            sized = ap length z ∙ frame-size k (c .0) (t .back) f v;
+            used = sym (length-take-le n held (w .inside));
           }
 
-      says : (n : ℕ) (rows : List ℕ) → complete (s .kept) (take (s .kept) (x .buffer)) ≡ complete n rows → CompletesRows o (ls ++ (l ∷ [])) n rows
-      says n rows z =
-          let a : s .kept ≡ n = cc in
-          let b : take (s .kept) (x .buffer) ≡ rows = cc in
-          subst (λ (m : ℕ). CompletesRows o (ls ++ (l ∷ [])) m rows) a (subst (λ (w : List ℕ). CompletesRows o (ls ++ (l ∷ [])) (s .kept) w) b done)
+      says : CompletesRows k (ls ++ (l ∷ [])) n (take n held) → (m : ℕ) (rows : List ℕ) → complete n (take n held) ≡ complete m rows → CompletesRows k (ls ++ (l ∷ [])) m rows
+      says c m rows z =
+          let a : n ≡ m = cc in
+          let b : take n held ≡ rows = cc in
+          subst (λ (m : ℕ). CompletesRows k (ls ++ (l ∷ [])) m rows) a (subst (λ (w : List ℕ). CompletesRows k (ls ++ (l ∷ [])) n w) b c)
 
-      by : (t : Bool) → leb (s .kept) (length (x .buffer)) ≡ t
-          → let y : AfterCall = cond t (record { gatherer = moved s Waiting 0; output = complete (s .kept) (take (s .kept) (x .buffer)); buffer = x .buffer }) (refuses s noRoom (x .buffer)) in
-          HoldsRows o (ls ++ unlessRefused (y .output) (l ∷ [])) y
-      by true g = record { order = h .order; judge = heard-line r e refl .0; heard = heard-line r e refl .1; rows = refl; done = says }
-      by false g = still o ls x (refused noRoom) refl h
+      by : (t : Bool) → rowFits (s .keeping) (s .kept) (l .given .kind) (l .body) (x .buffer) ≡ t
+          → HoldsNext k ls l (cond t (completing s Waiting n held) (refuses s noRoom (x .buffer)))
+      by true f = record { keeping = h .keeping; judge = heard-line r e refl .0; heard = heard-line r e refl .1; rows = refl; done = says (done f) }
+      by false f = still k ls x (refused noRoom) refl h
 
   -- any line
-  holds-line : let y : AfterCall = handed (x .gatherer) l (x .buffer) in HoldsRows o (ls ++ unlessRefused (y .output) (l ∷ [])) y
-  unfolding handed refusedBy onward
+  holds-line : HoldsNext k ls l (handed (x .gatherer) l (x .buffer))
+  unfolding handed refusedBy afterBreak
   holds-line = by (called VV5404 (x .gatherer .judge) (l .given)) (effect VV5404 (x .gatherer .judge) (l .given) passing) refl
     where
       by : (r : Judged) → Effect VV5404 (x .gatherer .judge) (l .given) r → called VV5404 (x .gatherer .judge) (l .given) ≡ r
-          → let y : AfterCall = byRuling (x .gatherer) l (x .buffer) (r .judge) (r .ruling) in HoldsRows o (ls ++ unlessRefused (y .output) (l ∷ [])) y
-      by _ wrongKind e = still o ls x (refused badKind) refl h
-      by _ wrongNumber e = still o ls x (refused numberTooLarge) refl h
+          → HoldsNext k ls l (byRuling (x .gatherer) l (x .buffer) (r .judge) (r .ruling))
+      by _ wrongKind e = still k ls x (refused badKind) refl h
+      by _ wrongNumber e = still k ls x (refused numberTooLarge) refl h
       by _ waits e = takes _ 0 (x .buffer) e refl refl
       by _ breaks e = takes _ 0 (x .buffer) e refl refl
       by _ strays e = takes _ 0 (x .buffer) e refl refl
       by _ (starts q f) e =
-          let z : x .gatherer .kept ≡ 0 = subst (λ (j : Judge). Rows o ls j (x .gatherer .kept) (x .buffer)) q (h .rows) in
-          simp (first-unseen f, z) (takes (gives begun ruling.Going) 0 (x .buffer) e refl (rows-first f (x .buffer)))
-      by _ (restarts f) e = takes _ 0 (x .buffer) e refl (rows-first f (x .buffer))
-      by _ (goes place b q d g) e = going place _ b _ q e
+          let z : x .gatherer .kept ≡ 0 = subst (λ (j : Judge). Rows k ls j (x .gatherer .kept) (x .buffer)) q (h .rows) in
+          subst (λ (j : Judge). HoldsNext k ls l (onward (x .gatherer) begun (x .gatherer .kept) (placeDue j) (l .given .kind) (l .body) (x .buffer))) (sym q)
+          (subst (λ (n : ℕ). HoldsNext k ls l (onward (x .gatherer) begun n 0 (l .given .kind) (l .body) (x .buffer))) (sym z) (opening ruling.Going f e refl))
+      by _ (restarts f) e = opening (ruling.Refused notTheLineDue) f e refl
+      by _ (goes place b q d g) e = mid-frame place b _ q e
       by _ (ends place b q d g) e = ending place b q d g e
 
 -- What a call hands to the judge: nothing, or one line.
@@ -448,26 +498,26 @@ hands x g = by (handedOver (g .answer))
 
 -- Calls.
 
-holds-call : (o : Order) (ls : List Shown) (x : AfterCall) (g : Given) → HoldsRows o ls x
-    → HoldsRows o (ls ++ unlessRefused (call x g .output) (shown (handedLines (g .answer)) (g .held))) (call x g)
-holds-call o ls x g h = by (shown (handedLines (g .answer)) (g .held)) (call x g) (hands x g)
+holds-call : (k : Keeping) (ls : List Shown) (x : AfterCall) (g : Given) → HoldsRows k ls x
+    → HoldsRows k (ls ++ unlessRefused (call x g .output) (shown (handedLines (g .answer)) (g .held))) (call x g)
+holds-call k ls x g h = by (shown (handedLines (g .answer)) (g .held)) (call x g) (hands x g)
   where
-    by : (ms : List Shown) (y : AfterCall) → Hands x ms y → HoldsRows o (ls ++ unlessRefused (y .output) ms) y
-    by _ _ none = still o ls x nothing refl h
-    by _ _ (one l) = holds-line o ls x h l
+    by : (ms : List Shown) (y : AfterCall) → Hands x ms y → HoldsRows k (ls ++ unlessRefused (y .output) ms) y
+    by _ _ none = still k ls x nothing refl h
+    by _ _ (one l) = holds-line k ls x h l
 
-pub holds-calls : (o : Order) (ls : List Shown) (x : AfterCall) (gs : List Given) → HoldsRows o ls x → HoldsRows o (ls ++ taken x gs) (calls x gs)
-holds-calls o ls x [] h = subst (λ (t : List Shown). HoldsRows o t x) (sym (append-nil ls)) h
-holds-calls o ls x (g ∷ gs) h =
+pub holds-calls : (k : Keeping) (ls : List Shown) (x : AfterCall) (gs : List Given) → HoldsRows k ls x → HoldsRows k (ls ++ taken x gs) (calls x gs)
+holds-calls k ls x [] h = subst (λ (t : List Shown). HoldsRows k t x) (sym (append-nil ls)) h
+holds-calls k ls x (g ∷ gs) h =
     let a : List Shown = unlessRefused (call x g .output) (shown (handedLines (g .answer)) (g .held)) in
-    subst (λ (t : List Shown). HoldsRows o t (calls (call x g) gs)) (append-assoc ls a (taken (call x g) gs))
-    (holds-calls o (ls ++ a) (call x g) gs (holds-call o ls x g h))
+    subst (λ (t : List Shown). HoldsRows k t (calls (call x g) gs)) (append-assoc ls a (taken (call x g) gs))
+    (holds-calls k (ls ++ a) (call x g) gs (holds-call k ls x g h))
 
-pub holds-start : (o : Order) (buffer : List ℕ) → HoldsRows o [] (start o buffer)
-holds-start o buffer = record { order = refl; judge = refl; heard = refl; rows = refl; done = λ n w f. absurd (true≢false (sym (ap isComplete f))) }
+pub holds-start : (k : Keeping) (buffer : List ℕ) → HoldsRows k [] (start k buffer)
+holds-start k buffer = record { keeping = refl; judge = refl; heard = refl; rows = refl; done = λ n w f. absurd (true≢false (sym (ap isComplete f))) }
 
--- whenever the last call says complete, the lines taken end in a whole frame, and the rows are those of its visible lines, top to bottom, 292 or
--- 288 of them
-pub complete-rows : (o : Order) (buffer : List ℕ) (gs : List Given) (n : ℕ) (rows : List ℕ) → calls (start o buffer) gs .output ≡ complete n rows
-    → CompletesRows o (taken (start o buffer) gs) n rows
-complete-rows o buffer gs n rows e = holds-calls o [] (start o buffer) gs (holds-start o buffer) .done n rows e
+-- whenever the last call says complete, the lines taken end in a whole frame, and the rows are those of its lines, top to bottom: of pixels 292 or
+-- 288, of lines 304
+pub complete-rows : (k : Keeping) (buffer : List ℕ) (gs : List Given) (n : ℕ) (rows : List ℕ) → calls (start k buffer) gs .output ≡ complete n rows
+    → CompletesRows k (taken (start k buffer) gs) n rows
+complete-rows k buffer gs n rows e = holds-calls k [] (start k buffer) gs (holds-start k buffer) .done n rows e

@@ -2,7 +2,7 @@
 use mathlib.Core.Path.{_≡_}
 use mathlib.Core.Bool.{Bool, true, false, cond}
 use mathlib.Core.List.{List, [], _∷_, _++_}
-use Prim.Native.Nat.{ℕ}
+use Prim.Native.Nat.{ℕ, _+_, _*_}
 use lib.ListN.{length}
 use Rattle.line_code.specs.declared.Kind.the-variants.{VL}
 use Rattle.profile.specs.declared.Profile.the-variants.{VV5404}
@@ -11,12 +11,15 @@ use Rattle.profile.specs.Layout.{rules, fits}
 use Rattle.stream.specs.declared.Answer.{Answer}
 use Rattle.frame.specs.declared.Borders.{Borders}
 use Rattle.frame.specs.declared.Borders.the-variants.{Unsettled, On, Off}
+use Rattle.frame.specs.Frame.{lastPlace}
 use Rattle.frame.specs.Calls.{Line, IsFrame}
 use Rattle.frame.specs.Handing.{handedLines}
 use Rattle.pgm.specs.Pgm.{size}
 use Rattle.pgm.specs.declared.Format.{Format}
 use Rattle.pgm.specs.declared.Format.the-variants.{Bordered, Plain}
-use Rattle.frame_rows.specs.declared.Order.{Order}
+use Rattle.line_list.specs.Lines.{lineSize}
+use Rattle.frame_rows.specs.declared.Keeping.{Keeping}
+use Rattle.frame_rows.specs.declared.Keeping.the-variants.{VisiblePixels, WholeLines}
 use Rattle.frame_rows.specs.FrameRows.{Shown, isVisible, rowsOf, Output, nothing, complete, refused, AfterCall, fresh, quiet, shownAs, takeOf}
 
 -- what a call is given: the reader's answer, and the line buffer as it is then
@@ -33,8 +36,8 @@ calls x [] = x
 calls x (g ∷ gs) = calls (call x g) gs
 
 -- before any: a fresh gatherer, and a buffer
-abbrev pub start : Order → List ℕ → AfterCall
-start o buffer = quiet (fresh o) buffer
+abbrev pub start : Keeping → List ℕ → AfterCall
+start k buffer = quiet (fresh k) buffer
 
 -- The lines taken: those that 01 hands to the judge, of the calls that are not refused.
 
@@ -70,20 +73,14 @@ pictureOf Unsettled = Bordered
 pictureOf On = Bordered
 pictureOf Off = Plain
 
--- the lines taken end in those of a whole frame, and the rows are its rows, all of them
-pub record CompletesRows (o : Order) (ls : List Shown) (n : ℕ) (rows : List ℕ) : Type 0 where
-  pub borders : Borders
-  pub earlier : List Shown
-  pub frame : List Shown
-  pub ends : ls ≡ earlier ++ frame
-  pub whole : IsFrame VV5404 borders (linesOf frame)
-  pub shows : rows ≡ rowsOf o frame
-  pub sized : length rows ≡ size (pictureOf borders)
-  pub used : n ≡ length rows
+-- the bytes of a frame's rows: its picture's pixels, or its 304 lines
+abbrev pub frameSize : Keeping → Borders → ℕ
+frameSize (VisiblePixels o) b = size (pictureOf b)
+frameSize WholeLines b = lineSize * (lastPlace VV5404 + 1)
 
--- a visible line's body fills a row: the line buffer was not too short
+-- a line's body has 356 bytes: the line buffer was not too short
 abbrev pub WholeBody : Shown → Type 0
-WholeBody l = isVisible (l .given .kind) ≡ true → length (l .body) ≡ width
+WholeBody l = length (l .body) ≡ width
 
 -- a visible line's body is laid out as 01 says
 abbrev pub Laid : Shown → Type 0
@@ -93,3 +90,15 @@ Laid l = isVisible (l .given .kind) ≡ true → fits (rules VV5404 VL) (l .body
 abbrev pub Every : (Shown → Type 0) → List Shown → Type 0
 Every P [] = Unit {0}
 Every P (l ∷ ls) = P l × Every P ls
+
+-- the lines taken end in those of a whole frame, and the rows are its rows, all of them
+pub record CompletesRows (k : Keeping) (ls : List Shown) (n : ℕ) (rows : List ℕ) : Type 0 where
+  pub borders : Borders
+  pub earlier : List Shown
+  pub frame : List Shown
+  pub ends : ls ≡ earlier ++ frame
+  pub whole : IsFrame VV5404 borders (linesOf frame)
+  pub bodies : Every WholeBody frame
+  pub shows : rows ≡ rowsOf k frame
+  pub sized : length rows ≡ frameSize k borders
+  pub used : n ≡ length rows

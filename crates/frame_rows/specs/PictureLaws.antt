@@ -22,7 +22,8 @@ use Rattle.pgm.specs.Pgm.{imageOf, pixels, Picture, writeAs, writeOf}
 use Rattle.pgm.specs.PgmLaws.{size-tells, picture-written}
 use Rattle.frame_rows.specs.declared.Order.{Order}
 use Rattle.frame_rows.specs.declared.Order.the-variants.{AsSent, OddFirst}
-use Rattle.frame_rows.specs.FrameRows.{Shown, pixelsOf, isVisible, rowOf, rowsOf}
+use Rattle.frame_rows.specs.declared.Keeping.the-variants.{VisiblePixels}
+use Rattle.frame_rows.specs.FrameRows.{Shown, pixelsOf, isVisible, rowOf, rowsFrom}
 use Rattle.frame_rows.specs.Gathering.{pictureOf, CompletesRows, Laid, Every}
 
 -- Pixels.
@@ -54,16 +55,18 @@ order-pixels AsSent body e h = h
 order-pixels OddFirst body e h =
     pixels-listed (λ i. getD body (sourceOf ToPixels i) 0) width (λ i g. pixel-at body (sourceOf ToPixels i) (omega (arith, source-inside ToPixels i g)) h)
 
-row-pixels : (o : Order) (l : Shown) → Laid l → pixels (rowOf o l) ≡ true
-row-pixels o l h = by (isVisible (l .given .kind)) h
+row-pixels : (o : Order) (place : ℕ) (l : Shown) → Laid l → pixels (rowOf (VisiblePixels o) place (l .given .kind) (l .body)) ≡ true
+row-pixels o place l h = by (isVisible (l .given .kind)) h
   where
     by : (t : Bool) → (t ≡ true → fits (rules VV5404 VL) (l .body) ≡ true) → pixels (cond t (pixelsOf o (l .body)) []) ≡ true
     by true f = order-pixels o (l .body) (fits-length (rules VV5404 VL) (l .body) (f refl) ∙ rules-length VV5404 VL) (fits-pixels width (l .body) (f refl))
     by false f = refl
 
-rows-pixels : (o : Order) (ls : List Shown) → Every Laid ls → pixels (rowsOf o ls) ≡ true
-rows-pixels o [] h = refl
-rows-pixels o (l ∷ ls) h = pixels-append (rowOf o l) (rowsOf o ls) (row-pixels o l (h .0)) (rows-pixels o ls (h .1))
+rows-pixels : (o : Order) (place : ℕ) (ls : List Shown) → Every Laid ls → pixels (rowsFrom (VisiblePixels o) place ls) ≡ true
+rows-pixels o place [] h = refl
+rows-pixels o place (l ∷ ls) h =
+    pixels-append (rowOf (VisiblePixels o) place (l .given .kind) (l .body)) (rowsFrom (VisiblePixels o) (suc place) ls) (row-pixels o place l (h .0))
+    (rows-pixels o (suc place) ls (h .1))
 
 every-back : (P : Shown → Type 0) (a b : List Shown) → Every P (a ++ b) → Every P b
 every-back P [] b h = h
@@ -71,7 +74,7 @@ every-back P (l ∷ a) b h = every-back P a b (h .1)
 
 -- The picture.
 
-module _ (o : Order) (ls : List Shown) (n : ℕ) (rows : List ℕ) (c : CompletesRows o ls n rows) where
+module _ (o : Order) (ls : List Shown) (n : ℕ) (rows : List ℕ) (c : CompletesRows (VisiblePixels o) ls n rows) where
   -- not 21: the size of the rows tells the border setting
   pub rows-sized : (room : ℕ) → writeOf rows room ≡ writeAs (pictureOf (c .borders)) rows room
   unfolding writeOf
@@ -83,7 +86,7 @@ module _ (o : Order) (ls : List Shown) (n : ℕ) (rows : List ℕ) (c : Complete
       record {
         format = pictureOf (c .borders);
         sized = c .sized;
-        good = ap pixels (c .shows) ∙ rows-pixels o (c .frame) (every-back Laid (c .earlier) (c .frame) (subst (Every Laid) (c .ends) h));
+        good = ap pixels (c .shows) ∙ rows-pixels o 0 (c .frame) (every-back Laid (c .earlier) (c .frame) (subst (Every Laid) (c .ends) h));
         made = refl;
       }
 

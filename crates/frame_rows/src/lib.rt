@@ -1,23 +1,26 @@
-// The rows of a picture, gathered from the reader's answers (paper 02, A1 and A2): the visible lines of a complete profile 0 frame.
+// The rows of a complete profile 0 frame, gathered from the reader's answers (paper 02, A1, A2 and A13). A row is what is kept of a line: for a
+// picture a visible line's 356 pixels, as sent, or in order where the head sends odd pixels first, and nothing of any other line; for a
+// comparison every line whole, as crate line_list has it, with its place in the frame for its number.
 //
 // In: the answer of each call to the reader, in order, with the line buffer as it is then, and a lent buffer for rows. What
-// frame::handed_over has of an answer goes to the judge. A visible line that is due puts its 356 pixels after the rows kept, as sent, or in
-// order where the head sends odd pixels first; a frame that breaks leaves none. Out: beside the next gatherer, nothing yet, or at a frame's
-// last line the length of its rows, which stand at the front of the buffer; `pgm::write` takes them. Refused, and then nothing changes: 11
-// and 14 as the judge refuses them; 12 where a row is due and the line buffer is shorter than 356 or the rows' buffer has no room for it,
-// and where a complete frame's rows are longer than the buffer. A buffer of pgm::MOST_PIXELS has room for every frame. Cost: linear in the
-// row that is put.
+// frame::handed_over has of an answer goes to the judge. A line that is due puts its row after the rows kept; a frame that breaks leaves none.
+// Out: beside the next gatherer, nothing yet, or at a frame's last line the length of its rows, which stand at the front of the buffer;
+// `pgm::write` takes a picture's, `line_diff::compare` the lines. Refused, and then nothing changes: 11 and 14 as the judge refuses them; 12
+// where a line is due and the line buffer is shorter than 356, or the rows' buffer than the rows with its own. A buffer of pgm::MOST_PIXELS has
+// room for every picture, one of ALL_LINES for every frame's lines. Cost: linear in the row that is put.
 ghost use mathlib.Core.Path.{_≡_};
-ghost use mathlib.Core.List.{_++_};
+ghost use mathlib.Core.List.{_∷_, _++_};
 ghost use Prim.Native.Nat.{_+_, _≤_};
 ghost use lib.Dec.{leb};
 ghost use lib.ListN.{length, take, drop};
 ghost use Rattle.profile.specs.Profile.{width};
-ghost use Rattle.frame_rows.specs.FrameRows.{pixelsOf, fresh, moved, saying, shownAs, keepRow, onward, completed, handed, takeOf, Gathers};
+ghost use Rattle.line_list.specs.Lines.{lineSize, inTwo};
+ghost use Rattle.frame_rows.specs.FrameRows.{pixelsOf, rowSize, fresh, moved, saying, placeDue, rowFits, withRow, Keeps, shownAs, onward, completed, afterBreak, handed, takeOf, Gathers};
 use frame::Handed;
 use frame::Judge;
 use frame::Ruling;
 use line_code::Kind;
+use line_list::LINE;
 use profile::Profile;
 use stream::Answer;
 
@@ -27,11 +30,22 @@ pub enum Order {
     OddFirst,
 }
 
-// The judge; the bytes of rows that are kept for the frame it is in; the head's order.
+// What is kept of a frame: the pixels of its visible lines, in order; or all of its lines, whole.
+pub enum Keeping {
+    VisiblePixels(Order),
+    WholeLines,
+}
+
+// The lines of a frame, and the bytes of all of them whole.
+const LINES: usize = 304;
+
+pub const ALL_LINES: usize = LINE * LINES;
+
+// The judge; the bytes of rows that are kept for the frame it is in; what is kept.
 pub struct Gatherer {
     pub judge: Judge,
     pub kept: usize,
-    pub order: Order,
+    pub keeping: Keeping,
 }
 
 // Nothing yet; the length of a complete frame's rows; or a refusal.
@@ -49,14 +63,14 @@ pub struct Gathered {
 
 impl Gatherer {
     // A fresh judge, and no rows.
-    pub fn new(order: Order) -> Gatherer
-        ensures { λ r. ⌜ r ≡ fresh order ⌝ }
+    pub fn new(keeping: Keeping) -> Gatherer
+        ensures { λ r. ⌜ r ≡ fresh keeping ⌝ }
     {
         let judge = Judge::new();
         Gatherer {
             judge,
             kept: 0,
-            order,
+            keeping,
         }
     }
 
@@ -76,16 +90,17 @@ impl Gatherer {
         ensures { λ r. ⌜ Gathers (handed self (shownAs kind number (now (line .entry))) (now (rows .entry))) r (now (rows .exit)) ⌝ }
     {
         let before = self.judge;
+        let place = place_due(before);
         let judged = before.line(Profile::VV5404, kind, number);
         let judge = judged.judge;
         let ruling = judged.ruling;
         match ruling {
             Ruling::Waiting => quiet(self.moved(judge, 0)),
-            Ruling::Going => self.onward(judge, kind, line, rows),
-            Ruling::Complete => self.completed(judge, rows),
+            Ruling::Going => self.onward(judge, self.kept, place, kind, line, rows),
+            Ruling::Complete => self.completed(judge, place, kind, line, rows),
             Ruling::Refused(refusal) => {
                 if frame::breaks_frame(refusal) {
-                    return quiet(self.moved(judge, 0));
+                    return self.after_break(judge, kind, line, rows);
                 }
                 refused(self, refusal)
             }
@@ -96,45 +111,66 @@ impl Gatherer {
     fn moved(self, judge: Judge, kept: usize) -> Gatherer
         ensures { λ r. ⌜ r ≡ moved self judge kept ⌝ }
     {
-        let order = self.order;
-        Gatherer { judge, kept, order }
+        let keeping = self.keeping;
+        Gatherer {
+            judge,
+            kept,
+            keeping,
+        }
     }
 
-    // A line that was due: a visible one has a row.
-    fn onward(self, judge: Judge, kind: u8, line: &[u8], rows: &mut [u8]) -> Gathered
-        ensures { λ r. ⌜ Gathers (onward self judge kind (take width (now (line .entry))) (now (rows .entry))) r (now (rows .exit)) ⌝ }
+    // A line that was due, and not the last: its row stands after the bytes kept.
+    fn onward(
+        self,
+        judge: Judge,
+        kept: usize,
+        place: u16,
+        kind: u8,
+        line: &[u8],
+        rows: &mut [u8],
+    ) -> Gathered
+        ensures { λ r. ⌜ Gathers (onward self judge kept place kind (take width (now (line .entry))) (now (rows .entry))) r (now (rows .exit)) ⌝ }
     {
-        if kind == Kind::VL.number() {
-            return self.keep_row(judge, line, rows);
-        }
-        quiet(self.moved(judge, self.kept))
-    }
-
-    // Puts a row after those kept.
-    fn keep_row(self, judge: Judge, line: &[u8], rows: &mut [u8]) -> Gathered
-        ensures { λ r. ⌜ Gathers (keepRow self judge (take width (now (line .entry))) (now (rows .entry))) r (now (rows .exit)) ⌝ }
-    {
-        if line.len() < Profile::WIDTH {
-            return refused(self, refusal::NO_ROOM);
-        }
-        if has_row(self.kept, rows.len()) {
-            let order = self.order;
-            put_row(order, &line[..Profile::WIDTH], rows, self.kept);
-            return quiet(self.moved(judge, self.kept + Profile::WIDTH));
+        let keeping = self.keeping;
+        let row = keep(keeping, kept, place, kind, line, rows);
+        if row.fits {
+            return quiet(self.moved(judge, row.end));
         }
         refused(self, refusal::NO_ROOM)
     }
 
-    // The frame is complete: its rows are those kept.
-    fn completed(self, judge: Judge, rows: &[u8]) -> Gathered
-        ensures { λ r. ⌜ Gathers (completed self judge (now (rows .entry))) r (now (rows .entry)) ⌝ }
+    // The frame's last line: with its row the frame is complete.
+    fn completed(self, judge: Judge, place: u16, kind: u8, line: &[u8], rows: &mut [u8]) -> Gathered
+        ensures { λ r. ⌜ Gathers (completed self judge place kind (take width (now (line .entry))) (now (rows .entry))) r (now (rows .exit)) ⌝ }
     {
-        if rows.len() < self.kept {
-            return refused(self, refusal::NO_ROOM);
+        let keeping = self.keeping;
+        let row = keep(keeping, self.kept, place, kind, line, rows);
+        if row.fits {
+            let gatherer = self.moved(judge, 0);
+            let progress = Progress::Complete(row.end);
+            return Gathered { gatherer, progress };
         }
-        let gatherer = self.moved(judge, 0);
-        let progress = Progress::Complete(self.kept);
-        Gathered { gatherer, progress }
+        refused(self, refusal::NO_ROOM)
+    }
+
+    // A line that breaks the frame: it may be the first of a new one.
+    fn after_break(self, judge: Judge, kind: u8, line: &[u8], rows: &mut [u8]) -> Gathered
+        ensures { λ r. ⌜ Gathers (afterBreak self judge kind (take width (now (line .entry))) (now (rows .entry))) r (now (rows .exit)) ⌝ }
+    {
+        match judge {
+            Judge::Waiting => quiet(self.moved(judge, 0)),
+            Judge::Due(_, _) => self.onward(judge, 0, 0, kind, line, rows),
+        }
+    }
+}
+
+// The place of the line that is due.
+fn place_due(judge: Judge) -> u16
+    ensures { λ r. ⌜ r ≡ placeDue judge ⌝ }
+{
+    match judge {
+        Judge::Waiting => 0,
+        Judge::Due(place, _) => place,
     }
 }
 
@@ -154,21 +190,81 @@ fn refused(gatherer: Gatherer, number: u8) -> Gathered
     Gathered { gatherer, progress }
 }
 
-// Whether there is room for a row after the bytes kept.
-fn has_row(kept: usize, room: usize) -> bool
-    ensures { λ r. ⌜ r ≡ leb (kept + width) room ⌝ }
+// Whether a row fits after the bytes kept, and where it then ends.
+struct Row {
+    fits: bool,
+    end: usize,
+}
+
+// Puts the row of a line after the bytes kept, where it fits.
+fn keep(keeping: Keeping, kept: usize, place: u16, kind: u8, line: &[u8], rows: &mut [u8]) -> Row
+    ensures { λ r. ⌜ Keeps keeping kept place kind (take width (now (line .entry))) (now (rows .entry)) r (now (rows .exit)) ⌝ }
+{
+    if line.len() < Profile::WIDTH {
+        return Row {
+            fits: false,
+            end: kept,
+        };
+    }
+    let size = row_size(keeping, kind);
+    if has_room(kept, size, rows.len()) {
+        put_row(keeping, place, kind, &line[..Profile::WIDTH], rows, kept);
+        return Row {
+            fits: true,
+            end: kept + size,
+        };
+    }
+    Row {
+        fits: false,
+        end: kept,
+    }
+}
+
+// The length of the row of a line of a kind.
+fn row_size(keeping: Keeping, kind: u8) -> usize
+    ensures { λ r. ⌜ r ≡ rowSize keeping kind ⌝ }
+{
+    match keeping {
+        Keeping::VisiblePixels(_) => {
+            if kind == Kind::VL.number() {
+                return Profile::WIDTH;
+            }
+            0
+        }
+        Keeping::WholeLines => LINE,
+    }
+}
+
+// Whether there is room for so many bytes after those kept.
+fn has_room(kept: usize, size: usize, room: usize) -> bool
+    ensures { λ r. ⌜ r ≡ leb (kept + size) room ⌝ }
 {
     if room < kept {
         return false;
     }
-    if room - kept < Profile::WIDTH {
+    if room - kept < size {
         return false;
     }
     true
 }
 
+// Puts the row of a line at a place.
+fn put_row(keeping: Keeping, place: u16, kind: u8, body: &[u8], rows: &mut [u8], at: usize)
+    requires { ⌜ (length (now body) ≡ width) × (at + rowSize keeping kind ≤ length (now rows)) ⌝ }
+    ensures { λ r. ⌜ now (rows .exit) ≡ withRow keeping at place kind (now (body .entry)) (now (rows .entry)) ⌝ }
+{
+    match keeping {
+        Keeping::VisiblePixels(order) => {
+            if kind == Kind::VL.number() {
+                put_pixels(order, body, rows, at);
+            }
+        }
+        Keeping::WholeLines => put_line(place, kind, body, rows, at),
+    }
+}
+
 // Puts a body's pixels at a place.
-fn put_row(order: Order, body: &[u8], rows: &mut [u8], at: usize)
+fn put_pixels(order: Order, body: &[u8], rows: &mut [u8], at: usize)
     requires { ⌜ (length (now body) ≡ width) × (at + width ≤ length (now rows)) ⌝ }
     ensures { λ r. ⌜ now (rows .exit) ≡ take at (now (rows .entry)) ++ (pixelsOf order (now (body .entry)) ++ drop (at + width) (now (rows .entry))) ⌝ }
 {
@@ -180,4 +276,14 @@ fn put_row(order: Order, body: &[u8], rows: &mut [u8], at: usize)
             pixel_order::to_pixels(Kind::VL.number(), body, &mut rows[at..]);
         }
     }
+}
+
+// Puts a line whole at a place: its kind, its place in the frame in two bytes, and its body.
+fn put_line(place: u16, kind: u8, body: &[u8], rows: &mut [u8], at: usize)
+    requires { ⌜ (length (now body) ≡ width) × (at + lineSize ≤ length (now rows)) ⌝ }
+    ensures { λ r. ⌜ now (rows .exit) ≡ take at (now (rows .entry)) ++ (((kind ∷ inTwo place) ++ now (body .entry)) ++ drop (at + lineSize) (now (rows .entry))) ⌝ }
+{
+    let head = [kind, (place / 256) as u8, (place % 256) as u8];
+    let start = text::put(&head, rows, at);
+    text::put(body, rows, start);
 }

@@ -29,14 +29,14 @@ lineChanged n f (l ∷ ls) = cond (eqb (l .number) n) (f l ∷ ls) (l ∷ lineCh
 abbrev pub ofKind : ℕ → FullLine → FullLine
 ofKind k l = record { kind = k; number = l .number; body = l .body }
 
-abbrev pub byteAt : ℕ → ℕ → FullLine → FullLine
-byteAt p y l = record { kind = l .kind; number = l .number; body = set (l .body) p y }
+abbrev pub withByte : ℕ → ℕ → FullLine → FullLine
+withByte p y l = record { kind = l .kind; number = l .number; body = set (l .body) p y }
 
 unfoldable pub applied : Difference → List FullLine → List FullLine
 applied (onlyFirst x) ls = without (x .number) ls
 applied (onlySecond x) ls = including x ls
 applied (bothKinds n k m) ls = lineChanged n (ofKind m) ls
-applied (bothBytes n p x y) ls = lineChanged n (byteAt p y) ls
+applied (bothBytes n p x y) ls = lineChanged n (withByte p y) ls
 
 abbrev pub appliedAll : List Difference → List FullLine → List FullLine
 appliedAll [] ls = ls

@@ -12,7 +12,7 @@ use Rattle.bits.specs.Every.{and-left, and-right, and-both}
 use Rattle.line_list.specs.Lines.{FullLine, risesFrom, rises}
 use Rattle.line_list.specs.LinesLaws.{FullBodies, sized-head, sized-tail}
 use Rattle.difference.specs.Difference.{Difference, onlyFirst, onlySecond, bothKinds, bothBytes, unless, placesFrom, betweenLines, differences}
-use Rattle.line_diff_laws.specs.Applied.{ofKind, byteAt, applied, appliedAll, ofNumber, rank, Each, done, also}
+use Rattle.line_diff_laws.specs.Applied.{ofKind, withByte, applied, appliedAll, ofNumber, rank, Each, done, also}
 use Rattle.line_diff_laws.specs.EachLaws.{each-append, each-map, each-unless}
 use Rattle.difference.specs.DifferenceLaws.{step-first, step-second, step-both}
 use Rattle.line_diff_laws.specs.MergeLaws.{MergeSteps, walked}
@@ -97,7 +97,7 @@ all-pass l ls done = refl
 all-pass l ls (also {d} {ds} h f) = ap (appliedAll ds) (passes d l ls h) ∙ all-pass l (applied d ls) f
 
 -- the line of a number with its kind, and with bodies' differing places
-set-place : (n : ℕ) (p y : ℕ) (l : FullLine) (ls : List FullLine) (x : ℕ) → l .number ≡ n → applied (bothBytes n p x y) (l ∷ ls) ≡ byteAt p y l ∷ ls
+set-place : (n : ℕ) (p y : ℕ) (l : FullLine) (ls : List FullLine) (x : ℕ) → l .number ≡ n → applied (bothBytes n p x y) (l ∷ ls) ≡ withByte p y l ∷ ls
 unfolding applied
 set-place n p y l ls x e = simp (eq-eqb (l .number) n e)
 

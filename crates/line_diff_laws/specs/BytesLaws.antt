@@ -68,7 +68,7 @@ sized-places n p [] ys = done
 sized-places n p (x ∷ xs) [] = done
 sized-places n p (x ∷ xs) (y ∷ ys) = each-unless (eqb x y) (bothBytes n p x y) refl (sized-places n (suc p) xs ys)
 
-sized-between : (a b : FullLine) → Each SizedIn (betweenLines a b)
+pub sized-between : (a b : FullLine) → Each SizedIn (betweenLines a b)
 unfolding betweenLines
 sized-between a b = each-unless (eqb (a .kind) (b .kind)) (bothKinds (a .number) (a .kind) (b .kind)) refl (sized-places (a .number) 0 (a .body) (b .body))
 

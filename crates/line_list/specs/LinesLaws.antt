@@ -1,12 +1,12 @@
--- Laws of a list as it is lent: one line after another, each with a body of 356 bytes; and its lines tell its bytes.
+-- Laws of a list as it is lent: one line after another, each with a body of 356 bytes; its lines tell its bytes, and its bytes its lines.
 use mathlib.Core.Path.{_≡_, refl, sym, ap, subst, _∙_}
 use mathlib.Core.Bool.{true}
 use mathlib.Core.List.{List, [], _∷_, _++_}
 use Prim.Native.Nat.{ℕ, zero, suc, _+_, _*_, _-_, _/_, _%_, _≤_, _<_}
 use native.Mathlib.Omega.{arith}
 use borrow.Author.Tests.{eqb-true}
-use lib.ListN.{length, getD, take, drop, length-drop, take-append-drop}
-use lib.Seq.{take-all, drop-drop, getD-drop, length-take-le}
+use lib.ListN.{length, getD, take, drop, length-append, length-drop, take-append-drop}
+use lib.Seq.{take-all, take-at, drop-at, drop-drop, getD-drop, length-take-le}
 use Rattle.profile.specs.Profile.{width}
 use Rattle.line_list.specs.Lines.{FullLine, lineSize, frontLine, firstLines, fullLines, noneCut, asLent}
 
@@ -49,26 +49,26 @@ lines-sized bytes = lines-sized-in (length bytes / lineSize) bytes (omega arith)
 -- ---- From a place on
 
 -- what is lent from a place on
-abbrev pub part : List ℕ → ℕ → List ℕ
-part list i = take (length list - i) (drop i list)
+abbrev pub lentFrom : List ℕ → ℕ → List ℕ
+lentFrom list i = take (length list - i) (drop i list)
 
-pub part-is : (list : List ℕ) (i : ℕ) → part list i ≡ drop i list
-part-is list i = take-all (length list - i) (drop i list) (omega (arith, length-drop i list))
+pub lent-from-is : (list : List ℕ) (i : ℕ) → lentFrom list i ≡ drop i list
+lent-from-is list i = take-all (length list - i) (drop i list) (omega (arith, length-drop i list))
 
-pub lines-at : (list : List ℕ) (i : ℕ) → lineSize ≤ length list - i → fullLines (drop i list) ≡ frontLine (part list i) ∷ fullLines (drop (i + lineSize) list)
+pub lines-at : (list : List ℕ) (i : ℕ) → lineSize ≤ length list - i → fullLines (drop i list) ≡ frontLine (lentFrom list i) ∷ fullLines (drop (i + lineSize) list)
 lines-at list i h =
     lines-step (drop i list) (omega (arith, length-drop i list))
     ∙ ap (λ (l : List ℕ). frontLine (drop i list) ∷ fullLines l) (drop-drop lineSize i list)
-    ∙ ap (λ (l : List ℕ). frontLine l ∷ fullLines (drop (i + lineSize) list)) (sym (part-is list i))
+    ∙ ap (λ (l : List ℕ). frontLine l ∷ fullLines (drop (i + lineSize) list)) (sym (lent-from-is list i))
 
 pub lines-over : (list : List ℕ) (i : ℕ) → length list - i < lineSize → fullLines (drop i list) ≡ []
 lines-over list i h = lines-none (drop i list) (omega (arith, length-drop i list))
 
-pub kind-at : (list : List ℕ) (i : ℕ) → frontLine (part list i) .kind ≡ getD list i 0
+pub kind-at : (list : List ℕ) (i : ℕ) → frontLine (lentFrom list i) .kind ≡ getD list i 0
 unfolding frontLine
 kind-at list i =
     let z : i + 0 ≡ i = omega arith in
-    ap (λ (l : List ℕ). getD l 0 0) (part-is list i) ∙ getD-drop i list 0 0 ∙ ap (λ (k : ℕ). getD list k 0) z
+    ap (λ (l : List ℕ). getD l 0 0) (lent-from-is list i) ∙ getD-drop i list 0 0 ∙ ap (λ (k : ℕ). getD list k 0) z
 
 -- ---- The bytes from the lines
 
@@ -97,3 +97,21 @@ list-back-in (suc n) bytes h b =
 pub list-back : (bytes : List ℕ) → noneCut bytes ≡ true → ((i : ℕ) → getD bytes i 0 < 256) → asLent (fullLines bytes) ≡ bytes
 unfolding fullLines
 list-back bytes w b = list-back-in (length bytes / lineSize) bytes (omega (arith, eqb-true (length bytes % lineSize) 0 w)) b
+
+-- ---- The lines from the bytes
+
+pub lent-length : {ls : List FullLine} → FullBodies ls → length (asLent ls) ≡ lineSize * length ls
+lent-length unsized = refl
+lent-length (sized {l} {ls} h s) = omega (arith, h, lent-length s, length-append (l .body) (asLent ls))
+
+-- lines that are lent are read back
+pub lines-lent : {ls : List FullLine} → FullBodies ls → fullLines (asLent ls) ≡ ls
+unfolding frontLine
+lines-lent unsized = lines-none [] (omega arith)
+lines-lent (sized {l} {ls} h s) =
+    let n : 256 * (l .number / 256) + l .number % 256 ≡ l .number = omega arith in
+    lines-step (asLent (l ∷ ls)) (omega (arith, lent-length (sized {l = l} {ls = ls} h s)))
+    ∙ ap (λ (k : ℕ). record { kind = l .kind; number = k; body = take width (l .body ++ asLent ls) } ∷ fullLines (drop lineSize (asLent (l ∷ ls)))) n
+    ∙ ap (λ (b : List ℕ). record { kind = l .kind; number = l .number; body = b } ∷ fullLines (drop lineSize (asLent (l ∷ ls)))) (take-at (l .body) (asLent ls) width h)
+    ∙ ap (λ (b : List ℕ). l ∷ fullLines b) (sym (drop-drop width 3 (asLent (l ∷ ls))) ∙ drop-at (l .body) (asLent ls) width h)
+    ∙ ap (λ (ms : List FullLine). l ∷ ms) (lines-lent s)

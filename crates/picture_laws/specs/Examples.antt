@@ -17,6 +17,7 @@ use Rattle.frame_laws.specs.FrameLaws.{frame-counted}
 use Rattle.slip.specs.Examples.{samplesFrom, sampleFrame, frame-writable}
 use Rattle.pgm.specs.Pgm.{size}
 use Rattle.frame_rows.specs.declared.Order.{Order}
+use Rattle.frame_rows.specs.declared.Keeping.the-variants.{VisiblePixels}
 use Rattle.frame_rows.specs.Gathering.{linesOf, pictureOf}
 use Rattle.frame_grabber.specs.FrameGrabber.{freshGrabber}
 use Rattle.frame_grabber.specs.Pieces.{grabPieces}
@@ -43,7 +44,7 @@ before-small = small-more (lit≤ tt) (small-more (lit≤ tt) (small-more (lit�
 
 pub sample-pictured : (o : Order) (b : Borders)
     → FramePictured o b (sampleFrame b)
-    (grabPieces (freshGrabber o) (replicate (size (pictureOf b)) 0) ((before ++ stream (sampleFrame b)) ∷ []) .output)
+    (grabPieces (freshGrabber (VisiblePixels o)) (replicate (size (pictureOf b)) 0) ((before ++ stream (sampleFrame b)) ∷ []) .output)
 sample-pictured o b =
     let held : List ℕ = replicate (size (pictureOf b)) 0 in
     first-frame-pictured o b (sample-sent b) held (omega (arith, length-replicate {A = ℕ} (size (pictureOf b)) 0)) before-small refl [] ((before ++ stream (sampleFrame b)) ∷ []) refl

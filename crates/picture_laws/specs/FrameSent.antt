@@ -1,8 +1,8 @@
--- A frame as the writer writes it, and the picture of it. Definitions only.
+-- A frame as the writer writes it, the picture of it, and the list of its lines. Definitions only.
 use mathlib.Core.Path.{_≡_}
 use mathlib.Core.Bool.{Bool, true, _&&_, not}
 use mathlib.Core.List.{List, [], _∷_, _++_, map}
-use Prim.Native.Nat.{ℕ, _≤_}
+use Prim.Native.Nat.{ℕ, suc, _≤_}
 use lib.ListN.{length}
 use Rattle.line_code.specs.declared.Kind.{Kind}
 use Rattle.line_code.specs.declared.Kind.the-variants.{BL, BK, VL, SOF, EOF}
@@ -14,10 +14,13 @@ use Rattle.lent_buffer.specs.Filled.{used}
 use Rattle.frame.specs.declared.Borders.{Borders}
 use Rattle.frame.specs.Frame.{opens}
 use Rattle.frame.specs.Calls.{line, IsFrame}
-use Rattle.pgm.specs.Pgm.{size, imageOf, writeOf}
+use Rattle.pgm.specs.Pgm.{imageOf, writeOf}
+use Rattle.line_list.specs.Lines.{inTwo}
 use Rattle.frame_rows.specs.declared.Order.{Order}
+use Rattle.frame_rows.specs.declared.Keeping.{Keeping}
+use Rattle.frame_rows.specs.declared.Keeping.the-variants.{VisiblePixels, WholeLines}
 use Rattle.frame_rows.specs.FrameRows.{Shown, pixelsOf, Output, complete}
-use Rattle.frame_rows.specs.Gathering.{linesOf, pictureOf}
+use Rattle.frame_rows.specs.Gathering.{linesOf, pictureOf, frameSize}
 
 -- a line that is sent: what is handed to the judge, and the body
 abbrev pub shownLine : Sent → Shown
@@ -35,21 +38,34 @@ opensNone (l ∷ ls) = not (opens (kindNumber (l .kind)) (l .number)) && opensNo
 
 -- The picture.
 
--- the row of a line: a visible line's pixels, and none of any other
-abbrev pub sentRow : Order → Kind → List ℕ → List ℕ
-sentRow o BL body = []
-sentRow o BK body = []
-sentRow o VL body = pixelsOf o body
-sentRow o SOF body = []
-sentRow o EOF body = []
+-- a visible line's pixels, and none of any other
+abbrev pub sentPixels : Order → Kind → List ℕ → List ℕ
+sentPixels o BL body = []
+sentPixels o BK body = []
+sentPixels o VL body = pixelsOf o body
+sentPixels o SOF body = []
+sentPixels o EOF body = []
 
--- the rows of lines, top to bottom in the order sent
-abbrev pub sentRows : Order → List Sent → List ℕ
-sentRows o [] = []
-sentRows o (s ∷ ss) = sentRow o (s .kind) (s .body) ++ sentRows o ss
+-- the row of the line at a place: its pixels; or the line whole, its kind, its place for its number, and its body
+abbrev pub sentRow : Keeping → ℕ → Kind → List ℕ → List ℕ
+sentRow (VisiblePixels o) place kind body = sentPixels o kind body
+sentRow WholeLines place kind body = (kindNumber kind ∷ inTwo place) ++ body
 
--- the picture of a frame: complete is said, with its rows; and their file, the header and then the rows, is written where there is room for it
+-- the rows of lines from a place on, top to bottom in the order sent
+abbrev pub sentFrom : Keeping → ℕ → List Sent → List ℕ
+sentFrom k place [] = []
+sentFrom k place (s ∷ ss) = sentRow k place (s .kind) (s .body) ++ sentFrom k (suc place) ss
+
+abbrev pub sentRows : Keeping → List Sent → List ℕ
+sentRows k ss = sentFrom k 0 ss
+
+-- a whole frame is found: complete is said, with its rows
+abbrev pub FrameSaid : Keeping → Borders → List Sent → Output → Type 0
+FrameSaid k b ss said = said ≡ complete (frameSize k b) (sentRows k ss)
+
+-- the picture of a frame: complete is said, with its pixels; and their file, the header and then the pixels, is written where there is room for it
 pub record FramePictured (o : Order) (b : Borders) (ss : List Sent) (said : Output) : Type 0 where
-  pub says : said ≡ complete (size (pictureOf b)) (sentRows o ss)
-  pub written : (room : ℕ) → length (imageOf (pictureOf b) (sentRows o ss)) ≤ room
-      → writeOf (sentRows o ss) room ≡ used (length (imageOf (pictureOf b) (sentRows o ss))) (imageOf (pictureOf b) (sentRows o ss))
+  pub says : FrameSaid (VisiblePixels o) b ss said
+  pub written : (room : ℕ) → length (imageOf (pictureOf b) (sentRows (VisiblePixels o) ss)) ≤ room
+      → writeOf (sentRows (VisiblePixels o) ss) room
+      ≡ used (length (imageOf (pictureOf b) (sentRows (VisiblePixels o) ss))) (imageOf (pictureOf b) (sentRows (VisiblePixels o) ss))

@@ -1,8 +1,8 @@
--- The picture of a frame as written: the reader gives out each line as sent, whatever came before, and the gatherer shows a frame that comes whole.
+-- A frame as written is found: the reader gives out each line as sent, whatever came before, and the gatherer shows a frame that comes whole.
 use mathlib.Core.Path.{_≡_, refl, sym, ap, ap₂, subst, _∙_}
 use mathlib.Core.Bool.{Bool, true, false, cond, true≢false}
 use mathlib.Core.List.{List, [], _∷_, _++_, append-assoc, append-nil, map, map-append}
-use Prim.Native.Nat.{ℕ, _≤_}
+use Prim.Native.Nat.{ℕ, suc, _≤_}
 use native.Mathlib.Omega.{arith}
 use lib.ListN.{length, drop}
 use lib.Seq.{take-at}
@@ -43,10 +43,12 @@ use Rattle.frame_laws.specs.FrameLaws.{reached-passes}
 use Rattle.frame.specs.Handing.{isBrokenLine, handedLines}
 use Rattle.pgm.specs.Pgm.{size}
 use Rattle.frame_rows.specs.declared.Order.{Order}
+use Rattle.frame_rows.specs.declared.Keeping.{Keeping}
+use Rattle.frame_rows.specs.declared.Keeping.the-variants.{VisiblePixels, WholeLines}
 use Rattle.frame_rows.specs.declared.Gatherer.{Gatherer}
-use Rattle.frame_rows.specs.FrameRows.{Shown, rowOf, rowsOf, complete, AfterCall, quiet, refusedBy, byRuling, handed, handing, takeOf}
+use Rattle.frame_rows.specs.FrameRows.{Shown, rowOf, rowsFrom, rowsOf, complete, AfterCall, quiet, afterBreak, refusedBy, byRuling, handed, handing, takeOf}
 use Rattle.frame_rows.specs.FrameRows as rows
-use Rattle.frame_rows.specs.Gathering.{Given, call, start, shown, taken, shownAll, linesOf, pictureOf, CompletesRows, Every, WholeBody, Laid}
+use Rattle.frame_rows.specs.Gathering.{Given, call, start, shown, taken, shownAll, linesOf, pictureOf, frameSize, CompletesRows, Every, WholeBody, Laid}
 use Rattle.frame_rows.specs.Gathering as gathering
 use Rattle.frame_rows.specs.FrameRowsLaws.{frame-size, holds-calls, holds-start}
 use Rattle.frame_rows.specs.PictureLaws.{rows-written}
@@ -54,7 +56,7 @@ use Rattle.frame_rows.specs.WholeFrameLaws.{frame-shown-on}
 use Rattle.frame_grabber.specs.FrameGrabber.{freshGrabber, blank, isSaid, After, grabOf}
 use Rattle.frame_grabber.specs.Pieces.{joined, grabPieces, givens, fedAll}
 use Rattle.frame_grabber.specs.PieceLaws.{grab-is, pieces-whole}
-use Rattle.picture_laws.specs.FrameSent.{shownLine, FrameSent, opensNone, sentRow, sentRows, FramePictured}
+use Rattle.picture_laws.specs.FrameSent.{shownLine, FrameSent, opensNone, sentRow, sentFrom, sentRows, FrameSaid, FramePictured}
 use Rattle.picture_laws.specs.UntilSaidLaws.{givenOf, untilSaid, until-goes, said-stops, until-append, until-calls, quiet-is, seek-until, givens-append, calls-long}
 use Rattle.picture_laws.specs.UnopenedLaws.{unopened-waits}
 
@@ -102,7 +104,7 @@ record LinesTold (os : List Outcome) (ss : List Sent) : Type 0 where
   told : os ≡ until ++ (lineRead last Clean Clean ∷ rest)
   last-shown : shownOf (lineRead last Clean Clean) ≡ shownLine last ∷ []
   all-shown : collected shownOf until ++ (shownLine last ∷ []) ≡ map shownLine ss
-  whole : Every WholeBody (collected shownOf until)
+  whole : Every WholeBody (collected shownOf until ++ (shownLine last ∷ []))
 
 lines-told : (s : Sent) → Writable VV5404 s → {ss : List Sent} → AllWritable VV5404 ss
     → LinesTold (restTold s Clean Clean ++ outcomes VV5404 (after s) (stream ss)) (s ∷ ss)
@@ -116,7 +118,7 @@ lines-told s g no-lines =
       told = append-nil (restTold s Clean Clean) ∙ sym (append-assoc (nothings (content s)) seven (lineRead s Clean Clean ∷ nothings (tail s)));
       last-shown = line-shown s g;
       all-shown = ap (λ (ls : List Shown). ls ++ (shownLine s ∷ [])) none;
-      whole = subst (Every WholeBody) (sym none) tt;
+      whole = subst (λ (ls : List Shown). Every WholeBody (ls ++ (shownLine s ∷ []))) (sym none) (body-length s g, tt);
     }
 lines-told s g (and-line {s = next} {ss = ss} h hs) =
     let r = lines-told next h hs in
@@ -137,22 +139,22 @@ lines-told s g (and-line {s = next} {ss = ss} h hs) =
       all-shown =
           ap (λ (ls : List Shown). ls ++ (shownLine (r .last) ∷ [])) shows
           ∙ ap {B = List Shown} (λ ls. shownLine s ∷ ls) (r .all-shown);
-      whole = subst (Every WholeBody) (sym shows) (λ v. body-length s g, r .whole);
+      whole = subst (λ (ls : List Shown). Every WholeBody (ls ++ (shownLine (r .last) ∷ []))) (sym shows) (body-length s g, r .whole);
     }
 
 -- The start mark of the first line: no line comes out of it, so nothing is said.
 
-passing : (o : Order) (held : List ℕ) (gs : List Given) → passes VV5404 (gathering.calls (start o held) gs .gatherer .judge) ≡ true
-passing o held gs =
-    sym (ap (passes VV5404) (holds-calls o [] (start o held) gs (holds-start o held) .judge))
-    ∙ reached-passes VV5404 (linesOf (taken (start o held) gs))
+passing : (k : Keeping) (held : List ℕ) (gs : List Given) → passes VV5404 (gathering.calls (start k held) gs .gatherer .judge) ≡ true
+passing k held gs =
+    sym (ap (passes VV5404) (holds-calls k [] (start k held) gs (holds-start k held) .judge))
+    ∙ reached-passes VV5404 (linesOf (taken (start k held) gs))
 
 -- nothing is said, and the judge passes its test
 abbrev Still : AfterCall → Type 0
 Still x = (x .output ≡ rows.nothing) × (passes VV5404 (x .gatherer .judge) ≡ true)
 
 broken-still : (s : Gatherer) (body held : List ℕ) → passes VV5404 (s .judge) ≡ true → Still (handed s (record { given = calls.line brokenKind 0; body = body }) held)
-unfolding handed refusedBy judgeOf
+unfolding handed refusedBy afterBreak judgeOf
 broken-still s body held h = by (s .judge) h
   where
     at : Judged → AfterCall
@@ -189,19 +191,19 @@ outcomes-still (o ∷ os) e x q =
 -- A whole frame.
 
 -- calls that go on while nothing is said: a frame that comes whole after them is what is said first
-frame-first : (o : Order) (held : List ℕ) (before gs : List Given) (g : Given) (l : Shown) (b : Borders) (later : List Given)
-    → untilSaid (start o held) before .output ≡ rows.nothing → shown (handedLines (g .answer)) (g .held) ≡ l ∷ []
-    → IsFrame VV5404 b (linesOf (shownAll gs ++ (l ∷ []))) → Every WholeBody (shownAll gs) → size (pictureOf b) ≤ length held
-    → untilSaid (start o held) (before ++ ((gs ++ (g ∷ [])) ++ later)) .output ≡ complete (size (pictureOf b)) (rowsOf o (shownAll gs ++ (l ∷ [])))
-frame-first o held before gs g l b later q e f w room =
-    let x : AfterCall = gathering.calls (start o held) before in
-    let y : untilSaid (start o held) before ≡ x = until-calls before (start o held) q in
+frame-first : (k : Keeping) (held : List ℕ) (before gs : List Given) (g : Given) (l : Shown) (b : Borders) (later : List Given)
+    → untilSaid (start k held) before .output ≡ rows.nothing → shown (handedLines (g .answer)) (g .held) ≡ l ∷ []
+    → IsFrame VV5404 b (linesOf (shownAll gs ++ (l ∷ []))) → Every WholeBody (shownAll gs ++ (l ∷ [])) → frameSize k b ≤ length held
+    → untilSaid (start k held) (before ++ ((gs ++ (g ∷ [])) ++ later)) .output ≡ complete (frameSize k b) (rowsOf k (shownAll gs ++ (l ∷ [])))
+frame-first k held before gs g l b later q e f w room =
+    let x : AfterCall = gathering.calls (start k held) before in
+    let y : untilSaid (start k held) before ≡ x = until-calls before (start k held) q in
     let n : x .output ≡ rows.nothing = sym (ap (λ (z : AfterCall). z .output) y) ∙ q in
     let z : AfterCall = untilSaid (quiet (x .gatherer) (x .buffer)) (gs ++ (g ∷ [])) in
-    let c : z .output ≡ complete (size (pictureOf b)) (rowsOf o (shownAll gs ++ (l ∷ []))) =
-    frame-shown-on untilSaid until-goes o held before gs g l b e f w (subst (λ (k : ℕ). size (pictureOf b) ≤ k) (sym (calls-long before (start o held))) room) in
+    let c : z .output ≡ complete (frameSize k b) (rowsOf k (shownAll gs ++ (l ∷ []))) =
+    frame-shown-on untilSaid until-goes k held before gs g l b e f w (subst (λ (m : ℕ). frameSize k b ≤ m) (sym (calls-long before (start k held))) room) in
     ap (λ (v : AfterCall). v .output)
-    (until-append before ((gs ++ (g ∷ [])) ++ later) (start o held)
+    (until-append before ((gs ++ (g ∷ [])) ++ later) (start k held)
     ∙ ap (λ (v : AfterCall). untilSaid v ((gs ++ (g ∷ [])) ++ later)) (y ∙ quiet-is x n)
     ∙ until-append (gs ++ (g ∷ [])) later (quiet (x .gatherer) (x .buffer))
     ∙ said-stops z later (ap isSaid c))
@@ -212,40 +214,44 @@ regroup a u g t l =
     append-assoc a (u ++ (g ∷ t)) l
     ∙ ap (λ (v : List Given). a ++ v) (append-assoc u (g ∷ t) l ∙ sym (append-assoc u (g ∷ []) (t ++ l)))
 
--- The picture.
+-- The rows.
 
-row-sent : (o : Order) (k : Kind) (n : ℕ) (body : List ℕ) → rowOf o (record { given = calls.line (kindNumber k) n; body = body }) ≡ sentRow o k body
-row-sent o BL n body = refl
-row-sent o BK n body = refl
-row-sent o VL n body = refl
-row-sent o SOF n body = refl
-row-sent o EOF n body = refl
+row-sent : (k : Keeping) (place : ℕ) (kind : Kind) (body : List ℕ) → rowOf k place (kindNumber kind) body ≡ sentRow k place kind body
+row-sent (VisiblePixels o) place BL body = refl
+row-sent (VisiblePixels o) place BK body = refl
+row-sent (VisiblePixels o) place VL body = refl
+row-sent (VisiblePixels o) place SOF body = refl
+row-sent (VisiblePixels o) place EOF body = refl
+row-sent WholeLines place kind body = refl
 
-rows-sent : (o : Order) (ss : List Sent) → rowsOf o (map shownLine ss) ≡ sentRows o ss
-rows-sent o [] = refl
-rows-sent o (s ∷ ss) = ap₂ _++_ (row-sent o (s .kind) (s .number) (s .body)) (rows-sent o ss)
+rows-sent-from : (k : Keeping) (place : ℕ) (ss : List Sent) → rowsFrom k place (map shownLine ss) ≡ sentFrom k place ss
+rows-sent-from k place [] = refl
+rows-sent-from k place (s ∷ ss) = ap₂ _++_ (row-sent k place (s .kind) (s .body)) (rows-sent-from k (suc place) ss)
+
+rows-sent : (k : Keeping) (ss : List Sent) → rowsOf k (map shownLine ss) ≡ sentRows k ss
+rows-sent k ss = rows-sent-from k 0 ss
 
 -- what a grabber says of nibbles, by the gatherer's calls
-says-until : (o : Order) (held w : List ℕ) → grabOf (freshGrabber o) w held .output ≡ untilSaid (start o held) (givens (freshReader VV5404) w) .output
-says-until o held w =
-    ap (λ (a : After). a .output) (grab-is (freshGrabber o) w held (passes-test _ (fresh-ok VV5404 .test)))
-    ∙ ap (λ (x : AfterCall). x .output) (seek-until w (freshReader VV5404) (freshGrabber o .gatherer) held)
+says-until : (k : Keeping) (held w : List ℕ) → grabOf (freshGrabber k) w held .output ≡ untilSaid (start k held) (givens (freshReader VV5404) w) .output
+says-until k held w =
+    ap (λ (a : After). a .output) (grab-is (freshGrabber k) w held (passes-test _ (fresh-ok VV5404 .test)))
+    ∙ ap (λ (x : AfterCall). x .output) (seek-until w (freshReader VV5404) (freshGrabber k .gatherer) held)
 
 nibbles-small : {w : List ℕ} → AllNibbles w → Small w
 nibbles-small no-nibble = small-none
 nibbles-small (and-nibble {n} l h) = small-more {n = n} (omega arith) (nibbles-small h)
 
 -- a frame of one line and more
-frame-said : (o : Order) (b : Borders) (s : Sent) → Writable VV5404 s → {ss : List Sent} → AllWritable VV5404 ss → IsFrame VV5404 b (linesOf (map shownLine (s ∷ ss)))
-    → (held : List ℕ) → size (pictureOf b) ≤ length held → {before : List ℕ} → Small before → grabOf (freshGrabber o) before held .output ≡ rows.nothing
-    → (later : List ℕ) → grabOf (freshGrabber o) ((before ++ stream (s ∷ ss)) ++ later) held .output ≡ complete (size (pictureOf b)) (sentRows o (s ∷ ss))
-frame-said o b s g {ss} h f held room {before} small none later =
+frame-said : (k : Keeping) (b : Borders) (s : Sent) → Writable VV5404 s → {ss : List Sent} → AllWritable VV5404 ss → IsFrame VV5404 b (linesOf (map shownLine (s ∷ ss)))
+    → (held : List ℕ) → frameSize k b ≤ length held → {before : List ℕ} → Small before → grabOf (freshGrabber k) before held .output ≡ rows.nothing
+    → (later : List ℕ) → grabOf (freshGrabber k) ((before ++ stream (s ∷ ss)) ++ later) held .output ≡ complete (frameSize k b) (sentRows k (s ∷ ss))
+frame-said k b s g {ss} h f held room {before} small none later =
     let R : Reader = freshReader VV5404 in
     let w : List ℕ = before ++ stream (s ∷ ss) in
     let x : State = run VV5404 fresh before in
     let B : List Outcome = outcomes VV5404 fresh before in
     let M : List Outcome = outcomes VV5404 x (startMark s) in
-    let k = back VV5404 s g x in
+    let opening = back VV5404 s g x in
     let t = lines-told s g h in
     let L : List Given = givens (fedAll R w) later in
     let gs : List Given = map givenOf (t .until) in
@@ -254,7 +260,7 @@ frame-said o b s g {ss} h f held room {before} small none later =
     outcomes-append VV5404 fresh before (stream (s ∷ ss))
     ∙ ap (λ (os : List Outcome). B ++ os)
     (outcomes-append VV5404 x (written s) (stream ss)
-    ∙ ap₂ _++_ (k .told) (ap (λ (y : State). outcomes VV5404 y (stream ss)) (k .state))
+    ∙ ap₂ _++_ (opening .told) (ap (λ (y : State). outcomes VV5404 y (stream ss)) (opening .state))
     ∙ append-assoc M (restTold s Clean Clean) (outcomes VV5404 (after s) (stream ss))
     ∙ ap (λ (os : List Outcome). M ++ os) (t .told))
     ∙ sym (append-assoc B M (t .until ++ (lineRead (t .last) Clean Clean ∷ t .rest))) in
@@ -267,31 +273,31 @@ frame-said o b s g {ss} h f held room {before} small none later =
     ∙ map-append givenOf (B ++ M) (t .until ++ (lineRead (t .last) Clean Clean ∷ t .rest))
     ∙ ap (λ (v : List Given). map givenOf (B ++ M) ++ v) (map-append givenOf (t .until) (lineRead (t .last) Clean Clean ∷ t .rest)))
     ∙ regroup (map givenOf (B ++ M)) gs last (map givenOf (t .rest)) L in
-    let first : untilSaid (start o held) (map givenOf B) .output ≡ rows.nothing =
-    ap (λ (v : List Given). untilSaid (start o held) v .output) (sym (given-outcomes small R fresh (fresh-follows VV5404)))
-    ∙ sym (says-until o held before)
+    let first : untilSaid (start k held) (map givenOf B) .output ≡ rows.nothing =
+    ap (λ (v : List Given). untilSaid (start k held) v .output) (sym (given-outcomes small R fresh (fresh-follows VV5404)))
+    ∙ sym (says-until k held before)
     ∙ none in
-    let y : AfterCall = untilSaid (start o held) (map givenOf B) in
+    let y : AfterCall = untilSaid (start k held) (map givenOf B) in
     let pass : passes VV5404 (y .gatherer .judge) ≡ true =
-    ap (λ (v : AfterCall). passes VV5404 (v .gatherer .judge)) (until-calls (map givenOf B) (start o held) first) ∙ passing o held (map givenOf B) in
-    let still : untilSaid (start o held) (map givenOf (B ++ M)) .output ≡ rows.nothing =
-    ap (λ (v : List Given). untilSaid (start o held) v .output) (map-append givenOf B M)
-    ∙ ap (λ (v : AfterCall). v .output) (until-append (map givenOf B) (map givenOf M) (start o held))
-    ∙ outcomes-still M (k .opens .no-lines) y (first, pass) in
+    ap (λ (v : AfterCall). passes VV5404 (v .gatherer .judge)) (until-calls (map givenOf B) (start k held) first) ∙ passing k held (map givenOf B) in
+    let still : untilSaid (start k held) (map givenOf (B ++ M)) .output ≡ rows.nothing =
+    ap (λ (v : List Given). untilSaid (start k held) v .output) (map-append givenOf B M)
+    ∙ ap (λ (v : AfterCall). v .output) (until-append (map givenOf B) (map givenOf M) (start k held))
+    ∙ outcomes-still M (opening .opens .no-lines) y (first, pass) in
     let lines : shownAll gs ++ (shownLine (t .last) ∷ []) ≡ map shownLine (s ∷ ss) =
     ap (λ (ls : List Shown). ls ++ (shownLine (t .last) ∷ [])) (shown-collected (t .until)) ∙ t .all-shown in
-    says-until o held (w ++ later)
-    ∙ ap (λ (v : List Given). untilSaid (start o held) v .output) same
-    ∙ frame-first o held (map givenOf (B ++ M)) gs last (shownLine (t .last)) b (map givenOf (t .rest) ++ L) still (t .last-shown)
-    (subst (λ (ls : List Shown). IsFrame VV5404 b (linesOf ls)) (sym lines) f) (subst (Every WholeBody) (sym (shown-collected (t .until))) (t .whole)) room
-    ∙ ap (λ (ls : List Shown). complete (size (pictureOf b)) (rowsOf o ls)) lines
-    ∙ ap (complete (size (pictureOf b))) (rows-sent o (s ∷ ss))
+    says-until k held (w ++ later)
+    ∙ ap (λ (v : List Given). untilSaid (start k held) v .output) same
+    ∙ frame-first k held (map givenOf (B ++ M)) gs last (shownLine (t .last)) b (map givenOf (t .rest) ++ L) still (t .last-shown)
+    (subst (λ (ls : List Shown). IsFrame VV5404 b (linesOf ls)) (sym lines) f) (subst (λ (ls : List Shown). Every WholeBody (ls ++ (shownLine (t .last) ∷ []))) (sym (shown-collected (t .until))) (t .whole)) room
+    ∙ ap (λ (ls : List Shown). complete (frameSize k b) (rowsOf k ls)) lines
+    ∙ ap (complete (frameSize k b)) (rows-sent k (s ∷ ss))
 
-sent-said : (o : Order) (b : Borders) {ss : List Sent} → AllWritable VV5404 ss → IsFrame VV5404 b (linesOf (map shownLine ss))
-    → (held : List ℕ) → size (pictureOf b) ≤ length held → {before : List ℕ} → Small before → grabOf (freshGrabber o) before held .output ≡ rows.nothing
-    → (later : List ℕ) → grabOf (freshGrabber o) ((before ++ stream ss) ++ later) held .output ≡ complete (size (pictureOf b)) (sentRows o ss)
-sent-said o b no-lines f held room small none later = absurd (let z = f .0 in omega arith)
-sent-said o b (and-line {s = s} g h) f held room small none later = frame-said o b s g h f held room small none later
+sent-said : (k : Keeping) (b : Borders) {ss : List Sent} → AllWritable VV5404 ss → IsFrame VV5404 b (linesOf (map shownLine ss))
+    → (held : List ℕ) → frameSize k b ≤ length held → {before : List ℕ} → Small before → grabOf (freshGrabber k) before held .output ≡ rows.nothing
+    → (later : List ℕ) → grabOf (freshGrabber k) ((before ++ stream ss) ++ later) held .output ≡ complete (frameSize k b) (sentRows k ss)
+sent-said k b no-lines f held room small none later = absurd (let z = f .0 in omega arith)
+sent-said k b (and-line {s = s} g h) f held room small none later = frame-said k b s g h f held room small none later
 
 -- Its file.
 
@@ -308,50 +314,58 @@ sent-laid (and-line {s = s} g h) = (kind-laid (s .kind) (s .number) (s .body) (g
 
 sent-whole : {ss : List Sent} → AllWritable VV5404 ss → Every WholeBody (map shownLine ss)
 sent-whole no-lines = tt
-sent-whole (and-line {s = s} g h) = (λ v. body-length s g, sent-whole h)
+sent-whole (and-line {s = s} g h) = (body-length s g, sent-whole h)
 
 -- the rows are those of a whole frame
-sent-completes : (o : Order) (b : Borders) {ss : List Sent} → FrameSent b ss → CompletesRows o (map shownLine ss) (size (pictureOf b)) (sentRows o ss)
-sent-completes o b {ss} f =
-    let n : length (sentRows o ss) ≡ size (pictureOf b) =
-    sym (ap length (rows-sent o ss)) ∙ frame-size o b (map shownLine ss) (f .whole) (sent-whole (f .writable)) in
+sent-completes : (k : Keeping) (b : Borders) {ss : List Sent} → FrameSent b ss → CompletesRows k (map shownLine ss) (frameSize k b) (sentRows k ss)
+sent-completes k b {ss} f =
+    let w : Every WholeBody (map shownLine ss) = sent-whole (f .writable) in
+    let n : length (sentRows k ss) ≡ frameSize k b = sym (ap length (rows-sent k ss)) ∙ frame-size k b (map shownLine ss) (f .whole) w in
     record {
       borders = b;
       earlier = [];
       frame = map shownLine ss;
       ends = refl;
       whole = f .whole;
-      shows = sym (rows-sent o ss);
+      bodies = w;
+      shows = sym (rows-sent k ss);
       sized = n;
       used = sym n;
     }
 
 -- whatever nibbles come before a frame as the writer writes it, if a fresh grabber says nothing of them; whatever comes after it; and in whatever
--- pieces the capture is taken: a fresh grabber whose buffer has room for the picture says complete, with exactly the pixels of the frame's visible
--- lines in the order sent, and their file is written
-pub frame-pictured : (o : Order) (b : Borders) {ss : List Sent} → FrameSent b ss → (held : List ℕ) → size (pictureOf b) ≤ length held
-    → {before : List ℕ} → Small before → grabOf (freshGrabber o) before held .output ≡ rows.nothing
+-- pieces the capture is taken: a fresh grabber whose buffer has room for the frame's rows says complete, with exactly those rows
+pub frame-written : (k : Keeping) (b : Borders) {ss : List Sent} → FrameSent b ss → (held : List ℕ) → frameSize k b ≤ length held
+    → {before : List ℕ} → Small before → grabOf (freshGrabber k) before held .output ≡ rows.nothing
     → (later : List ℕ) (pieces : List (List ℕ)) → joined pieces ≡ (before ++ stream ss) ++ later
-    → FramePictured o b ss (grabPieces (freshGrabber o) held pieces .output)
-unfolding sent-completes
-frame-pictured o b {ss} f held room {before} small none later pieces e =
-    record {
-      says =
-          ap (λ (a : After). a .output) (pieces-whole pieces (freshGrabber o) held (fresh-ok VV5404) ∙ ap (λ (w : List ℕ). grabOf (freshGrabber o) w held) e)
-          ∙ sent-said o b (f .writable) (f .whole) held room small none later;
-      written = λ n. rows-written o (map shownLine ss) (size (pictureOf b)) (sentRows o ss) (sent-completes o b f) n (sent-laid (f .writable));
-    }
+    → FrameSaid k b ss (grabPieces (freshGrabber k) held pieces .output)
+frame-written k b f held room small none later pieces e =
+    ap (λ (a : After). a .output) (pieces-whole pieces (freshGrabber k) held (fresh-ok VV5404) ∙ ap (λ (w : List ℕ). grabOf (freshGrabber k) w held) e)
+    ∙ sent-said k b (f .writable) (f .whole) held room small none later
 
-nothing-said : (o : Order) (held : List ℕ) {before : List ℕ} → Small before → opensNone (lines VV5404 fresh before) ≡ true
-    → grabOf (freshGrabber o) before held .output ≡ rows.nothing
-nothing-said o held {before} small e =
-    says-until o held before
-    ∙ ap (λ (gs : List Given). untilSaid (start o held) gs .output) (given-outcomes small (freshReader VV5404) fresh (fresh-follows VV5404))
-    ∙ unopened-waits before fresh (start o held) e (refl, refl) .0
+nothing-said : (k : Keeping) (held : List ℕ) {before : List ℕ} → Small before → opensNone (lines VV5404 fresh before) ≡ true
+    → grabOf (freshGrabber k) before held .output ≡ rows.nothing
+nothing-said k held {before} small e =
+    says-until k held before
+    ∙ ap (λ (gs : List Given). untilSaid (start k held) gs .output) (given-outcomes small (freshReader VV5404) fresh (fresh-follows VV5404))
+    ∙ unopened-waits before fresh (start k held) e (refl, refl) .0
 
--- the law: so the first frame of a capture is pictured, at whatever nibble the capture starts: where no line that comes out before it opens a frame
+-- so the first frame of a capture is found, at whatever nibble the capture starts: where no line that comes out before it opens a frame
+pub first-frame-found : (k : Keeping) (b : Borders) {ss : List Sent} → FrameSent b ss → (held : List ℕ) → frameSize k b ≤ length held
+    → {before : List ℕ} → Small before → opensNone (lines VV5404 fresh before) ≡ true
+    → (later : List ℕ) (pieces : List (List ℕ)) → joined pieces ≡ (before ++ stream ss) ++ later
+    → FrameSaid k b ss (grabPieces (freshGrabber k) held pieces .output)
+first-frame-found k b f held room small e = frame-written k b f held room small (nothing-said k held small e)
+
+-- the law: and as a picture it holds exactly the pixels of the frame's visible lines in the order sent, and its file is written
 pub first-frame-pictured : (o : Order) (b : Borders) {ss : List Sent} → FrameSent b ss → (held : List ℕ) → size (pictureOf b) ≤ length held
     → {before : List ℕ} → Small before → opensNone (lines VV5404 fresh before) ≡ true
     → (later : List ℕ) (pieces : List (List ℕ)) → joined pieces ≡ (before ++ stream ss) ++ later
-    → FramePictured o b ss (grabPieces (freshGrabber o) held pieces .output)
-first-frame-pictured o b f held room small e = frame-pictured o b f held room small (nothing-said o held small e)
+    → FramePictured o b ss (grabPieces (freshGrabber (VisiblePixels o)) held pieces .output)
+unfolding sent-completes
+first-frame-pictured o b {ss} f held room small e later pieces j =
+    let k : Keeping = VisiblePixels o in
+    record {
+      says = first-frame-found k b f held room small e later pieces j;
+      written = λ n. rows-written o (map shownLine ss) (size (pictureOf b)) (sentRows k ss) (sent-completes k b f) n (sent-laid (f .writable));
+    }

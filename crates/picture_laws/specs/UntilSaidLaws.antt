@@ -1,28 +1,26 @@
 -- Calls of the gatherer that go on while nothing is said: what is sought in nibbles is what they say, and they show a whole frame.
 use mathlib.Core.Path.{_≡_, refl, sym, ap, _∙_}
-use mathlib.Core.Bool.{Bool, true, false, cond, true≢false, _&&_}
+use mathlib.Core.Bool.{Bool, true, false, cond, true≢false}
 use mathlib.Core.List.{List, [], _∷_, _++_}
 use Prim.Native.Nat.{ℕ, _+_}
-use lib.Dec.{eqb, leb}
-use lib.ListN.{length, take, drop}
-use borrow.Author.Tests.{eqb-true, leb-true}
-use Rattle.bits.specs.Every.{and-left, and-right}
+use lib.ListN.{length}
 use Rattle.refusal.specs.Refusal.{noRoom}
 use Rattle.profile.specs.declared.Profile.the-variants.{VV5404}
-use Rattle.profile.specs.Profile.{longest, width}
+use Rattle.profile.specs.Profile.{longest}
 use Rattle.stream.specs.Answers.{Outcome, answerFor, bufferAfter}
 use Rattle.reader.specs.declared.Reader.{Reader}
 use Rattle.reader.specs.Reader.{Took, feedOf}
 use Rattle.frame.specs.declared.Judge.{Judge}
+use Rattle.frame.specs.declared.Judge.the-variants.{Waiting, Due}
 use Rattle.frame.specs.declared.Ruling.{Ruling}
 use Rattle.frame.specs.declared.Ruling.the-variants as ruling
 use Rattle.frame.specs.Calls.{called}
 use Rattle.frame.specs.Frame.{breaksFrame}
 use Rattle.frame.specs.Handing.{handedLines}
 use Rattle.frame_rows.specs.declared.Gatherer.{Gatherer}
-use Rattle.frame_rows.specs.FrameRows.{Shown, Output, nothing, complete, AfterCall, isVisible, pixelsOf, moved, quiet, refuses, keepRow, onward, completed, refusedBy, byRuling, handed}
+use Rattle.frame_rows.specs.FrameRows.{Shown, Output, nothing, AfterCall, rowSize, moved, quiet, refuses, placeDue, rowFits, withRow, onward, completing, completed, afterBreak, refusedBy, byRuling, handed}
 use Rattle.frame_rows.specs.Gathering.{Given, call, calls, shown}
-use Rattle.frame_rows.specs.FrameRowsLaws.{pixels-length, put-length, Hands, none, one, hands}
+use Rattle.frame_rows.specs.FrameRowsLaws.{with-row-length, Hands, none, one, hands}
 use Rattle.frame_rows.specs.WholeFrameLaws.{KeepsCalling}
 use Rattle.frame_grabber.specs.FrameGrabber.{blank, given, isSaid, sought, seek}
 use Rattle.frame_grabber.specs.Pieces.{givens, fedAll}
@@ -95,31 +93,31 @@ either-long : (b : Bool) (x y : AfterCall) (n : ℕ) → (b ≡ true → length 
 either-long true x y n h g = h refl
 either-long false x y n h g = g
 
+row-long : (s : Gatherer) (j : Judge) (kept place kind : ℕ) (body held : List ℕ) → length (onward s j kept place kind body held .buffer) ≡ length held
+unfolding onward
+row-long s j kept place kind body held =
+    either-long (rowFits (s .keeping) kept kind body held) (quiet (moved s j (kept + rowSize (s .keeping) kind)) (withRow (s .keeping) kept place kind body held)) (refuses s noRoom held)
+    (length held) (with-row-length (s .keeping) kept place kind body held) refl
+
 handed-long : (s : Gatherer) (l : Shown) (held : List ℕ) → length (handed s l held .buffer) ≡ length held
-unfolding handed onward keepRow completed refusedBy
+unfolding handed completed refusedBy afterBreak
 handed-long s l held = by (called VV5404 (s .judge) (l .given) .ruling)
   where
     j : Judge
     j = called VV5404 (s .judge) (l .given) .judge
 
-    row : List ℕ
-    row = pixelsOf (s .order) (l .body)
-
-    fitting : (eqb (length (l .body)) width && leb (s .kept + width) (length held)) ≡ true
-        → length (take (s .kept) held ++ (row ++ drop (s .kept + width) held)) ≡ length held
-    fitting e =
-        put-length (s .kept) width held row (pixels-length (s .order) (l .body) (eqb-true _ _ (and-left _ _ e)))
-        (leb-true _ _ (and-right (eqb (length (l .body)) width) _ e))
+    broken : (i : Judge) → length (afterBreak s i (l .given .kind) (l .body) held .buffer) ≡ length held
+    broken Waiting = refl
+    broken (Due place b) = row-long s (Due place b) 0 0 (l .given .kind) (l .body) held
 
     by : (v : Ruling) → length (byRuling s l held j v .buffer) ≡ length held
     by ruling.Waiting = refl
-    by ruling.Going =
-        either-long (isVisible (l .given .kind)) (keepRow s j (l .body) held) (quiet (moved s j (s .kept)) held) (length held)
-        (λ _. either-long (eqb (length (l .body)) width && leb (s .kept + width) (length held)) _ (refuses s noRoom held) (length held) fitting refl) refl
+    by ruling.Going = row-long s j (s .kept) (placeDue (s .judge)) (l .given .kind) (l .body) held
     by ruling.Complete =
-        either-long (leb (s .kept) (length held)) (record { gatherer = moved s j 0; output = complete (s .kept) (take (s .kept) held); buffer = held }) (refuses s noRoom held) (length held)
-        (λ _. refl) refl
-    by (ruling.Refused n) = either-long (breaksFrame n) (quiet (moved s j 0) held) (refuses s n held) (length held) (λ _. refl) refl
+        either-long (rowFits (s .keeping) (s .kept) (l .given .kind) (l .body) held)
+        (completing s j (s .kept + rowSize (s .keeping) (l .given .kind)) (withRow (s .keeping) (s .kept) (placeDue (s .judge)) (l .given .kind) (l .body) held)) (refuses s noRoom held)
+        (length held) (with-row-length (s .keeping) (s .kept) (placeDue (s .judge)) (l .given .kind) (l .body) held) refl
+    by (ruling.Refused n) = either-long (breaksFrame n) (afterBreak s j (l .given .kind) (l .body) held) (refuses s n held) (length held) (λ _. broken j) refl
 
 call-long : (x : AfterCall) (g : Given) → length (call x g .buffer) ≡ length (x .buffer)
 call-long x g = by (shown (handedLines (g .answer)) (g .held)) (call x g) (hands x g)

@@ -24,7 +24,7 @@ unfolding changeRow
 returns-3 c =
     let sort = c .before .before .before .before .before .before .before .before .before .before .before .before .before .before .change3 .given .1 in
     let line = c .before .before .before .before .before .before .before .before .before .before .before .put-line3 .ensures in
-    simp (sort) (then line (then (c .before .before .before .before .before .before .put3 .ensures) (c .before .before .put-pair .ensures)))
+    simp (sort) (then line (then (c .before .before .before .before .before .before .put3 .ensures) (c .before .before .put-kinds .ensures)))
 
 returns-4 : tie.Need-returns-4
 unfolding changeRow
@@ -32,7 +32,7 @@ returns-4 c =
     let sort = c .before .before .before .before .before .before .before .before .before .before .before .before .before .before .before .before .before .before .change4 .given .1 in
     let line = c .before .before .before .before .before .before .before .before .before .before .before .before .before .before .before .put-line4 .ensures in
     let pixel = c .before .before .before .before .before .before .before .before .before .before .put4 .ensures in
-    simp (sort) (then line (then pixel (then (c .before .before .before .before .before .before .put-decimal .ensures) (c .before .before .put-pair2 .ensures))))
+    simp (sort) (then line (then pixel (then (c .before .before .before .before .before .before .put-decimal .ensures) (c .before .before .put-pair .ensures))))
 
 pub put-row-spec : {M : Type 1} → statement M
 put-row-spec =

@@ -6,14 +6,14 @@ use lib.ListN.{length}
 use Rattle.line_list.specs.Lines.{fullLines}
 use Rattle.difference.specs.Difference.{differences}
 use Rattle.difference.specs.NextLaws.{in-first, in-second}
-use Rattle.diff_summary.specs.Summary.{countedAll, summaryOf}
+use Rattle.diff_summary.specs.Summary.{withDifferences, summaryOf}
 use Rattle.diff_summary.specs.SummaryLaws.{differencesFrom, walk-counted, walk-end}
 use borrow.Author.Needs.{needs}
 use Rattle.diff_summary.proofs.summed.Statement.{statement}
 use Rattle.diff_summary.proofs.summed.Tie as tie
 
 abbrev Inv-loop : tie.InvT-loop
-Inv-loop first second s₀ i₀ j₀ s i j = (i ≤ length first) × (j ≤ length second) × (countedAll s (differencesFrom first second i j) ≡ summaryOf (differences (fullLines first) (fullLines second)))
+Inv-loop first second s₀ i₀ j₀ s i j = (i ≤ length first) × (j ≤ length second) × (withDifferences s (differencesFrom first second i j) ≡ summaryOf (differences (fullLines first) (fullLines second)))
 
 abbrev μ-loop : tie.MeasureT-loop
 μ-loop first second s₀ i₀ j₀ s i j = (length first - i) + (length second - j)
@@ -39,7 +39,7 @@ returns c =
     let p = c .before .before .before .before .next-number .ensures in
     let q = c .before .before .before .next-number2 .ensures in
     let none = walk-end (a .first .now) (a .second .now) (l .i) (l .j) _ _ p q (omega (arith, c .before .before .how-far .ensures, c .before .how-far2 .ensures, c .if1 .taken)) in
-    sym (ap (countedAll (l .s)) none) ∙ l .inv .2
+    sym (ap (withDifferences (l .s)) none) ∙ l .inv .2
 
 add-i : tie.Need-add-i Inv-loop μ-loop
 add-i c =

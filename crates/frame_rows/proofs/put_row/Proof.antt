@@ -1,46 +1,62 @@
--- A whole row is copied, or put in order, at the front of what follows the place; before that and behind the row nothing changes.
-use borrow.Author.Tests.{eq-eqb}
+-- By what is kept: a visible line's pixels, nothing of any other; or the line whole.
+use mathlib.Core.Path.{_≡_, sym, _∙_}
+use native.Mathlib.Omega.{arith}
+use borrow.Author.Tests.{eq-eqb, ne-eqb}
 use borrow.Author.Needs.{needs}
 use Rattle.line_code.specs.declared.Kind.the-variants.{VL}
 use Rattle.line_code.specs.LineCode.{kindNumber}
 use Rattle.profile.specs.Profile.{width}
-use Rattle.pixel_order.specs.declared.Way.the-variants.{ToPixels}
-use Rattle.pixel_order.specs.PixelOrder.{reordered}
-use Rattle.pixel_order.specs.PixelOrderLaws.{in-order}
-use Rattle.frame_rows.proofs.Answering.{put-copied, put-used}
+use Rattle.line_list.specs.Lines.{lineSize}
+use Rattle.frame_rows.specs.FrameRows.{rowSize}
+use Rattle.frame_rows.proofs.Answering.{with-pixels, with-nothing, with-line}
 use Rattle.frame_rows.proofs.put_row.Statement.{statement}
 use Rattle.frame_rows.proofs.put_row.Tie as tie
 
+put-pixels-requires : tie.Need-put-pixels-requires
+put-pixels-requires c κs =
+    let test = c .before in
+    let kept = test .before .before .before in
+    let start = kept .before .before .before .before in
+    let size : rowSize (start .args .keeping) (start .args .kind) ≡ width = simp (kept .keeping .given .1, eq-eqb _ (kindNumber VL) (test .if1 .taken ∙ test .before .number .ensures)) in
+    (start .pre .0, omega (arith, start .pre .1, size))
+
+put-line-requires : tie.Need-put-line-requires
+put-line-requires c κs =
+    let start = c .before .before .before .before .before in
+    let size : rowSize (start .args .keeping) (start .args .kind) ≡ lineSize = simp (c .before .enum-told .given .1) in
+    (start .pre .0, omega (arith, start .pre .1, size))
+
 returns : tie.Need-returns
 returns c =
-    let pre = c .before .before .before .before .before .before .before .before .pre in
-    let a = c .before .before .before .before .before .before .before .before .args in
-    simp (c .before .before .before .before .enum-told .given .1) (put-copied (a .rows .now) _ (a .at) (a .body .now) width (pre .0) (c .before .before .copy .ensures .1))
+    let test = c .before .before .before .before in
+    let kept = test .before .before .before in
+    let a = kept .before .before .before .before .args in
+    c .before .before .put-pixels .ensures
+    ∙ sym (with-pixels (kept .keeping .given .1) (a .at) (a .place) (a .kind) (a .body .now) (a .rows .now) (eq-eqb (a .kind) (kindNumber VL) (test .if1 .taken ∙ test .before .number .ensures)))
 
 returns-2 : tie.Need-returns-2
 returns-2 c =
-    let pre = c .before .before .before .before .before .before .before .before .before .pre in
-    let a = c .before .before .before .before .before .before .before .before .before .args in
-    simp (c .before .before .before .before .before .enum-told2 .given .1)
-    (put-used (a .rows .now) _ (a .at) _ (reordered ToPixels (a .body .now)) width
-    (in-order ToPixels _ _ (a .body .now) (eq-eqb _ (kindNumber VL) (c .before .before .before .before .number .ensures)) (pre .0) (search needs)) (c .before .before .to-pixels .ensures .leaves))
+    let kept = c .before .before .before in
+    let a = kept .before .before .before .before .args in
+    sym (with-nothing (kept .keeping .given .1) (a .at) (a .place) (a .kind) (a .body .now) (a .rows .now) (ne-eqb (a .kind) (kindNumber VL) (λ e. c .if1 .left (e ∙ sym (c .before .number .ensures)))))
+
+returns-3 : tie.Need-returns-3
+returns-3 c =
+    let told = c .before .before .before .before in
+    let a = told .before .before .before .before .args in
+    c .before .before .put-line .ensures ∙ sym (with-line (told .enum-told .given .1) (a .at) (a .place) (a .kind) (a .body .now) (a .rows .now))
 
 pub put-row-spec : {M : Type 1} → statement M
 put-row-spec =
     tie.close
     (tie.spec
     (λ c. search needs)
-    (λ c. search needs)
-    (λ c. search needs)
-    (λ c. search needs)
     (λ c κs. search needs)
+    put-pixels-requires
     (λ c. search needs)
-    (λ c κs. search needs)
-    (λ c. search needs)
-    (λ c. search needs)
-    (λ c. search needs)
-    (λ c κs. search needs)
+    put-line-requires
     (λ c. search needs)
     returns
+    returns-2
     (λ c. search needs)
-    returns-2)
+    returns-3)

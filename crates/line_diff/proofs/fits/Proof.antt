@@ -6,19 +6,19 @@ use borrow.Author.Tests.{lt-leb, le-leb}
 use lib.ListN.{length}
 use Rattle.line_list.specs.Lines.{fullLines}
 use Rattle.difference.specs.Difference.{differences, encodedAll}
-use Rattle.difference.specs.NextLaws.{leftOf, left-length, left-end, in-first, in-second}
+use Rattle.difference.specs.NextLaws.{leftBytes, left-length, left-end, in-first, in-second}
 use borrow.Author.Needs.{needs}
 use Rattle.line_diff.proofs.fits.Statement.{statement}
 use Rattle.line_diff.proofs.fits.Tie as tie
 
 abbrev Inv-loop : tie.InvT-loop
-Inv-loop first second room left₀ i₀ j₀ left i j = (i ≤ length first) × (j ≤ length second) × (length (encodedAll (differences (fullLines first) (fullLines second))) + left ≡ room + length (leftOf first second i j))
+Inv-loop first second room left₀ i₀ j₀ left i j = (i ≤ length first) × (j ≤ length second) × (length (encodedAll (differences (fullLines first) (fullLines second))) + left ≡ room + length (leftBytes first second i j))
 
 abbrev μ-loop : tie.MeasureT-loop
 μ-loop first second room left₀ i₀ j₀ left i j = (length first - i) + (length second - j)
 
 loop-holds : tie.Need-loop-holds Inv-loop μ-loop
-unfolding leftOf
+unfolding leftBytes
 loop-holds c = (search needs, search needs, omega arith)
 
 add-if1 : tie.Need-add-if1 Inv-loop μ-loop

@@ -4,20 +4,20 @@ use native.Mathlib.Omega.{arith}
 use lib.ListN.{length}
 use Rattle.line_list.specs.Lines.{fullLines}
 use Rattle.difference.specs.Difference.{differences, encodedAll}
-use Rattle.difference.specs.NextLaws.{leftOf, left-step, left-end, in-first, in-second}
+use Rattle.difference.specs.NextLaws.{leftBytes, left-step, left-end, in-first, in-second}
 use Rattle.difference.specs.RestLaws.{Rest, rest-all, rest-put, rest-none}
 use borrow.Author.Needs.{needs}
 use Rattle.line_diff.proofs.put_all.Statement.{statement}
 use Rattle.line_diff.proofs.put_all.Tie as tie
 
 abbrev Inv-loop : tie.InvT-loop
-Inv-loop first second buffer₀ at₀ i₀ j₀ buffer at i j = (i ≤ length first) × (j ≤ length second) × Rest buffer₀ 0 (encodedAll (differences (fullLines first) (fullLines second))) (leftOf first second i j) at buffer
+Inv-loop first second buffer₀ at₀ i₀ j₀ buffer at i j = (i ≤ length first) × (j ≤ length second) × Rest buffer₀ 0 (encodedAll (differences (fullLines first) (fullLines second))) (leftBytes first second i j) at buffer
 
 abbrev μ-loop : tie.MeasureT-loop
 μ-loop first second buffer₀ at₀ i₀ j₀ buffer at i j = (length first - i) + (length second - j)
 
 loop-holds : tie.Need-loop-holds Inv-loop μ-loop
-unfolding leftOf
+unfolding leftBytes
 loop-holds c = (search needs, search needs, rest-all _ _ _)
 
 add-if1 : tie.Need-add-if1 Inv-loop μ-loop

@@ -4,7 +4,7 @@ use Rattle.diff_summary.proofs.Summary.pixel.Statement.{statement}
 use Rattle.diff_summary.proofs.Summary.pixel.Tie as tie
 
 returns : tie.Need-returns
-returns c = simp (c .before .before .before .one-more .ensures, c .before .before .lines-with .ensures, c .before .least-with .ensures, c .greater .ensures)
+returns c = simp (c .before .before .before .one-more .ensures, c .before .before .lines-with .ensures, c .before .least-with .ensures, c .greater-of .ensures)
 
 pub pixel-spec : {M : Type 1} → statement M
 pixel-spec =

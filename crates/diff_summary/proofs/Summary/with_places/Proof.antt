@@ -4,14 +4,14 @@ use mathlib.Core.List.{List}
 use Prim.Native.Nat.{ℕ, _≤_, _-_}
 use lib.ListN.{length, drop, drop-of-length-le}
 use Rattle.difference.specs.Difference.{placesFrom}
-use Rattle.diff_summary.specs.Summary.{countedAll}
+use Rattle.diff_summary.specs.Summary.{withDifferences}
 use Rattle.diff_summary.specs.SummaryLaws.{places-counted}
 use borrow.Author.Needs.{needs}
 use Rattle.diff_summary.proofs.Summary.with_places.Statement.{statement}
 use Rattle.diff_summary.proofs.Summary.with_places.Tie as tie
 
 abbrev Inv-loop : tie.InvT-loop
-Inv-loop n a b s₀ p₀ s p = (p ≤ length a) × (countedAll s (placesFrom n p (drop p a) (drop p b)) ≡ countedAll s₀ (placesFrom n 0 a b))
+Inv-loop n a b s₀ p₀ s p = (p ≤ length a) × (withDifferences s (placesFrom n p (drop p a) (drop p b)) ≡ withDifferences s₀ (placesFrom n 0 a b))
 
 abbrev μ-loop : tie.MeasureT-loop
 μ-loop n a b s₀ p₀ s p = length a - p
@@ -30,7 +30,7 @@ returns : tie.Need-returns Inv-loop μ-loop
 returns c =
     let a = c .before .before .before .before .args in
     let l = c .before .loop in
-    sym (ap (λ (xs : List ℕ). countedAll (l .s) (placesFrom (a .n) (l .p) xs (drop (l .p) (a .b .now)))) (drop-of-length-le (a .a .now) (c .loop-test .left))) ∙ l .inv .1
+    sym (ap (λ (xs : List ℕ). withDifferences (l .s) (placesFrom (a .n) (l .p) xs (drop (l .p) (a .b .now)))) (drop-of-length-le (a .a .now) (c .loop-test .left))) ∙ l .inv .1
 
 pub with-places-spec : {M : Type 1} → statement M
 with-places-spec =

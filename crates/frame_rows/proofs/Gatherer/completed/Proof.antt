@@ -1,6 +1,5 @@
--- 12 where the rows kept are longer than the buffer; else they are its front, and none are kept for the next frame.
+-- What `keep` says of the last row decides: with it the rows are the frame's, and none are kept for the next; or 12, and nothing changes.
 use mathlib.Core.Path.{ap}
-use borrow.Author.Tests.{lt-leb, le-leb}
 use borrow.Author.Needs.{needs}
 use Rattle.frame_rows.specs.declared.Gatherer.{Gatherer}
 use Rattle.frame_rows.specs.declared.Progress.the-variants as progress
@@ -11,11 +10,26 @@ use Rattle.frame_rows.proofs.Gatherer.completed.Tie as tie
 
 returns : tie.Need-returns
 unfolding completed
-returns c = gives _ _ _ _ _ (c .refused .ensures) (simp (lt-leb _ _ (c .before .if1 .taken)))
+returns c =
+    let keep = c .before .before .before .before .keep in
+    let taken = c .before .if1 .taken in
+    gives _ _ (progress.Complete (keep .result .end)) _ _ (ap (λ (s : Gatherer). saying s (progress.Complete (keep .result .end))) (c .moved .ensures))
+    (simp (← keep .ensures .fitting, keep .ensures .leaves, keep .ensures .ending taken, taken))
 
 returns-2 : tie.Need-returns-2
 unfolding completed
-returns-2 c = gives _ _ (progress.Complete (c .before .before .before .before .args .self .kept)) _ _ (ap (λ (s : Gatherer). saying s (progress.Complete (c .before .before .before .before .args .self .kept))) (c .moved .ensures)) (simp (le-leb _ _ (c .before .if1 .left)))
+returns-2 c =
+    let row = c .before .before .before .before .keep .ensures in
+    gives _ _ _ _ _ (c .refused .ensures) (simp (← row .fitting, row .leaves, c .before .if1 .left))
 
 pub completed-spec : {M : Type 1} → statement M
-completed-spec = tie.close (tie.spec (λ c κs. search needs) returns (λ c κs. search needs) returns-2)
+completed-spec =
+    tie.close
+    (tie.spec
+    (λ c κs. search needs)
+    (λ c κs. search needs)
+    (λ c. search needs)
+    returns
+    (λ c κs. search needs)
+    (λ c. search needs)
+    returns-2)

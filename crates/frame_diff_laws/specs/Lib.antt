@@ -1,0 +1,2 @@
+pub mod FrameList
+pub mod FrameListLaws
