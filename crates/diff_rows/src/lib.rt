@@ -4,8 +4,6 @@
 // crate diff_summary puts them; where they end; and how far each list is passed. Where neither is, no number is left. So a caller that writes
 // the rows and goes on from there writes one row for each difference of the lists, in their order. Nothing is refused: a buffer of ROOM has
 // room for every number's rows; in a shorter one they are cut. Cost: linear in the line.
-ghost use mathlib.Core.Path.{_≡_};
-ghost use lib.ListN.{length};
 ghost use Rattle.text.specs.Put.{Puts};
 ghost use Rattle.difference.specs.ReadBack.{differencesIn};
 ghost use Rattle.diff_rows.specs.Rows.{rowsText, RowsPut};

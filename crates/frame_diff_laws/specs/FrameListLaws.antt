@@ -1,9 +1,9 @@
 -- Laws of the list of a complete frame: its bytes are those of its 304 lines, whose numbers rise, whose kinds are lines' and whose bodies are whole;
 -- so a comparison of two frames is never refused 35, 14, 13 or 15.
-use mathlib.Core.Path.{_≡_, refl, sym, ap, _∙_}
+use mathlib.Core.Path.{_≡_, refl, ap, _∙_}
 use mathlib.Core.Bool.{Bool, true, _&&_}
 use mathlib.Core.List.{List, [], _∷_, _++_}
-use Prim.Native.Nat.{ℕ, suc, _+_, _*_, _%_, _≤_}
+use Prim.Native.Nat.{ℕ, suc, _+_, _%_, _≤_}
 use native.Mathlib.Omega.{arith}
 use borrow.Author.Tests.{le-leb, eq-eqb}
 use lib.Dec.{leb}
@@ -16,10 +16,10 @@ use Rattle.line_number.specs.LineNumber.{greatest}
 use Rattle.profile.specs.declared.Profile.the-variants.{VV5404}
 use Rattle.lent_buffer.specs.Filled.{Output, fitted, require}
 use Rattle.frame.specs.declared.Borders.{Borders}
-use Rattle.frame.specs.Frame.{lastPlace, kindAt}
-use Rattle.frame.specs.Calls.{fits, laidFrom, IsFrame}
+use Rattle.frame.specs.Frame.{kindAt}
+use Rattle.frame.specs.Calls.{fits, laidFrom}
 use Rattle.line_list.specs.Lines.{FullLine, lineSize, fullLines, noneCut, asLent, risesFrom, rises, numbersSmall, kindsKnown}
-use Rattle.line_list.specs.LinesLaws.{FullBodies, unsized, sized, lent-length, lines-lent}
+use Rattle.line_list.specs.LinesLaws.{FullBodies, unsized, sized, lines-lent}
 use Rattle.difference.specs.Difference.{differences, encodedAll}
 use Rattle.line_diff.specs.Compare.{compareOf}
 use Rattle.frame_rows.specs.declared.Keeping.the-variants.{WholeLines}

@@ -7,7 +7,7 @@ use mathlib.Core.List.{List, [], _∷_, _++_, append-nil, append-assoc}
 use Prim.Native.Nat.{ℕ, suc, _+_, _*_, _≤_, _<_}
 use native.Mathlib.Omega.{arith}
 use borrow.Author.Tests.{eqb-true, leb-true}
-use lib.Dec.{eqb, leb}
+use lib.Dec.{eqb}
 use lib.ListN.{length, take, drop, length-append, length-drop, drop-of-length-le}
 use lib.Seq.{length-take-le, take-at, drop-cons}
 use Rattle.refusal.specs.Refusal.{noRoom, badKind, numberTooLarge, notTheLineDue}
@@ -50,7 +50,7 @@ lines-append : (a b : List Shown) → linesOf (a ++ b) ≡ linesOf a ++ linesOf 
 lines-append [] b = refl
 lines-append (l ∷ a) b = ap (λ (x : List Line). l .given ∷ x) (lines-append a b)
 
-pub rows-append : (k : Keeping) (place : ℕ) (a b : List Shown) → rowsFrom k place (a ++ b) ≡ rowsFrom k place a ++ rowsFrom k (place + length a) b
+rows-append : (k : Keeping) (place : ℕ) (a b : List Shown) → rowsFrom k place (a ++ b) ≡ rowsFrom k place a ++ rowsFrom k (place + length a) b
 rows-append k place [] b =
     let e : place ≡ place + 0 = omega arith in
     ap (λ (n : ℕ). rowsFrom k n b) e
@@ -142,11 +142,11 @@ last-blank Off k h = eqb-true k _ h
 
 -- How many rows there are.
 
-pub every-snoc : (P : Shown → Type 0) (ls : List Shown) (l : Shown) → Every P ls → P l → Every P (ls ++ (l ∷ []))
+every-snoc : (P : Shown → Type 0) (ls : List Shown) (l : Shown) → Every P ls → P l → Every P (ls ++ (l ∷ []))
 every-snoc P [] l h p = (p, tt)
 every-snoc P (a ∷ ls) l h p = (h .0, every-snoc P ls l (h .1) p)
 
-pub pixels-length : (o : Order) (body : List ℕ) → length body ≡ width → length (pixelsOf o body) ≡ width
+pixels-length : (o : Order) (body : List ℕ) → length body ≡ width → length (pixelsOf o body) ≡ width
 pixels-length AsSent body h = h
 pixels-length OddFirst body h = reordered-length ToPixels body
 

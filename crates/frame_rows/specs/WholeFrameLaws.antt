@@ -5,8 +5,8 @@ use mathlib.Core.List.{List, [], _∷_, _++_, append-nil, append-assoc, head-eq-
 use Prim.Native.Nat.{ℕ, zero, suc, _+_, _-_, _≤_}
 use native.Mathlib.Omega.{arith}
 use borrow.Author.Tests.{eq-eqb, le-leb}
-use lib.ListN.{length, take, drop, length-append}
-use Rattle.bits.specs.Every.{and-left, and-right}
+use lib.ListN.{length, take, length-append}
+use Rattle.bits.specs.Every.{and-left}
 use Rattle.line_code.specs.declared.Kind.the-variants.{SOF}
 use Rattle.line_code.specs.LineCode.{kindNumber}
 use Rattle.profile.specs.declared.Profile.the-variants.{VV5404}

@@ -15,7 +15,7 @@ ghost use lib.Dec.{leb};
 ghost use lib.ListN.{length, take, drop};
 ghost use Rattle.profile.specs.Profile.{width};
 ghost use Rattle.line_list.specs.Lines.{lineSize, inTwo};
-ghost use Rattle.frame_rows.specs.FrameRows.{pixelsOf, rowSize, fresh, moved, saying, placeDue, rowFits, withRow, Keeps, shownAs, onward, completed, afterBreak, handed, takeOf, Gathers};
+ghost use Rattle.frame_rows.specs.FrameRows.{pixelsOf, rowSize, fresh, moved, saying, placeDue, withRow, Keeps, shownAs, onward, completed, afterBreak, handed, takeOf, Gathers};
 use frame::Handed;
 use frame::Judge;
 use frame::Ruling;

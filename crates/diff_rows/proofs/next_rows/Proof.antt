@@ -1,12 +1,11 @@
 -- The next number's differences have room in the bytes, which tell them, so their rows are put.
-use mathlib.Core.Path.{_≡_, sym, ap, _∙_}
+use mathlib.Core.Path.{sym, ap, _∙_}
 use mathlib.Core.List.{List}
 use Prim.Native.Nat.{ℕ}
 use native.Mathlib.Omega.{arith}
 use lib.Seq.{length-take-le}
 use borrow.Author.Needs.{needs}
 use Rattle.text.specs.PutLaws.{whole, front-text}
-use Rattle.difference.specs.Next.{nextDifferences, howFar}
 use Rattle.difference.specs.ReadBack.{differencesIn}
 use Rattle.difference.specs.RestLaws.{puts-is}
 use Rattle.difference.specs.NextLaws.{next-is, stepped}

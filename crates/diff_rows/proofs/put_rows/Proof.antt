@@ -1,11 +1,10 @@
 -- The rows of the bytes from a place on are left to put; each turn puts that of the difference there, and passes it.
-use mathlib.Core.Path.{sym, ap}
-use mathlib.Core.List.{List}
-use Prim.Native.Nat.{ℕ, _≤_, _-_, _+_}
+use mathlib.Core.Path.{ap}
+use Prim.Native.Nat.{_≤_, _-_, _+_}
 use native.Mathlib.Omega.{arith}
 use lib.ListN.{length, drop}
 use borrow.Author.Needs.{needs}
-use Rattle.line_list.specs.LinesLaws.{lentFrom, lent-from-is}
+use Rattle.line_list.specs.LinesLaws.{lentFrom}
 use Rattle.difference.specs.ReadBack.{differencesIn}
 use Rattle.difference.specs.RestLaws.{Rest, rest-all, rest-put, rest-none, puts-is}
 use Rattle.diff_summary.specs.Front.{frontSize}
