@@ -8,6 +8,9 @@ ghost use mathlib.Core.Bool.{_&&_};
 ghost use mathlib.Core.List.{[], _∷_};
 ghost use Rattle.saved_setting.specs.SavedSettings.{isAllowed, lesser, clipped, renumbered, mayFollow, versionsInOrder, laterVersion, newestVersion, heldHere, lookUp, savedInto, savedNext, savedWanted, foundIn, savedAgain, placesOf, Leaves};
 
+// The places of a list.
+pub const PLACES: usize = 8;
+
 // A saved setting. Version 0 marks an unused place, whose other fields say nothing.
 pub struct SavedSetting {
     pub version: u16,
@@ -41,7 +44,7 @@ pub enum Held {
 // The answer, and the list after it.
 pub struct SavedList {
     pub answer: Saved,
-    pub list: [SavedSetting; 8],
+    pub list: [SavedSetting; PLACES],
 }
 
 // The eight places, oldest first.

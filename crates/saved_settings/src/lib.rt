@@ -8,6 +8,7 @@ ghost use mathlib.Core.Path.{_≡_};
 ghost use Rattle.saved_setting.specs.SavedSettings.{savedWanted, foundIn, savedAgain, Leaves};
 use saved_setting::EightPlaces;
 use saved_setting::Held;
+use saved_setting::PLACES;
 use saved_setting::Saved;
 use saved_setting::SavedList;
 use saved_setting::SavedSetting;
@@ -20,7 +21,7 @@ use saved_setting::save_in;
 pub fn save(list: &mut [SavedSetting], wanted: Wanted) -> Saved
     ensures { λ r. ⌜ Leaves (savedWanted (now (list .entry)) wanted) r (now (list .exit)) ⌝ }
 {
-    if list.len() != 8 {
+    if list.len() != PLACES {
         return Saved::Refused(refusal::NOT_SAVED_SETTINGS);
     }
     let o = save_in(
@@ -51,7 +52,7 @@ pub fn save(list: &mut [SavedSetting], wanted: Wanted) -> Saved
 pub fn find(list: &[SavedSetting], version: u16) -> Held
     ensures { λ r. ⌜ r ≡ foundIn (now (list .entry)) version ⌝ }
 {
-    if list.len() != 8 {
+    if list.len() != PLACES {
         return Held::Refused(refusal::NOT_SAVED_SETTINGS);
     }
     find_in(
@@ -73,7 +74,7 @@ pub fn find(list: &[SavedSetting], version: u16) -> Held
 pub fn go_back(list: &mut [SavedSetting], version: u16) -> Saved
     ensures { λ r. ⌜ Leaves (savedAgain (now (list .entry)) version) r (now (list .exit)) ⌝ }
 {
-    if list.len() != 8 {
+    if list.len() != PLACES {
         return Saved::Refused(refusal::NOT_SAVED_SETTINGS);
     }
     let o = back_in(
@@ -101,7 +102,7 @@ pub fn go_back(list: &mut [SavedSetting], version: u16) -> Saved
 }
 
 // `save` for a list by value: a caller that lends one needs a proof by hand.
-pub fn save_held(held: [SavedSetting; 8], wanted: Wanted) -> SavedList
+pub fn save_held(held: [SavedSetting; PLACES], wanted: Wanted) -> SavedList
     ensures { λ r. ⌜ Leaves (savedWanted held wanted) (r .answer) (r .list) ⌝ }
 {
     let mut list = held;
@@ -113,14 +114,14 @@ pub fn save_held(held: [SavedSetting; 8], wanted: Wanted) -> SavedList
 }
 
 // `find` for a list by value. A list is in order exactly where version 0 is answered 30, not 37.
-pub fn find_held(held: [SavedSetting; 8], version: u16) -> Held
+pub fn find_held(held: [SavedSetting; PLACES], version: u16) -> Held
     ensures { λ r. ⌜ r ≡ foundIn held version ⌝ }
 {
     find(&held, version)
 }
 
 // `go_back` for a list by value.
-pub fn back_held(held: [SavedSetting; 8], version: u16) -> SavedList
+pub fn back_held(held: [SavedSetting; PLACES], version: u16) -> SavedList
     ensures { λ r. ⌜ Leaves (savedAgain held version) (r .answer) (r .list) ⌝ }
 {
     let mut list = held;

@@ -121,19 +121,19 @@ module _ (list : List SavedSetting) (v : ℕ) where
 -- ---- what was saved is found
 
 -- k later ones came since s was saved under v
-record Since (v : ℕ) (s : SavedSetting) (k : ℕ) (list : List SavedSetting) : Type 0 where
+record SavedSince (v : ℕ) (s : SavedSetting) (k : ℕ) (list : List SavedSetting) : Type 0 where
   ordered : isSavedList list ≡ true
   newest : newestVersion list ≡ v + k
   stays : k < placeCount → lookUp v list ≡ held.Setting s
 
 module _ (v : ℕ) (s : SavedSetting) (some : v ≡ 0 → ⊥) where
-  recounted : (k n : ℕ) (list : List SavedSetting) → k ≡ n → Since v s k list → Since v s n list
-  recounted k n list e since = subst (λ (m : ℕ). Since v s m list) e since
+  recounted : (k n : ℕ) (list : List SavedSetting) → k ≡ n → SavedSince v s k list → SavedSince v s n list
+  recounted k n list e since = subst (λ (m : ℕ). SavedSince v s m list) e since
 
-  since-call : (k : ℕ) (list : List SavedSetting) (c : SettingCall) → Since v s k list → Since v s (savesOf (calledOn list c .answer) + k) (calledOn list c .list)
+  since-call : (k : ℕ) (list : List SavedSetting) (c : SettingCall) → SavedSince v s k list → SavedSince v s (savesOf (calledOn list c .answer) + k) (calledOn list c .list)
   unfolding renumbered
   since-call k list c since =
-      by-call (λ (o : SavedList). Since v s (savesOf (o .answer) + k) (o .list)) list (λ n. recounted k (0 + k) list (omega arith) since)
+      by-call (λ (o : SavedList). SavedSince v s (savesOf (o .answer) + k) (o .list)) list (λ n. recounted k (0 + k) list (omega arith) since)
       (λ t ok left.
       let next = into (renumbered t (newestVersion list + 1)) list ok refl in
       record {
@@ -142,7 +142,7 @@ module _ (v : ℕ) (s : SavedSetting) (some : v ≡ 0 → ⊥) where
         stays = λ fewer. next .still v s some (omega (arith, since .newest, fewer)) (since .stays (omega (arith, fewer)));
       }) c
 
-  since-calls : (k : ℕ) (list : List SavedSetting) (calls : List SettingCall) → Since v s k list → Since v s (k + laterSaves list calls) (afterCalls list calls)
+  since-calls : (k : ℕ) (list : List SavedSetting) (calls : List SettingCall) → SavedSince v s k list → SavedSince v s (k + laterSaves list calls) (afterCalls list calls)
   since-calls k list [] since = recounted k (k + 0) list (omega arith) since
   since-calls k list (c ∷ calls) since =
       let later : SavedList = calledOn list c in
@@ -150,7 +150,7 @@ module _ (v : ℕ) (s : SavedSetting) (some : v ≡ 0 → ⊥) where
       let m : ℕ = laterSaves (later .list) calls in
       recounted (n + k + m) (k + (n + m)) (afterCalls (later .list) calls) (omega arith) (since-calls (n + k) (later .list) calls (since-call k list c since))
 
-  since-found : (k : ℕ) (list : List SavedSetting) → Since v s k list
+  since-found : (k : ℕ) (list : List SavedSetting) → SavedSince v s k list
       → foundIn list v ≡ cond (ltb k placeCount) (held.Setting s) (held.Refused versionNotHeld)
   unfolding foundIn
   since-found k list since =
@@ -190,9 +190,9 @@ module _ (list : List SavedSetting) (c : SettingCall) (s : SavedSetting) (v : �
       let next = into t list (d .ok) (sym (d .next)) in
       let left : calledOn list c .list ≡ savedInto t list =
       ap (λ (o : SavedList). o .list) (d .does) ∙ ap (λ (n : ℕ). savedInto (renumbered s n) list) (sym (d .next)) in
-      let start : Since v t 0 (savedInto t list) =
+      let start : SavedSince v t 0 (savedInto t list) =
       record { ordered = next .ordered; newest = next .newest ∙ omega arith; stays = λ fewer. next .found } in
-      let since : Since v t 0 (calledOn list c .list) = subst (λ (l : List SavedSetting). Since v t 0 l) (sym left) start in
+      let since : SavedSince v t 0 (calledOn list c .list) = subst (λ (l : List SavedSetting). SavedSince v t 0 l) (sym left) start in
       let after : List SavedSetting = calledOn list c .list in
       since-found v t some (laterSaves after calls) (afterCalls after calls)
       (recounted v t some (0 + laterSaves after calls) (laterSaves after calls) (afterCalls after calls) (omega arith) (since-calls v t some 0 after calls since))
