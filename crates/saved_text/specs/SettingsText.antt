@@ -1,0 +1,115 @@
+-- The text of a list of saved settings: written, and read.
+use mathlib.Core.Bool.{Bool, true, false, _&&_, cond}
+use mathlib.Core.List.{List, [], _∷_, _++_}
+use Prim.Native.Nat.{ℕ, zero, suc, _+_, _-_, _*_, _%_}
+use lib.Dec.{eqb, ltb, leb}
+use lib.ListN.{length, drop, getD, set, replicate}
+use Rattle.text.specs.Text.{ascii, newline, decimal}
+use Rattle.saved_setting.specs.declared.SavedSetting.{SavedSetting}
+use Rattle.saved_setting.specs.SavedSettings.{isSavedList}
+use Rattle.saved_text.specs.declared.Fields.{Fields}
+use Rattle.saved_text.specs.declared.Gathered.{Gathered}
+use Rattle.saved_text.specs.declared.Restored.{Restored}
+
+-- ---- written
+
+-- a name and a number
+abbrev pub field : List ℕ → ℕ → List ℕ
+field name n = name ++ decimal n
+
+-- the line of a setting
+abbrev pub settingLine : SavedSetting → List ℕ
+settingLine s =
+    field (ascii "version ") (s .version)
+    ++ (field (ascii ": fine ") (s .fine)
+    ++ (field (ascii ", coarse ") (s .coarse)
+    ++ (field (ascii ", gain ") (s .gain) ++ (field (ascii ", divisor ") (s .divisor) ++ (newline ∷ [])))))
+
+-- an unused place has no line
+unfoldable pub placeLine : SavedSetting → List ℕ
+placeLine s = cond (eqb (s .version) 0) [] (settingLine s)
+
+abbrev pub unused : SavedSetting
+unused = record { version = 0; fine = 0; coarse = 0; gain = 0; divisor = 0 }
+
+-- the lines of a list's first places, oldest first
+abbrev pub linesOf : ℕ → List SavedSetting → List ℕ
+linesOf zero list = []
+linesOf (suc n) list = linesOf n list ++ placeLine (getD list n unused)
+
+-- a list's text: the lines of its eight places
+unfoldable pub settingsText : List SavedSetting → List ℕ
+settingsText list = linesOf 8 list
+
+-- ---- the numbers of a text
+
+abbrev pub noFields : Fields
+noFields = record { version = 0; fine = 0; coarse = 0; gain = 0; divisor = 0 }
+
+-- a digit more of the last number, which starts again from 0 after 65,535
+abbrev pub withDigit : Fields → ℕ → Fields
+withDigit f c = record { version = f .version; fine = f .fine; coarse = f .coarse; gain = f .gain; divisor = (10 * f .divisor + (c - 0x30)) % 65536 }
+
+-- a number more, 0 so far
+abbrev pub withField : Fields → Fields
+withField f = record { version = f .fine; fine = f .coarse; coarse = f .gain; gain = f .divisor; divisor = 0 }
+
+-- a digit makes the last number longer, a colon or a comma ends it
+unfoldable pub fieldsAfter : Fields → ℕ → Fields
+fieldsAfter f c =
+    cond (leb 0x30 c) (cond (leb c 0x39) (withDigit f c) (cond (eqb c 0x3A) (withField f) f)) (cond (eqb c 0x2C) (withField f) f)
+
+-- the setting of a line's last five numbers
+abbrev pub settingOfFields : Fields → SavedSetting
+settingOfFields f = record { version = f .version; fine = f .fine; coarse = f .coarse; gain = f .gain % 256; divisor = f .divisor % 256 }
+
+-- a line's setting in its place; lines past the eighth have none
+abbrev pub withLine : Gathered → Gathered
+withLine g =
+    cond (ltb (g .count) 8)
+    (record { list = set (g .list) (g .count) (settingOfFields (g .fields)); count = g .count + 1; fields = noFields })
+    (record { list = g .list; count = g .count; fields = noFields })
+
+unfoldable pub gatheredAfter : Gathered → ℕ → Gathered
+gatheredAfter g c =
+    cond (eqb c newline) (withLine g) (record { list = g .list; count = g .count; fields = fieldsAfter (g .fields) c })
+
+abbrev pub gatheredOver : Gathered → List ℕ → Gathered
+gatheredOver g [] = g
+gatheredOver g (c ∷ text) = gatheredOver (gatheredAfter g c) text
+
+abbrev pub nothingGathered : Gathered
+nothingGathered = record { list = replicate 8 unused; count = 0; fields = noFields }
+
+-- the list of a text's numbers; its end ends its last line
+unfoldable pub numbersOf : List ℕ → List SavedSetting
+numbersOf text = withLine (gatheredOver nothingGathered text) .list
+
+-- ---- read
+
+abbrev pub carriageReturn : ℕ
+carriageReturn = 0x0D
+
+-- how many characters of another text a character is: a carriage return none
+unfoldable pub coverOf : ℕ → ℕ
+coverOf c = cond (eqb c carriageReturn) 0 1
+
+abbrev pub startsBy : ℕ → List ℕ → Bool
+startsBy c [] = false
+startsBy c (d ∷ text) = eqb d c
+
+-- it may stand where the other goes on so
+unfoldable pub mayStand : ℕ → List ℕ → Bool
+mayStand c whole = cond (eqb c carriageReturn) true (startsBy c whole)
+
+-- a text is another, but for its carriage returns and the other's last newline
+abbrev pub isLike : List ℕ → List ℕ → Bool
+isLike [] whole = leb (length whole) 1
+isLike (c ∷ text) whole = mayStand c whole && isLike text (drop (coverOf c) whole)
+
+-- a text is a list's: that of the list of its numbers, and that list is ordered as it should be
+unfoldable pub isSettingsText : List ℕ → Bool
+isSettingsText text = isLike text (settingsText (numbersOf text)) && isSavedList (numbersOf text)
+
+abbrev pub restored : List ℕ → Restored
+restored text = record { list = numbersOf text; valid = isSettingsText text }

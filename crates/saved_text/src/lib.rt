@@ -1,0 +1,306 @@
+// The text of a list of saved settings, which a person can read and edit: a line for each used place, oldest first.
+//
+//     version 12: fine 360, coarse 302, gain 3, divisor 1
+//
+// Written: a list as its lines, put into a lent buffer. Read: the list whose text it is; carriage returns don't count, and the last newline may be
+// missing. Any other text is refused with 37 NOT_SAVED_SETTINGS: the numbers of its lines are gathered, and their list's text is compared with it.
+// So a number that is too large or has a digit too many, a ninth line, a line for an unused place and a wrong word are refused by one test.
+// Cost: linear in the text.
+ghost use mathlib.Core.Path.{_≡_};
+ghost use Prim.Native.Nat.{_≤_};
+ghost use lib.ListN.{drop};
+ghost use Rattle.text.specs.Put.{Puts};
+ghost use Rattle.saved_setting.specs.SavedSettings.{isSavedList};
+ghost use Rattle.saved_text.specs.SettingsText.{field, settingLine, placeLine, settingsText, withDigit, withField, fieldsAfter, settingOfFields, noFields, withLine, nothingGathered, gatheredAfter, numbersOf, coverOf, mayStand, isLike, restored};
+use saved_setting::Held;
+use saved_setting::SavedSetting;
+use saved_settings::find_held;
+use text::put;
+use text::put_decimal;
+
+// The places of a list.
+const PLACES: usize = 8;
+
+// Room for the text of any list: eight lines of at most 142 characters.
+const LONGEST: usize = 1136;
+
+// What a text is read as: the list of its numbers, and whether the text is that list's. Where it is not, it is to be refused with 37.
+pub struct Restored {
+    pub list: [SavedSetting; 8],
+    pub valid: bool,
+}
+
+// The last five numbers of a line, the newest last.
+struct Fields {
+    version: u16,
+    fine: u16,
+    coarse: u16,
+    gain: u16,
+    divisor: u16,
+}
+
+// The settings of the lines so far, how many they are, and the numbers of the line that stands open.
+struct Gathered {
+    list: [SavedSetting; 8],
+    count: usize,
+    fields: Fields,
+}
+
+// Writing.
+
+// The text of a list.
+pub fn put_settings(list: [SavedSetting; 8], out: &mut [u8], at: usize) -> usize
+    ensures { λ r. ⌜ Puts (now (out .entry)) at (settingsText list) r (now (out .exit)) ⌝ }
+{
+    let mut next = at;
+    let mut i: usize = 0;
+    while i < PLACES {
+        next = put_place(list[i], out, next);
+        i += 1;
+    }
+    next
+}
+
+fn put_place(setting: SavedSetting, out: &mut [u8], at: usize) -> usize
+    ensures { λ r. ⌜ Puts (now (out .entry)) at (placeLine setting) r (now (out .exit)) ⌝ }
+{
+    let version = setting.version;
+    if version == 0 {
+        return at;
+    }
+    put_setting(setting, out, at)
+}
+
+// The line of a setting.
+pub fn put_setting(setting: SavedSetting, out: &mut [u8], at: usize) -> usize
+    ensures { λ r. ⌜ Puts (now (out .entry)) at (settingLine setting) r (now (out .exit)) ⌝ }
+{
+    let a = put_field(b"version ", setting.version, out, at);
+    let b = put_field(b": fine ", setting.fine, out, a);
+    let c = put_field(b", coarse ", setting.coarse, out, b);
+    let d = put_field(b", gain ", setting.gain as u16, out, c);
+    let e = put_field(b", divisor ", setting.divisor as u16, out, d);
+    put(b"\n", out, e)
+}
+
+// A name and a number.
+pub fn put_field(name: &[u8], n: u16, out: &mut [u8], at: usize) -> usize
+    ensures { λ r. ⌜ Puts (now (out .entry)) at (field (now (name .entry)) n) r (now (out .exit)) ⌝ }
+{
+    let next = put(name, out, at);
+    put_decimal(n as u64, out, next)
+}
+
+// Reading.
+
+// The list whose text it is, if there is one.
+pub fn read(text: &[u8]) -> Restored
+    ensures { λ r. ⌜ r ≡ restored (now (text .entry)) ⌝ }
+{
+    let list = gather(text);
+    if is_settings_text(text, list) {
+        let valid = is_saved_list(list);
+        return Restored { list, valid };
+    }
+    Restored { list, valid: false }
+}
+
+// Whether a list is ordered as it should be. None holds version 0, and one that is not ordered so is refused first.
+fn is_saved_list(list: [SavedSetting; 8]) -> bool
+    ensures { λ r. ⌜ r ≡ isSavedList list ⌝ }
+{
+    let held = find_held(list, 0);
+    match held {
+        Held::Setting(_) => true,
+        Held::Refused(n) => n == refusal::VERSION_NOT_HELD,
+    }
+}
+
+// Whether a text is a list's.
+fn is_settings_text(text: &[u8], list: [SavedSetting; 8]) -> bool
+    ensures { λ r. ⌜ r ≡ isLike (now (text .entry)) (settingsText list) ⌝ }
+{
+    let mut whole = [0u8; LONGEST];
+    let n = put_settings(list, &mut whole, 0);
+    is_like(text, &whole[..n])
+}
+
+// The list of a text's numbers.
+fn gather(text: &[u8]) -> [SavedSetting; 8]
+    ensures { λ r. ⌜ r ≡ numbersOf (now (text .entry)) ⌝ }
+{
+    let mut gathered = nothing_gathered();
+    let mut i: usize = 0;
+    while i < text.len() {
+        gathered = gather_next(gathered, text[i]);
+        i += 1;
+    }
+    let all = end_line(gathered);
+    all.list
+}
+
+fn gather_next(gathered: Gathered, c: u8) -> Gathered
+    ensures { λ r. ⌜ r ≡ gatheredAfter gathered c ⌝ }
+{
+    if c == b'\n' {
+        return end_line(gathered);
+    }
+    let list = gathered.list;
+    let fields = read_field(gathered.fields, c);
+    Gathered {
+        list,
+        count: gathered.count,
+        fields,
+    }
+}
+
+fn nothing_gathered() -> Gathered
+    ensures { λ r. ⌜ r ≡ nothingGathered ⌝ }
+{
+    let unused = SavedSetting {
+        version: 0,
+        fine: 0,
+        coarse: 0,
+        gain: 0,
+        divisor: 0,
+    };
+    Gathered {
+        list: [unused; 8],
+        count: 0,
+        fields: no_fields(),
+    }
+}
+
+// With the open line's setting in its place; lines past the eighth have none.
+fn end_line(gathered: Gathered) -> Gathered
+    ensures { λ r. ⌜ r ≡ withLine gathered ⌝ }
+{
+    let mut list = gathered.list;
+    let count = gathered.count;
+    if count < PLACES {
+        list[count] = setting_of(gathered.fields);
+        return Gathered {
+            list,
+            count: count + 1,
+            fields: no_fields(),
+        };
+    }
+    Gathered {
+        list,
+        count,
+        fields: no_fields(),
+    }
+}
+
+fn no_fields() -> Fields
+    ensures { λ r. ⌜ r ≡ noFields ⌝ }
+{
+    Fields {
+        version: 0,
+        fine: 0,
+        coarse: 0,
+        gain: 0,
+        divisor: 0,
+    }
+}
+
+fn setting_of(fields: Fields) -> SavedSetting
+    ensures { λ r. ⌜ r ≡ settingOfFields fields ⌝ }
+{
+    SavedSetting {
+        version: fields.version,
+        fine: fields.fine,
+        coarse: fields.coarse,
+        gain: (fields.gain % 256) as u8,
+        divisor: (fields.divisor % 256) as u8,
+    }
+}
+
+// The numbers after a character more: a digit makes the last one longer, a colon or a comma ends it.
+fn read_field(fields: Fields, c: u8) -> Fields
+    ensures { λ r. ⌜ r ≡ fieldsAfter fields c ⌝ }
+{
+    if b'0' <= c {
+        if c <= b'9' {
+            return with_digit(fields, c);
+        }
+        if c == b':' {
+            return with_field(fields);
+        }
+        return fields;
+    }
+    if c == b',' {
+        return with_field(fields);
+    }
+    fields
+}
+
+fn with_digit(fields: Fields, c: u8) -> Fields
+    requires { ⌜ 0x30 ≤ c ⌝ }
+    ensures { λ r. ⌜ r ≡ withDigit fields c ⌝ }
+{
+    let number = (10 * fields.divisor as u32 + (c - b'0') as u32) % 65536;
+    Fields {
+        version: fields.version,
+        fine: fields.fine,
+        coarse: fields.coarse,
+        gain: fields.gain,
+        divisor: number as u16,
+    }
+}
+
+fn with_field(fields: Fields) -> Fields
+    ensures { λ r. ⌜ r ≡ withField fields ⌝ }
+{
+    Fields {
+        version: fields.fine,
+        fine: fields.coarse,
+        coarse: fields.gain,
+        gain: fields.divisor,
+        divisor: 0,
+    }
+}
+
+// Whether a text is another, but for its carriage returns and the other's last newline.
+fn is_like(text: &[u8], whole: &[u8]) -> bool
+    ensures { λ r. ⌜ r ≡ isLike (now (text .entry)) (now (whole .entry)) ⌝ }
+{
+    let mut at: usize = 0;
+    let mut i: usize = 0;
+    while i < text.len() {
+        let c = text[i];
+        if stands(c, whole, at) {
+            at += covers(c);
+            i += 1;
+        } else {
+            return false;
+        }
+    }
+    if whole.len() <= at + 1 {
+        return true;
+    }
+    false
+}
+
+// How many characters of the other text a character is.
+fn covers(c: u8) -> usize
+    ensures { λ r. ⌜ (r ≡ coverOf c) × (r ≤ 1) ⌝ }
+{
+    if c == b'\r' {
+        return 0;
+    }
+    1
+}
+
+// Whether a character may stand where the other text is at a place.
+fn stands(c: u8, whole: &[u8], at: usize) -> bool
+    ensures { λ r. ⌜ r ≡ mayStand c (drop at (now (whole .entry))) ⌝ }
+{
+    if c == b'\r' {
+        return true;
+    }
+    if at < whole.len() {
+        return whole[at] == c;
+    }
+    false
+}

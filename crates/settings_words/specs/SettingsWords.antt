@@ -1,0 +1,55 @@
+-- What is said of saved settings: what was clipped, why a request is refused; and the messages of a setting.
+use mathlib.Core.Bool.{cond}
+use mathlib.Core.List.{List, [], _++_}
+use Prim.Native.Nat.{ℕ, _/_, _%_}
+use lib.Dec.{eqb, ltb}
+use Rattle.refusal.specs.Refusal.{badSetting, versionNotHeld, noVersionLeft}
+use Rattle.text.specs.Text.{ascii}
+use Rattle.two_wire.specs.RegisterNames.{fineHigh, fineLow, coarseHigh, coarseLow, gain, clockDivisor}
+use Rattle.two_wire.specs.Writing.{message}
+use Rattle.two_wire_text.specs.Hex.{hexText}
+use Rattle.exposure.specs.Exposure.{fineLimit, coarseLimit}
+use Rattle.saved_setting.specs.declared.SavedSetting.{SavedSetting}
+use Rattle.saved_setting.specs.declared.Wanted.{Wanted}
+use Rattle.saved_text.specs.SettingsText.{field}
+
+-- ---- what was clipped: `fine 400 is above 360 at 30 a second: 360 saved`
+
+unfoldable pub fineNote : Wanted → List ℕ
+fineNote w =
+    cond (ltb (fineLimit (w .rate)) (w .fine))
+    (field (ascii "fine ") (w .fine)
+    ++ (field (ascii " is above ") (fineLimit (w .rate))
+    ++ (field (ascii " at ") (w .rate) ++ (field (ascii " a second: ") (fineLimit (w .rate)) ++ ascii " saved\n"))))
+    []
+
+unfoldable pub coarseNote : Wanted → List ℕ
+coarseNote w =
+    cond (ltb coarseLimit (w .coarse))
+    (field (ascii "coarse ") (w .coarse) ++ (field (ascii " is above ") coarseLimit ++ (field (ascii ": ") coarseLimit ++ ascii " saved\n")))
+    []
+
+abbrev pub notes : Wanted → List ℕ
+notes w = fineNote w ++ coarseNote w
+
+-- ---- refusals
+
+-- what a refusal means, to the line's end
+unfoldable pub settingsRefusal : ℕ → List ℕ
+settingsRefusal n =
+    cond (eqb n badSetting) (ascii ", gain takes 0, 1, 3 or 7, divisor 0 to 3, and the frame rate is 25 or 30\n")
+    (cond (eqb n versionNotHeld) (ascii ", version not held: `list` shows those that are\n")
+    (cond (eqb n noVersionLeft) (ascii ", no version number is left after 65535: start a new file\n")
+    (ascii ", not a list of saved settings; the file is left as it is\n")))
+
+abbrev pub refusedRequest : ℕ → List ℕ
+refusedRequest n = field (ascii "REFUSED ") n ++ settingsRefusal n
+
+-- ---- the messages of a setting, a line each: high byte first
+
+abbrev pub writesOf : SavedSetting → List ℕ
+writesOf s =
+    hexText (message fineHigh (s .fine / 256))
+    ++ (hexText (message fineLow (s .fine % 256))
+    ++ (hexText (message coarseHigh (s .coarse / 256))
+    ++ (hexText (message coarseLow (s .coarse % 256)) ++ (hexText (message gain (s .gain)) ++ hexText (message clockDivisor (s .divisor))))))

@@ -1,0 +1,101 @@
+// What is said of saved settings (paper 02, A11): what was clipped, why a request is refused, and the messages that set a sensor so.
+//
+// In: a setting that was wanted, a refusal, or a saved setting. Out: its text, put into a lent buffer as far as there is room. Cost: constant.
+ghost use Rattle.text.specs.Put.{Puts};
+ghost use Rattle.settings_words.specs.SettingsWords.{fineNote, coarseNote, notes, settingsRefusal, refusedRequest, writesOf};
+use saved_setting::SavedSetting;
+use saved_setting::Wanted;
+use saved_text::put_field;
+use text::put;
+use two_wire::register;
+use two_wire_text::put_message;
+
+// What of a setting was clipped when it was saved; nothing where all was saved as wanted.
+pub fn put_notes(wanted: Wanted, out: &mut [u8], at: usize) -> usize
+    ensures { λ r. ⌜ Puts (now (out .entry)) at (notes wanted) r (now (out .exit)) ⌝ }
+{
+    let next = put_fine_note(wanted, out, at);
+    put_coarse_note(wanted, out, next)
+}
+
+fn put_fine_note(wanted: Wanted, out: &mut [u8], at: usize) -> usize
+    ensures { λ r. ⌜ Puts (now (out .entry)) at (fineNote wanted) r (now (out .exit)) ⌝ }
+{
+    let fine = wanted.fine;
+    let rate = wanted.rate;
+    let limit = exposure::fine_limit(rate);
+    if limit < fine {
+        let a = put_field(b"fine ", fine, out, at);
+        let b = put_field(b" is above ", limit, out, a);
+        let c = put_field(b" at ", rate as u16, out, b);
+        let d = put_field(b" a second: ", limit, out, c);
+        return put(b" saved\n", out, d);
+    }
+    at
+}
+
+fn put_coarse_note(wanted: Wanted, out: &mut [u8], at: usize) -> usize
+    ensures { λ r. ⌜ Puts (now (out .entry)) at (coarseNote wanted) r (now (out .exit)) ⌝ }
+{
+    let coarse = wanted.coarse;
+    if exposure::COARSE_LIMIT < coarse {
+        let a = put_field(b"coarse ", coarse, out, at);
+        let b = put_field(b" is above ", exposure::COARSE_LIMIT, out, a);
+        let c = put_field(b": ", exposure::COARSE_LIMIT, out, b);
+        return put(b" saved\n", out, c);
+    }
+    at
+}
+
+// A refusal, with its number and in words.
+pub fn put_refusal(number: u8, out: &mut [u8], at: usize) -> usize
+    ensures { λ r. ⌜ Puts (now (out .entry)) at (refusedRequest number) r (now (out .exit)) ⌝ }
+{
+    let next = put_field(b"REFUSED ", number as u16, out, at);
+    put_words(number, out, next)
+}
+
+fn put_words(number: u8, out: &mut [u8], at: usize) -> usize
+    ensures { λ r. ⌜ Puts (now (out .entry)) at (settingsRefusal number) r (now (out .exit)) ⌝ }
+{
+    if number == refusal::BAD_SETTING {
+        return put(
+            b", gain takes 0, 1, 3 or 7, divisor 0 to 3, and the frame rate is 25 or 30\n",
+            out,
+            at,
+        );
+    }
+    if number == refusal::VERSION_NOT_HELD {
+        return put(
+            b", version not held: `list` shows those that are\n",
+            out,
+            at,
+        );
+    }
+    if number == refusal::NO_VERSION_LEFT {
+        return put(
+            b", no version number is left after 65535: start a new file\n",
+            out,
+            at,
+        );
+    }
+    put(
+        b", not a list of saved settings; the file is left as it is\n",
+        out,
+        at,
+    )
+}
+
+// The messages that set a sensor so, in hex, a line each.
+pub fn put_writes(setting: SavedSetting, out: &mut [u8], at: usize) -> usize
+    ensures { λ r. ⌜ Puts (now (out .entry)) at (writesOf setting) r (now (out .exit)) ⌝ }
+{
+    let fine = setting.fine;
+    let coarse = setting.coarse;
+    let a = put_message(register::FINE_HIGH, (fine / 256) as u8, out, at);
+    let b = put_message(register::FINE_LOW, (fine % 256) as u8, out, a);
+    let c = put_message(register::COARSE_HIGH, (coarse / 256) as u8, out, b);
+    let d = put_message(register::COARSE_LOW, (coarse % 256) as u8, out, c);
+    let e = put_message(register::GAIN, setting.gain, out, d);
+    put_message(register::CLOCK_DIVISOR, setting.divisor, out, e)
+}
