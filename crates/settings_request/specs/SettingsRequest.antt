@@ -1,0 +1,99 @@
+-- What a request does to a list of saved settings, and to the text of one.
+use mathlib.Core.Path.{_≡_}
+use mathlib.Core.Bool.{Bool, true, false, cond}
+use mathlib.Core.List.{List, [], _++_}
+use Prim.Native.Nat.{ℕ}
+use lib.ListN.{getD}
+use Rattle.refusal.specs.Refusal.{notSavedSettings}
+use Rattle.text.specs.Text.{ascii}
+use Rattle.text.specs.Put.{Puts}
+use Rattle.saved_setting.specs.declared.SavedSetting.{SavedSetting}
+use Rattle.saved_setting.specs.declared.Wanted.{Wanted}
+use Rattle.saved_setting.specs.declared.Saved.{Saved}
+use Rattle.saved_setting.specs.declared.Saved.the-variants as saved
+use Rattle.saved_setting.specs.declared.Held.{Held}
+use Rattle.saved_setting.specs.declared.Held.the-variants as held
+use Rattle.saved_setting.specs.SavedSettings.{isUnused, savedWanted, foundIn, savedAgain}
+use Rattle.saved_text.specs.SettingsText.{settingLine, unused, settingsText, numbersOf, isSettingsText}
+use Rattle.settings_words.specs.SettingsWords.{notes, refusedRequest, writesOf}
+use Rattle.settings_request.specs.declared.Request.{Request}
+use Rattle.settings_request.specs.declared.Request.the-variants.{Save, Find, Back, ListAll, Messages}
+use Rattle.settings_request.specs.declared.Response.{Response}
+use Rattle.settings_request.specs.declared.Served.{Served}
+
+-- ---- on a list
+
+-- the list afterwards, what is said, and whether the list is another, or the request refused
+pub record RequestEffect : Type 0 where
+  pub list : List SavedSetting
+  pub text : List ℕ
+  pub changed : Bool
+  pub refused : Bool
+
+-- nothing is changed but for a setting that is saved
+abbrev pub saying : List SavedSetting → List ℕ → RequestEffect
+saying list text = record { list = list; text = text; changed = false; refused = false }
+
+abbrev pub refusingRequest : List SavedSetting → ℕ → RequestEffect
+refusingRequest list n = record { list = list; text = refusedRequest n; changed = false; refused = true }
+
+-- what is found, as its line
+unfoldable pub heldLine : Held → List ℕ
+heldLine (held.Setting s) = settingLine s
+heldLine (held.Refused n) = refusedRequest n
+
+-- what was saved is said as it is then found
+unfoldable pub saving : List SavedSetting → List ℕ → Saved → RequestEffect
+saving list more (saved.Version v) = record { list = list; text = heldLine (foundIn list v) ++ more; changed = true; refused = false }
+saving list more (saved.Refused n) = refusingRequest list n
+
+-- the line of what is found, or its messages
+unfoldable pub finding : List SavedSetting → Held → RequestEffect
+finding list (held.Setting s) = saying list (settingLine s)
+finding list (held.Refused n) = refusingRequest list n
+
+unfoldable pub sending : List SavedSetting → Held → RequestEffect
+sending list (held.Setting s) = saying list (writesOf s)
+sending list (held.Refused n) = refusingRequest list n
+
+unfoldable pub listedText : List SavedSetting → List ℕ
+listedText list = cond (isUnused (getD list 0 unused)) (ascii "nothing is saved yet\n") (settingsText list)
+
+-- a request's effect: after saving, what was clipped is said too
+abbrev pub requestEffect : Request → List SavedSetting → RequestEffect
+requestEffect (Save w) list = saving (savedWanted list w .list) (notes w) (savedWanted list w .answer)
+requestEffect (Find v) list = finding list (foundIn list v)
+requestEffect (Back v) list = saving (savedAgain list v .list) [] (savedAgain list v .answer)
+requestEffect ListAll list = saying list (listedText list)
+requestEffect (Messages v) list = sending list (foundIn list v)
+
+-- a call that has an effect, and puts what is said at the front of a buffer
+pub record Responds (e : RequestEffect) (before after : List ℕ) (r : Response) : Type 0 where
+  pub lists : r .list ≡ e .list
+  pub changes : r .changed ≡ e .changed
+  pub refuses : r .refused ≡ e .refused
+  pub says : Puts before 0 (e .text) (r .said) after
+
+-- ---- on a text
+
+-- the text of the list afterwards, what is said, and as above
+pub record Service : Type 0 where
+  pub file : List ℕ
+  pub text : List ℕ
+  pub changed : Bool
+  pub refused : Bool
+
+abbrev pub written : RequestEffect → Service
+written e = record { file = settingsText (e .list); text = e .text; changed = e .changed; refused = e .refused }
+
+-- a text that is no list's is refused
+unfoldable pub service : Request → List ℕ → Service
+service q text =
+    cond (isSettingsText text) (written (requestEffect q (numbersOf text)))
+    (record { file = []; text = refusedRequest notSavedSettings; changed = false; refused = true })
+
+pub record Serves (s : Service) (fileBefore fileAfter before after : List ℕ) (r : Served) : Type 0 where
+  pub changes : r .changed ≡ s .changed
+  pub refuses : r .refused ≡ s .refused
+  pub writes : Puts fileBefore 0 (s .file) (r .file) fileAfter
+  pub says : Puts before 0 (s .text) (r .said) after
