@@ -226,7 +226,7 @@ fn past_blanks(line: &[u8], at: usize) -> usize
 }
 
 // The number that a line is from a place on, up to 65,535.
-fn number(line: &[u8], at: usize) -> u32
+pub fn number(line: &[u8], at: usize) -> u32
     ensures { λ r. ⌜ r ≡ numberIn (drop at (now (line .entry))) ⌝ }
 {
     if line.len() <= at {
