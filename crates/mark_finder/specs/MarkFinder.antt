@@ -1,9 +1,9 @@
 -- Marks found in a capture (02, A9), piece by piece: each with its number, its place, the reader's answer to it, and its own bytes.
 use mathlib.Core.Path.{_≡_}
 use mathlib.Core.Bool.{Bool, true, false, cond}
-use mathlib.Core.List.{List, []}
+use mathlib.Core.List.{List}
 use Prim.Native.Nat.{ℕ, _+_, _-_, _/_, _%_, min}
-use lib.Dec.{eqb, ltb, leb}
+use lib.Dec.{eqb, ltb}
 use lib.ListN.{length, take, drop}
 use lib.Seq.{sets}
 use Rattle.counts.specs.Counts.{greatestCount, oneMore}
@@ -23,7 +23,7 @@ use Rattle.run.specs.Run.{Ran}
 use Rattle.capture_bytes.specs.Unpacked.{runFrom}
 use Rattle.mark_finder.specs.declared.Located.{Located}
 use Rattle.mark_finder.specs.declared.Finder.{Finder}
-use Rattle.mark_finder.specs.declared.Found.{Found}
+use Rattle.mark_finder.specs.declared.FoundMark.{FoundMark}
 
 abbrev pub freshFinder : Profile → Finder
 freshFinder p = record { reader = freshReader p; number = 0; place = 0; low = false; offset = 0; begin = 0; length = 0 }
@@ -60,8 +60,8 @@ located f a =
     }
 
 -- the mark whose code ends just before a nibble of the piece: it begins eight nibbles before that
-abbrev pub opening : Finder → Reader → ℕ → Finder
-opening f r next =
+abbrev pub openingNext : Finder → Reader → ℕ → Finder
+openingNext f r next =
     record {
       reader = r;
       number = oneMore (f .number);
@@ -89,7 +89,7 @@ keptBytes f piece to held = sets held (f .length) (span piece (f .begin) to)
 
 -- what it gives, and the buffer afterwards
 pub record AfterFind : Type 0 where
-  pub found : Found
+  pub found : FoundMark
   pub buffer : List ℕ
 
 -- a mark is answered by the nibble before a place: its bytes go on through that nibble's own
@@ -98,7 +98,7 @@ answering f piece next held t =
     record {
       found =
           record {
-            finder = opening f (t .reader) next;
+            finder = openingNext f (t .reader) next;
             taken = t .taken;
             answered = true;
             mark = located f (answerFor (t .outcome));
@@ -139,19 +139,19 @@ unfoldable pub findOf : Finder → List ℕ → ℕ → List ℕ → AfterFind
 findOf f piece from held = findBy f piece from held (runFrom (f .reader .head) (f .reader .body) piece from longest)
 
 -- a call that gives, and leaves the buffer, so
-pub record Finds (a : AfterFind) (r : Found) (after : List ℕ) : Type 0 where
+pub record Finds (a : AfterFind) (r : FoundMark) (after : List ℕ) : Type 0 where
   pub gives : r ≡ a .found
   pub leaves : after ≡ a .buffer
 
 -- A piece that is left.
 
-pub record AfterPass : Type 0 where
+pub record AfterPiece : Type 0 where
   pub finder : Finder
   pub buffer : List ℕ
 
 -- all of its bytes from the mark's on are kept; the next piece begins with its last four
-unfoldable pub passOf : Finder → List ℕ → List ℕ → AfterPass
-passOf f piece held =
+unfoldable pub endPieceOf : Finder → List ℕ → List ℕ → AfterPiece
+endPieceOf f piece held =
     record {
       finder =
           record {
@@ -166,7 +166,7 @@ passOf f piece held =
       buffer = keptBytes f piece (length piece) held;
     }
 
-pub record Passes (a : AfterPass) (r : Finder) (after : List ℕ) : Type 0 where
+pub record EndsPiece (a : AfterPiece) (r : Finder) (after : List ℕ) : Type 0 where
   pub gives : r ≡ a .finder
   pub leaves : after ≡ a .buffer
 

@@ -10,7 +10,6 @@ use lib.Seq.{sets, take-all, drop-cons, take-nil}
 use borrow.Author.Tests.{leb-true, leb-false}
 use Rattle.profile.specs.declared.Profile.{Profile}
 use Rattle.text.specs.Put.{Puts}
-use Rattle.stream.specs.declared.Answer.{Answer}
 use Rattle.stream.specs.Answers.{answerFor, isAnswer}
 use Rattle.stream.specs.AnswersLaws.{answer-of}
 use Rattle.stream.specs.Written.{nibbles}
@@ -25,8 +24,7 @@ use Rattle.capture_bytes.specs.Unpacked.{runFrom}
 use Rattle.capture_bytes.specs.EndToEnd.{lent-within}
 use Rattle.mark_finder.specs.declared.Located.{Located}
 use Rattle.mark_finder.specs.declared.Finder.{Finder}
-use Rattle.mark_finder.specs.declared.Found.{Found}
-use Rattle.mark_finder.specs.MarkFinder.{located, opening, span, answering, goingOn, findBy, Finds, AfterFind}
+use Rattle.mark_finder.specs.MarkFinder.{located, openingNext, span, answering, goingOn, findBy, Finds, AfterFind}
 
 -- Bytes.
 
@@ -103,13 +101,13 @@ module _ (f : Finder) (piece : List ℕ) (from : ℕ) (held : List ℕ) {p : Pro
   pub finds-answered : {finder : Finder} {mark : Located} {n next : ℕ} {held′ : List ℕ} → isAnswer (r .answer) ≡ true → next ≡ from + r .taken
       → mark ≡ located f (r .answer)
       → Puts held (f .length) (span piece (f .begin) (next / 2 + next % 2)) n held′
-      → finder ≡ opening f (readerOf (r .head) body′) next
+      → finder ≡ openingNext f (readerOf (r .head) body′) next
       → Finds (findBy f piece from held u) (record { finder = finder; taken = r .taken; answered = true; mark = mark; length = n }) held′
   finds-answered {finder} {mark} {n} {next} {held′} q at m k o =
       let there : next ≡ from + u .taken = at ∙ ap (λ (i : ℕ). from + i) (e .count) in
       let d = by-answer true q in
       let c : AfterFind = answering f piece (from + u .taken) held u in
-      let finder-is : finder ≡ c .found .finder = o ∙ ap₂ (opening f) reader-is there in
+      let finder-is : finder ≡ c .found .finder = o ∙ ap₂ (openingNext f) reader-is there in
       let mark-is : mark ≡ c .found .mark = m ∙ ap (located f) answer-is in
       let length-is : n ≡ c .found .length = k .place ∙ ap (λ (i : ℕ). f .length + min (length (span piece (f .begin) (i / 2 + i % 2))) (length held - f .length)) there in
       record {

@@ -3,7 +3,7 @@
 // In: the bytes of a capture, piece after piece, and a lent buffer, the same one each time. The first piece is FRONT, an end of line that counts
 // as mark 0: so the first mark of the capture is answered where the next one begins, as all others are. Each later piece has the last four bytes
 // of the one before at its front (`carry`), since a mark may begin there. `find` takes a piece from a nibble's place on, up to the first answer;
-// `pass` ends it; `finish` answers the last mark. Out: the mark that is answered, whose bytes stand at the front of the buffer, as many as it has
+// `end_piece` ends it; `finish` answers the last mark. Out: the mark that is answered, whose bytes stand at the front of the buffer, as many as it has
 // room for: from the byte that it begins in through the byte in which the next mark's code ends. Nothing else is refused: a reader that fails its
 // own test is answered 11, and then nothing is taken. Cost: that of the reader's runs, and linear in the bytes kept.
 ghost use mathlib.Core.Path.{_≡_};
@@ -13,7 +13,7 @@ ghost use Rattle.reader.specs.Reader.{finishOf};
 ghost use Rattle.stream.specs.Answers.{answerFor};
 ghost use Rattle.counts.specs.Counts.{greatestCount};
 ghost use Rattle.text.specs.Put.{Puts};
-ghost use Rattle.mark_finder.specs.MarkFinder.{span, lastFour, numberBefore, kindBeforeIt, refusalIn, located, opening, freshFinder, findOf, Finds, passOf, Passes, isWanted};
+ghost use Rattle.mark_finder.specs.MarkFinder.{span, lastFour, numberBefore, kindBeforeIt, refusalIn, located, openingNext, freshFinder, findOf, Finds, endPieceOf, EndsPiece, isWanted};
 use profile::Profile;
 use reader::Reader;
 use stream::Answer;
@@ -49,7 +49,7 @@ pub struct Finder {
 }
 
 // A finder after a call, how many nibbles it took, whether a mark is answered, and that mark, with how many of its bytes are kept.
-pub struct Found {
+pub struct FoundMark {
     pub finder: Finder,
     pub taken: usize,
     pub answered: bool,
@@ -84,7 +84,7 @@ impl Finder {
     }
 
     // Takes the nibbles of a piece's bytes from a place on, up to the first answer.
-    pub fn find(self, piece: &[u8], from: usize, held: &mut [u8]) -> Found
+    pub fn find(self, piece: &[u8], from: usize, held: &mut [u8]) -> FoundMark
         ensures { λ r. ⌜ Finds (findOf self (now (piece .entry)) from (now (held .entry))) r (now (held .exit)) ⌝ }
     {
         let reader = self.reader;
@@ -97,9 +97,9 @@ impl Finder {
         let mark = self.locate(answer);
         if answer.is_answer() {
             let next = from + t.taken;
-            let length = keep(piece, self.begin, next / 2 + next % 2, held, self.length);
+            let length = keep_bytes(piece, self.begin, next / 2 + next % 2, held, self.length);
             let finder = self.open_next(reader, next);
-            return Found {
+            return FoundMark {
                 finder,
                 taken: t.taken,
                 answered: true,
@@ -116,7 +116,7 @@ impl Finder {
             begin: self.begin,
             length: self.length,
         };
-        Found {
+        FoundMark {
             finder,
             taken: t.taken,
             answered: false,
@@ -126,11 +126,11 @@ impl Finder {
     }
 
     // Leaves a piece that is taken: the open mark's bytes there are kept.
-    pub fn pass(self, piece: &[u8], held: &mut [u8]) -> Finder
-        ensures { λ r. ⌜ Passes (passOf self (now (piece .entry)) (now (held .entry))) r (now (held .exit)) ⌝ }
+    pub fn end_piece(self, piece: &[u8], held: &mut [u8]) -> Finder
+        ensures { λ r. ⌜ EndsPiece (endPieceOf self (now (piece .entry)) (now (held .entry))) r (now (held .exit)) ⌝ }
     {
         let n = piece.len();
-        let length = keep(piece, self.begin, n, held, self.length);
+        let length = keep_bytes(piece, self.begin, n, held, self.length);
         let offset = further(self.offset, less(n, OVERLAP));
         let reader = self.reader;
         Finder {
@@ -177,7 +177,7 @@ impl Finder {
 
     // The mark whose code ends just before a nibble of the piece.
     fn open_next(self, reader: Reader, next: usize) -> Finder
-        ensures { λ r. ⌜ r ≡ opening self reader next ⌝ }
+        ensures { λ r. ⌜ r ≡ openingNext self reader next ⌝ }
     {
         let start = less(next, MARK);
         let begin = start / 2;
@@ -225,7 +225,7 @@ pub fn is_wanted(mark: Located, wanted: u64) -> bool
 
 // Puts the bytes of a piece from one place up to another behind the first n of those held, as far as there is room, and gives how many are
 // held then.
-fn keep(piece: &[u8], begin: usize, to: usize, held: &mut [u8], n: usize) -> usize
+fn keep_bytes(piece: &[u8], begin: usize, to: usize, held: &mut [u8], n: usize) -> usize
     ensures { λ r. ⌜ Puts (now (held .entry)) n (span (now (piece .entry)) begin to) r (now (held .exit)) ⌝ }
 {
     let end = lesser(to, piece.len());

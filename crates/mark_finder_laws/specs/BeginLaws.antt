@@ -2,13 +2,13 @@
 use mathlib.Core.Path.{_≡_, refl, _∙_, ap, ap₂, sym, subst}
 use mathlib.Core.Bool.{Bool, true, false, cond, true≢false}
 use mathlib.Core.List.{List, [], _∷_, _++_, append-nil, append-assoc}
-use Prim.Native.Nat.{ℕ, suc, _+_, _-_, _≤_, _<_}
+use Prim.Native.Nat.{ℕ, _+_, _-_, _≤_, _<_}
 use native.Mathlib.Omega.{arith}
 use lib.ListN.{length, drop, length-append, length-drop}
 use lib.Seq.{drop-append-seam, drop-append-le}
 use Rattle.profile.specs.declared.Profile.{Profile}
 use Rattle.stream.specs.declared.Mark.{Mark}
-use Rattle.stream.specs.Answers.{Outcome, nothing, answerFor, isAnswer, turned}
+use Rattle.stream.specs.Answers.{Outcome, answerFor, isAnswer, turned}
 use Rattle.stream.specs.AnswersLaws.{no-answer}
 use Rattle.stream.specs.Stream.{State, Step, Completed, not-yet, mark, fresh, detect, advance, step, run, outcomes}
 use Rattle.recovery.specs.CleanAnswers.{saidIn, said}
@@ -16,7 +16,7 @@ use Rattle.recovery.specs.Collected.{collected-append}
 use Rattle.recovery.specs.CutTexts.{onto-append}
 use Rattle.recovery.specs.Marks.{onto, isMark, completes, MarkEnds, completes-there, marks-are-places}
 use Rattle.recovery.specs.ReadBack.{run-append, outcomes-append}
-use Rattle.mark_finder_laws.specs.Standing.{answers, startFrom, startIn, BeginsAt}
+use Rattle.mark_finder_laws.specs.Standing.{answers, beginFrom, beginIn, BeginsAt}
 
 -- Newest first, and back.
 
@@ -74,12 +74,12 @@ begins-more w v i b =
     within i w {h} {t} e = omega (arith, ap length e, length-drop i w)
 
 begins-on : (p : Profile) (v w : List ℕ) (s : ℕ) → (0 < length (answers p w) → BeginsAt w s) → 0 < length (answers p (w ++ v))
-    → BeginsAt (w ++ v) (startFrom s (length w) (outcomes p (run p fresh w) v))
+    → BeginsAt (w ++ v) (beginFrom s (length w) (outcomes p (run p fresh w) v))
 begins-on p [] w s b h = subst (λ (u : List ℕ). BeginsAt u s) (sym (append-nil w)) (b (subst (λ (u : List ℕ). 0 < length (answers p u)) (append-nil w) h))
 begins-on p (n ∷ v) w s b h =
-    subst (λ (u : List ℕ). BeginsAt u (startFrom s₁ (length w + 1) (outcomes p (x .state) v))) (append-assoc w (n ∷ []) v)
-    (subst (λ (q : State). BeginsAt (w₁ ++ v) (startFrom s₁ (length w + 1) (outcomes p q v))) (run-append p fresh w (n ∷ []))
-    (subst (λ (i : ℕ). BeginsAt (w₁ ++ v) (startFrom s₁ i (outcomes p (run p fresh w₁) v))) (length-append w (n ∷ []))
+    subst (λ (u : List ℕ). BeginsAt u (beginFrom s₁ (length w + 1) (outcomes p (x .state) v))) (append-assoc w (n ∷ []) v)
+    (subst (λ (q : State). BeginsAt (w₁ ++ v) (beginFrom s₁ (length w + 1) (outcomes p q v))) (run-append p fresh w (n ∷ []))
+    (subst (λ (i : ℕ). BeginsAt (w₁ ++ v) (beginFrom s₁ i (outcomes p (run p fresh w₁) v))) (length-append w (n ∷ []))
     (begins-on p v w₁ s₁ (go (isAnswer (answerFor (x .outcome))) refl) (subst (λ (u : List ℕ). 0 < length (answers p u)) (sym (append-assoc w (n ∷ []) v)) h))))
   where
     x : Step
@@ -102,7 +102,7 @@ begins-on p (n ∷ v) w s b h =
         (b (subst (λ (os : List Outcome). 0 < length os) (told ∙ ap (λ (o : Outcome). answers p w ++ (saidIn o ++ [])) (no-answer (x .outcome) e) ∙ append-nil (answers p w)) g)))
 
 -- after any nibbles that brought an answer, the open mark begins where it is said to
-pub marks-begin : (p : Profile) (w : List ℕ) → 0 < length (answers p w) → BeginsAt w (startIn p w)
+pub marks-begin : (p : Profile) (w : List ℕ) → 0 < length (answers p w) → BeginsAt w (beginIn p w)
 marks-begin p w h = begins-on p w [] 0 (λ g. absurd (none g)) h
   where
     none : 0 < 0 → ⊥

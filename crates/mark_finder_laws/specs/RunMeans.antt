@@ -1,5 +1,5 @@
 -- A run from a reader that stands for a state of the meaning: its nibbles bring what it answers, and nothing before.
-use mathlib.Core.Path.{_≡_, refl, _∙_, ap, ap₂, sym, subst}
+use mathlib.Core.Path.{_≡_, refl, _∙_, ap, sym, subst}
 use mathlib.Core.Bool.{Bool, true, false, cond, true≢false}
 use mathlib.Core.List.{List, [], _∷_, _++_, append-nil}
 use Prim.Native.Nat.{ℕ, suc, _+_, _-_, _≤_}
@@ -18,7 +18,7 @@ use Rattle.run.specs.Run.{Ran, ran, onward}
 use Rattle.reader_laws.specs.Passing.{Small, small-none, small-more}
 use Rattle.recovery.specs.CleanAnswers.{saidIn, said}
 use Rattle.refinement.specs.Refine.{Follows, Steps, taking-steps}
-use Rattle.mark_finder_laws.specs.Standing.{startFrom}
+use Rattle.mark_finder_laws.specs.Standing.{beginFrom}
 
 -- of the nibbles v from the state s on, i taken before
 pub record RunMeans (p : Profile) (s : State) (v : List ℕ) (i : ℕ) (t : Ran) : Type 0 where
@@ -27,7 +27,7 @@ pub record RunMeans (p : Profile) (s : State) (v : List ℕ) (i : ℕ) (t : Ran)
   pub within : count ≤ length v
   pub follows : Follows p (t .reader) (run p s (take count v))
   pub says : said (outcomes p s (take count v)) ≡ saidIn (t .outcome)
-  pub starts : (b j : ℕ) → startFrom b j (outcomes p s (take count v)) ≡ cond (isAnswer (answerFor (t .outcome))) (j + count - 8) b
+  pub starts : (b j : ℕ) → beginFrom b j (outcomes p s (take count v)) ≡ cond (isAnswer (answerFor (t .outcome))) (j + count - 8) b
   pub whole : isAnswer (answerFor (t .outcome)) ≡ false → count ≡ length v
 
 pub run-means : (p : Profile) {v : List ℕ} → Small v → (r : Reader) (s : State) (i : ℕ) → Follows p r s → RunMeans p s v i (onward r v i)
@@ -68,7 +68,7 @@ run-means p (small-more {n} {t = w} h q) r s i f = go (isAnswer (answerFor (t .o
           follows = m .follows;
           says = ap (λ (o : Outcome). saidIn o ++ said (outcomes p (step p s n .state) (take (m .count) w))) quiet ∙ m .says;
           starts = λ b j.
-              ap (λ (o : Outcome). startFrom (cond (isAnswer (answerFor o)) (j + 1 - 8) b) (j + 1) (outcomes p (step p s n .state) (take (m .count) w))) quiet
+              ap (λ (o : Outcome). beginFrom (cond (isAnswer (answerFor o)) (j + 1 - 8) b) (j + 1) (outcomes p (step p s n .state) (take (m .count) w))) quiet
               ∙ m .starts b (j + 1)
               ∙ ap (λ (x : ℕ). cond (isAnswer (answerFor (onward (t .reader) w (i + 1) .outcome))) (x - 8) b) (let z : j + 1 + m .count ≡ j + suc (m .count) = omega arith in z);
           whole = λ g. ap suc (m .whole g);

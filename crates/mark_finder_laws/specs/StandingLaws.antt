@@ -32,17 +32,17 @@ use Rattle.refinement.specs.Stored.{stored-length}
 use Rattle.capture_bytes.specs.Unpacked.{runFrom}
 use Rattle.capture_bytes.specs.UnpackedLaws.{nibbles-small}
 use Rattle.mark_finder.specs.declared.Finder.{Finder}
-use Rattle.mark_finder.specs.MarkFinder.{freshFinder, span, kindBeforeIt, refusalIn, located, answering, goingOn, findBy, findOf, passOf}
-use Rattle.mark_finder_laws.specs.Standing.{front, soFar, answers, startFrom, startIn, Keeps, Stands, FindsNext}
+use Rattle.mark_finder.specs.MarkFinder.{freshFinder, span, kindBeforeIt, refusalIn, located, answering, goingOn, findBy, findOf, endPieceOf}
+use Rattle.mark_finder_laws.specs.Standing.{frontPiece, soFar, answers, beginFrom, beginIn, KeepsBytes, StandsAt, FindsNext}
 use Rattle.mark_finder_laws.specs.RunMeans.{RunMeans, run-means}
 
 -- Outcomes, and outcomes after them.
 
-start-append : (os qs : List Outcome) (s i : ℕ) → startFrom s i (os ++ qs) ≡ startFrom (startFrom s i os) (i + length os) qs
-start-append [] qs s i = ap (λ (j : ℕ). startFrom s j qs) (sym (add-zero i))
+start-append : (os qs : List Outcome) (s i : ℕ) → beginFrom s i (os ++ qs) ≡ beginFrom (beginFrom s i os) (i + length os) qs
+start-append [] qs s i = ap (λ (j : ℕ). beginFrom s j qs) (sym (add-zero i))
 start-append (o ∷ os) qs s i =
     start-append os qs (cond (isAnswer (answerFor o)) (i + 1 - 8) s) (i + 1)
-    ∙ ap (λ (j : ℕ). startFrom (startFrom (cond (isAnswer (answerFor o)) (i + 1 - 8) s) (i + 1) os) j qs) (let z : i + 1 + length os ≡ i + suc (length os) = omega arith in z)
+    ∙ ap (λ (j : ℕ). beginFrom (beginFrom (cond (isAnswer (answerFor o)) (i + 1 - 8) s) (i + 1) os) j qs) (let z : i + 1 + length os ≡ i + suc (length os) = omega arith in z)
 
 said-answer : (o : Outcome) → isAnswer (answerFor o) ≡ true → saidIn o ≡ o ∷ []
 said-answer nothing e = absurd (true≢false (sym e))
@@ -64,8 +64,8 @@ so-far-more before piece from k =
 
 -- A mark's bytes, with more of the piece.
 
-keeps-more : {before piece : List ℕ} {start begin to n n′ : ℕ} {held held′ : List ℕ} → Keeps before piece start begin n held → begin ≤ to
-    → Puts held n (span piece begin to) n′ held′ → Keeps before piece start to n′ held′
+keeps-more : {before piece : List ℕ} {start begin to n n′ : ℕ} {held held′ : List ℕ} → KeepsBytes before piece start begin n held → begin ≤ to
+    → Puts held n (span piece begin to) n′ held′ → KeepsBytes before piece start to n′ held′
 keeps-more {before} {piece} {start} {begin} {to} k h q =
     record {
       older = k .older;
@@ -83,7 +83,7 @@ keeps-more {before} {piece} {start} {begin} {to} k h q =
 
 -- A call.
 
-module _ {p : Profile} {before piece : List ℕ} {from : ℕ} {f : Finder} {held : List ℕ} (s : Stands p before piece from f held)
+module _ {p : Profile} {before piece : List ℕ} {from : ℕ} {f : Finder} {held : List ℕ} (s : StandsAt p before piece from f held)
     (known : (i : ℕ) → getD piece i 0 < 256) (within : from ≤ 2 * length piece) (eight : isAnswer (answerFor (runFrom (f .reader .head) (f .reader .body) piece from longest .outcome)) ≡ true → 8 ≤ from)
     (few : f .number < greatestCount) (small : length before + length piece ≤ greatestCount) where
   abbrev u : List ℕ
@@ -128,20 +128,20 @@ module _ {p : Profile} {before piece : List ℕ} {from : ℕ} {f : Finder} {held
       ∙ collected-append saidIn (outcomes p fresh u) (outcomes p x (take (m .count) v))
       ∙ ap (λ (os : List Outcome). answers p u ++ os) (m .says)
 
-  start-there : startIn p (soFar before piece (from + t .taken)) ≡ cond (isAnswer (answerFor (t .outcome))) (2 * length before + (from + t .taken) - 8) (startIn p u)
+  start-there : beginIn p (soFar before piece (from + t .taken)) ≡ cond (isAnswer (answerFor (t .outcome))) (2 * length before + (from + t .taken) - 8) (beginIn p u)
   start-there =
-      ap (startFrom 0 0) outcomes-there
+      ap (beginFrom 0 0) outcomes-there
       ∙ start-append (outcomes p fresh u) (outcomes p x (take (m .count) v)) 0 0
-      ∙ m .starts (startIn p u) (0 + length (outcomes p fresh u))
-      ∙ ap (λ (k : ℕ). cond (isAnswer (answerFor (t .outcome))) (k - 8) (startIn p u))
+      ∙ m .starts (beginIn p u) (0 + length (outcomes p fresh u))
+      ∙ ap (λ (k : ℕ). cond (isAnswer (answerFor (t .outcome))) (k - 8) (beginIn p u))
       (let z : 0 + length (outcomes p fresh u) + m .count ≡ 2 * length before + (from + t .taken) =
       omega (arith, outcomes-length p fresh u, so-far-length before piece from within, taken-is) in z)
 
   -- none is answered
   quiet : isAnswer (answerFor (t .outcome)) ≡ false → FindsNext p before piece from (goingOn f held t)
   quiet e =
-      let same : startIn p (soFar before piece (from + t .taken)) ≡ startIn p u =
-      start-there ∙ ap (λ (b : Bool). cond b (2 * length before + (from + t .taken) - 8) (startIn p u)) e in
+      let same : beginIn p (soFar before piece (from + t .taken)) ≡ beginIn p u =
+      start-there ∙ ap (λ (b : Bool). cond b (2 * length before + (from + t .taken) - 8) (beginIn p u)) e in
       let none : answers p (soFar before piece (from + t .taken)) ≡ answers p u =
       answers-there ∙ ap (λ (o : Outcome). answers p u ++ saidIn o) (no-answer (t .outcome) e) ∙ append-nil (answers p u) in
       let far = s .begins in
@@ -154,7 +154,7 @@ module _ {p : Profile} {before piece : List ℕ} {from : ℕ} {f : Finder} {held
               place-is = s .place-is ∙ ap (λ (k : ℕ). k / 2) (sym same);
               low-is = s .low-is ∙ ap (λ (k : ℕ). eqb (k % 2) 1) (sym same);
               begins = omega arith;
-              keeps = subst (λ (k : ℕ). Keeps before piece k (f .begin) (f .length) held) (sym same) (s .keeps);
+              keeps = subst (λ (k : ℕ). KeepsBytes before piece k (f .begin) (f .length) held) (sym same) (s .keeps);
             };
         tells = λ g. absurd (true≢false (sym g));
         ends = λ g. omega (arith, taken-is, m .whole e, length-drop from (nibbles piece), nibbles-length piece, within);
@@ -166,15 +166,15 @@ module _ {p : Profile} {before piece : List ℕ} {from : ℕ} {f : Finder} {held
   heard e =
       let next : ℕ = from + t .taken in
       let i : ℕ = (next - 8) / 2 in
-      let there : startIn p (soFar before piece next) ≡ 2 * length before + next - 8 =
-      start-there ∙ ap (λ (b : Bool). cond b (2 * length before + next - 8) (startIn p u)) e in
+      let there : beginIn p (soFar before piece next) ≡ 2 * length before + next - 8 =
+      start-there ∙ ap (λ (b : Bool). cond b (2 * length before + next - 8) (beginIn p u)) e in
       let more : answers p (soFar before piece next) ≡ answers p u ++ (t .outcome ∷ []) =
       answers-there ∙ ap (λ (os : List Outcome). answers p u ++ os) (said-answer (t .outcome) e) in
       let far = s .begins in
       let to : ℕ = next / 2 + next % 2 in
       let at = inside in
       let far-on = eight (ap (λ (y : Ran). isAnswer (answerFor (y .outcome))) goes ∙ e) in
-      let put : Keeps before piece (startIn p u) to (answering f piece next held t .found .length) (answering f piece next held t .buffer) =
+      let put : KeepsBytes before piece (beginIn p u) to (answering f piece next held t .found .length) (answering f piece next held t .buffer) =
       keeps-more (s .keeps) (omega arith) (record { place = refl; stored = refl }) in
       record {
         stands =
@@ -185,8 +185,8 @@ module _ {p : Profile} {before piece : List ℕ} {from : ℕ} {f : Finder} {held
                   ∙ (let z : f .number + 1 ≡ length (answers p (soFar before piece next)) =
                   omega (arith, s .number-is, ap length more, length-append (answers p u) (t .outcome ∷ [])) in z);
               offset-is = s .offset-is;
-              place-is = (let z : min (f .offset + i) greatestCount ≡ startIn p (soFar before piece next) / 2 = omega (arith, there, s .offset-is) in z);
-              low-is = ap (λ (k : ℕ). eqb k 1) (let z : (next - 8) % 2 ≡ startIn p (soFar before piece next) % 2 = omega (arith, there) in z);
+              place-is = (let z : min (f .offset + i) greatestCount ≡ beginIn p (soFar before piece next) / 2 = omega (arith, there, s .offset-is) in z);
+              low-is = ap (λ (k : ℕ). eqb k 1) (let z : (next - 8) % 2 ≡ beginIn p (soFar before piece next) % 2 = omega (arith, there) in z);
               begins = omega arith;
               keeps =
                   record {
@@ -195,7 +195,7 @@ module _ {p : Profile} {before piece : List ℕ} {from : ℕ} {f : Finder} {held
                     splits = append-nil (before ++ take i piece);
                     older-is =
                         length-append before (take i piece)
-                        ∙ (let z : length before + length (take i piece) ≡ startIn p (soFar before piece next) / 2 =
+                        ∙ (let z : length before + length (take i piece) ≡ beginIn p (soFar before piece next) / 2 =
                         omega (arith, there, length-take-le i piece (omega arith)) in z);
                     base = answering f piece next held t .buffer;
                     kept = puts-none _ 0;
@@ -230,7 +230,7 @@ module _ {p : Profile} {before piece : List ℕ} {from : ℕ} {f : Finder} {held
 -- The first piece.
 
 -- a fresh finder stands before it
-fresh-stands : (p : Profile) (held : List ℕ) → Stands p [] front 0 (freshFinder p) held
+fresh-stands : (p : Profile) (held : List ℕ) → StandsAt p [] frontPiece 0 (freshFinder p) held
 fresh-stands p held =
     record {
       follows = fresh-follows p;
@@ -242,7 +242,7 @@ fresh-stands p held =
       keeps = record { older = []; bytes = []; splits = refl; older-is = refl; base = held; kept = puts-none held 0 };
     }
 
-front-bytes : (i : ℕ) → getD front i 0 < 256
+front-bytes : (i : ℕ) → getD frontPiece i 0 < 256
 front-bytes zero = omega arith
 front-bytes (suc zero) = omega arith
 front-bytes (suc (suc zero)) = omega arith
@@ -264,20 +264,20 @@ silent (gap g) e = absurd (absurdly (ap length e))
 silent (refused n) e = absurd (absurdly (ap length e))
 
 -- it is taken, and nothing is answered there
-pub front-taken : (p : Profile) (held : List ℕ) → FindsNext p [] front 0 (findOf (freshFinder p) front 0 held)
+pub front-taken : (p : Profile) (held : List ℕ) → FindsNext p [] frontPiece 0 (findOf (freshFinder p) frontPiece 0 held)
 front-taken p held =
     finds-next (fresh-stands p held) front-bytes (omega arith) (λ e. absurd (true≢false (sym e ∙ none))) (omega arith) (omega arith)
   where
     v₀ : List ℕ
-    v₀ = nibbles front
+    v₀ = nibbles frontPiece
 
     t₀ : Ran
     t₀ = onward (freshReader p) v₀ 0
 
     m₀ : RunMeans p fresh v₀ 0 t₀
-    m₀ = run-means p (nibbles-small front front-bytes) (freshReader p) fresh 0 (fresh-follows p)
+    m₀ = run-means p (nibbles-small frontPiece front-bytes) (freshReader p) fresh 0 (fresh-follows p)
 
-    none : isAnswer (answerFor (runFrom (freshReader p .head) (freshReader p .body) front 0 longest .outcome)) ≡ false
+    none : isAnswer (answerFor (runFrom (freshReader p .head) (freshReader p .body) frontPiece 0 longest .outcome)) ≡ false
     none =
         ap (λ (y : Ran). isAnswer (answerFor (y .outcome))) (lent-onward (freshReader p .head) (freshReader p .body) v₀ longest (fresh-follows p .ok) (length-replicate {A = ℕ} longest 0) refl)
         ∙ silent (t₀ .outcome)
@@ -286,10 +286,10 @@ front-taken p held =
 -- A piece that is left.
 
 -- the next one begins with its last four bytes
-pub pass-stands : (p : Profile) (before piece : List ℕ) (f : Finder) (held more : List ℕ) → Stands p before piece (2 * length piece) f held
+pub pass-stands : (p : Profile) (before piece : List ℕ) (f : Finder) (held more : List ℕ) → StandsAt p before piece (2 * length piece) f held
     → 4 ≤ length piece → length before + length piece ≤ greatestCount
-    → Stands p (before ++ take (length piece - 4) piece) (drop (length piece - 4) piece ++ more) 8 (passOf f piece held .finder) (passOf f piece held .buffer)
-unfolding passOf
+    → StandsAt p (before ++ take (length piece - 4) piece) (drop (length piece - 4) piece ++ more) 8 (endPieceOf f piece held .finder) (endPieceOf f piece held .buffer)
+unfolding endPieceOf
 pass-stands p before piece f held more s four small =
     record {
       follows = subst (λ (w : List ℕ). Follows p (f .reader) (run p fresh w)) (sym same) (s .follows);
@@ -297,15 +297,15 @@ pass-stands p before piece f held more s four small =
       offset-is =
           (let z : min (f .offset + k) greatestCount ≡ length before + length (take k piece) = omega (arith, s .offset-is, length-take-le k piece (omega arith)) in z)
           ∙ sym (length-append before (take k piece));
-      place-is = s .place-is ∙ ap (λ (w : List ℕ). startIn p w / 2) (sym same);
-      low-is = s .low-is ∙ ap (λ (w : List ℕ). eqb (startIn p w % 2) 1) (sym same);
+      place-is = s .place-is ∙ ap (λ (w : List ℕ). beginIn p w / 2) (sym same);
+      low-is = s .low-is ∙ ap (λ (w : List ℕ). eqb (beginIn p w % 2) 1) (sym same);
       begins = omega arith;
       keeps =
           record {
             older = put .older;
             bytes = put .bytes;
             splits = put .splits ∙ joined;
-            older-is = put .older-is ∙ ap (λ (w : List ℕ). startIn p w / 2) (sym same);
+            older-is = put .older-is ∙ ap (λ (w : List ℕ). beginIn p w / 2) (sym same);
             base = put .base;
             kept = put .kept;
           };
@@ -331,7 +331,7 @@ pass-stands p before piece f held more s four small =
         ∙ ap (λ (w : List ℕ). nibbles before ++ w)
         (sym (nibbles-append (take k piece) last) ∙ ap nibbles (take-append-drop k piece) ∙ sym (take-all (2 * n) (nibbles piece) (omega (arith, nibbles-length piece))))
 
-    put : Keeps before piece (startIn p (soFar before piece (2 * n))) n (passOf f piece held .finder .length) (passOf f piece held .buffer)
+    put : KeepsBytes before piece (beginIn p (soFar before piece (2 * n))) n (endPieceOf f piece held .finder .length) (endPieceOf f piece held .buffer)
     put = let far = s .begins in keeps-more (s .keeps) (omega arith) (record { place = refl; stored = refl })
 
     joined : before ++ take n piece ≡ (before ++ take k piece) ++ take 4 (last ++ more)
@@ -341,7 +341,7 @@ pass-stands p before piece f held more s four small =
         ∙ ap (λ (w : List ℕ). (before ++ take k piece) ++ w) (sym (take-at last more 4 last-four))
 
 -- The end of the capture: the last mark is answered as the meaning's finish does.
-pub last-answer-is : {p : Profile} {before piece : List ℕ} {from : ℕ} {f : Finder} {held : List ℕ} → Stands p before piece from f held
+pub last-answer-is : {p : Profile} {before piece : List ℕ} {from : ℕ} {f : Finder} {held : List ℕ} → StandsAt p before piece from f held
     → located f (answerFor (finishOf (f .reader) .outcome)) .refusal ≡ refusalIn (answerFor (finish p (run p fresh (soFar before piece from)) .outcome))
 last-answer-is {p} {before} {piece} {from} {f} s =
     ap (λ (o : Outcome). refusalIn (answerFor o)) (finish-steps p (f .reader) (run p fresh (soFar before piece from)) (s .follows) .outcome-same)

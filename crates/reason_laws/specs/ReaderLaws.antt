@@ -1,12 +1,12 @@
 -- The number is the reader's own (02, A9): read after any nibbles from a fresh state, the run's first mark is answered with the reason's number;
--- so answer the meaning and the reader that runs.
+-- so answer the meaning, the reader that is fed singly, and any list of its calls.
 use mathlib.Core.Path.{_≡_, refl, _∙_, ap, ap₂, sym}
-use mathlib.Core.Bool.{true, false, true≢false}
+use mathlib.Core.Bool.{Bool, true, false, true≢false}
 use mathlib.Core.List.{List, [], _∷_, _++_, append-assoc}
 use Prim.Native.Nat.{ℕ, suc, _+_, _*_, _≤_}
 use native.Mathlib.Omega.{arith}
 use lib.Dec.{leb}
-use lib.ListN.{length, drop, length-append}
+use lib.ListN.{length, take, drop, length-append, take-append-drop}
 use lib.Seq.{drop-append-seam}
 use borrow.Author.Tests.{le-leb, leb-true}
 use Rattle.bits.specs.Every.{and-left, and-right}
@@ -15,10 +15,13 @@ use Rattle.line_code.specs.LineCode.{kindNumbered, meaningOf, readingOf}
 use Rattle.profile.specs.declared.Profile.{Profile}
 use Rattle.profile.specs.declared.Profile.the-variants.{VV5404, VV5300}
 use Rattle.profile.specs.Profile.{profileNumbered, profileNumber, bodyLength}
-use Rattle.stream.specs.Answers.{Outcome, turned, answerOf}
+use Rattle.stream.specs.Answers.{Outcome, nothing, line, gap, refused, turned, answerOf}
 use Rattle.stream.specs.Stream.{State, Completed, not-yet, mark, fresh, detect, kindAt, advance, step, finish, run, outcomes}
 use Rattle.recovery.specs.Marks.{onto, isMark, completes, marks-are-places}
 use Rattle.recovery.specs.Calls.{markNibbles}
+use Rattle.recovery.specs.CallAnswers.{markCollector, broughtBy}
+use Rattle.recovery.specs.CleanAnswers.{saidIn, said}
+use Rattle.recovery.specs.Collected.{collected-append}
 use Rattle.recovery.specs.CutTexts.{onto-append}
 use Rattle.recovery.specs.Resync.{stateWith}
 use Rattle.recovery.specs.ReadBack.{run-append, outcomes-append}
@@ -26,9 +29,12 @@ use Rattle.reader.specs.Reader.{freshReader}
 use Rattle.reader_laws.specs.Passing.{Small, small-none, small-more}
 use Rattle.reader_laws.specs.SmallLaws.{small-append}
 use Rattle.refinement.specs.Refine.{fresh-follows, fedReader, fed-follows, refines, finish-refines}
+use Rattle.refinement.specs.RunAnswers.{runsFinish}
+use Rattle.refinement.specs.RunAnswersLaws.{runs-said}
+use Rattle.refinement.specs.Runs.{RunCall, FinishLastRun, runsTaken, runsCollected}
 use Rattle.reason.specs.ExplanationLaws.{begun}
 use Rattle.reason.specs.Explanation.{opener, beginsMark, textIn, nextIn, firstReason, afterOpener, nibblesOnly, lastKind, runReason, explanation}
-use Rattle.reason_laws.specs.Short.{inShort, shortOf, codeOr, kindBefore, firstAnswer, answerGiven, readerGives}
+use Rattle.reason_laws.specs.Short.{inShort, shortOf, codeOr, kindBefore, firstAnswer, answerGiven, readerGives, answersBefore, callsGive}
 use Rattle.reason_laws.specs.NumberLaws.{reason-said}
 use Rattle.reason_laws.specs.MarkLaws.{answerFrom, open-answer, Opened, first-opens}
 
@@ -95,6 +101,37 @@ number-of-the-reader p room roomy w₀ w k n₀ h n b e =
     let s = small-append (small w₀ n₀) (small w n) in
     ap inShort
     (ap₂ (λ (os : List Outcome) (o : Outcome). firstAnswer (drop (length w₀ + markNibbles) os) o) (refines p room roomy s) (finish-refines p room roomy s))
+    ∙ number-of-the-meaning p w₀ k w h n b e
+
+-- the first answer, of the answers alone
+first-said : (os : List Outcome) (o : Outcome) → firstAnswer (said (os ++ (o ∷ []))) nothing ≡ firstAnswer os o
+first-said [] nothing = refl
+first-said [] (line f body) = refl
+first-said [] (gap g) = refl
+first-said [] (refused n) = refl
+first-said (nothing ∷ os) o = first-said os o
+first-said (line f body ∷ os) o = refl
+first-said (gap g ∷ os) o = refl
+first-said (refused n ∷ os) o = refl
+
+-- and so over any list of calls, singles and runs, that take w₀ and then the run, with finish last
+pub number-of-the-calls : (p : Profile) (w₀ w : List ℕ) (k : ℕ) {cs : List RunCall} → FinishLastRun cs → runsFinish cs ≡ true
+    → runsTaken (freshReader p) cs ≡ w₀ ++ w → k ≤ lastKind → nibblesOnly w ≡ true → beginsMark w ≡ true → kindBefore p w₀ ≡ kindNumbered k
+    → inShort (callsGive p w₀ w cs) ≡ shortOf (explanation (profileNumber p) k w)
+number-of-the-calls p w₀ w k {cs} last ended taken h n b e =
+    let all : List ℕ = w₀ ++ w in
+    let i : ℕ = length w₀ + markNibbles in
+    let os : List Outcome = outcomes p fresh all in
+    let o : Outcome = finish p (run p fresh all) .outcome in
+    let told : runsCollected markCollector p (freshReader p) cs ≡ said (take i os) ++ said (drop i os ++ (o ∷ [])) =
+    runs-said p last
+    ∙ ap₂ (λ (v : List ℕ) (c : Bool). said (broughtBy p fresh v c)) taken ended
+    ∙ ap (λ (l : List Outcome). said (l ++ (o ∷ []))) (sym (take-append-drop i os))
+    ∙ ap said (append-assoc (take i os) (drop i os) (o ∷ []))
+    ∙ collected-append saidIn (take i os) (drop i os ++ (o ∷ [])) in
+    ap (λ (l : List Outcome). inShort (firstAnswer (drop (answersBefore p w₀ w) l) nothing)) told
+    ∙ ap (λ (l : List Outcome). inShort (firstAnswer l nothing)) (drop-append-seam (said (take i os)) (said (drop i os ++ (o ∷ []))))
+    ∙ ap inShort (first-said (drop i os) o)
     ∙ number-of-the-meaning p w₀ k w h n b e
 
 -- the kind of the mark before is the one that the reader itself keeps

@@ -3,7 +3,7 @@
 use mathlib.Core.List.{List, [], _∷_, _++_}
 use mathlib.Core.Option.{Option, none, some}
 use Prim.Native.Nat.{ℕ, _+_}
-use lib.ListN.{length, drop}
+use lib.ListN.{length, take, drop}
 use Rattle.line_code.specs.declared.LineKind.{LineKind}
 use Rattle.line_code.specs.declared.LineKind.the-variants.{NotLine, LineOf}
 use Rattle.profile.specs.declared.Profile.{Profile}
@@ -13,7 +13,10 @@ use Rattle.stream.specs.Answers.{Outcome, nothing, line, gap, refused}
 use Rattle.stream.specs.Stream.{fresh, kindAt, finish, run, outcomes}
 use Rattle.reader.specs.Reader.{freshReader, finishOf}
 use Rattle.recovery.specs.Calls.{markNibbles}
+use Rattle.recovery.specs.CallAnswers.{markCollector}
+use Rattle.recovery.specs.CleanAnswers.{said}
 use Rattle.refinement.specs.Refine.{fedReader, fedOutcomes}
+use Rattle.refinement.specs.Runs.{RunCall, runsCollected}
 use Rattle.reason.specs.declared.Next.{Next}
 use Rattle.reason.specs.declared.Next.the-variants.{Finish, Code}
 use Rattle.reason.specs.declared.Reason.{Reason}
@@ -76,3 +79,11 @@ abbrev pub readerGives : (ℕ → ℕ) → Profile → List ℕ → List ℕ →
 readerGives room p w₀ w =
     firstAnswer (drop (length w₀ + markNibbles) (fedOutcomes room (freshReader p) (w₀ ++ w)))
     (finishOf (fedReader room (freshReader p) (w₀ ++ w)) .outcome)
+
+-- how many answers come before that of the mark that w begins with
+abbrev pub answersBefore : Profile → List ℕ → List ℕ → ℕ
+answersBefore p w₀ w = length (said (take (length w₀ + markNibbles) (outcomes p fresh (w₀ ++ w))))
+
+-- the mark's answer among those of any calls, singles and runs
+abbrev pub callsGive : Profile → List ℕ → List ℕ → List RunCall → Outcome
+callsGive p w₀ w cs = firstAnswer (drop (answersBefore p w₀ w) (runsCollected markCollector p (freshReader p) cs)) nothing

@@ -53,14 +53,14 @@ pub fn put_explained(
         ),
         Reason::NoEndOfLine(next) => put_end(code, next, out, at),
         Reason::EndWithoutLine => put(b"refused 8: end of line without a line before it", out, at),
-        Reason::BadGap(place, _) => put_count(
+        Reason::BadGap(place, _) => put_counted(
             b"refused 9: end of line, a bad gap from its nibble ",
             place as u64,
             b" on",
             out,
             at,
         ),
-        Reason::ShortGap(length) => put_count(
+        Reason::ShortGap(length) => put_counted(
             b"refused 9: end of line, a gap of ",
             length as u64,
             b" nibbles, 4 at least are wanted",
@@ -239,7 +239,7 @@ fn put_end(code: u8, next: u8, out: &mut [u8], at: usize) -> usize
 }
 
 // A number among words.
-fn put_count(words: &[u8], count: u64, rest: &[u8], out: &mut [u8], at: usize) -> usize
+fn put_counted(words: &[u8], count: u64, rest: &[u8], out: &mut [u8], at: usize) -> usize
     ensures { λ r. ⌜ Puts (now (out .entry)) at (countWords (now (words .entry)) count (now (rest .entry))) r (now (out .exit)) ⌝ }
 {
     let at = put(words, out, at);

@@ -249,7 +249,7 @@ fn seek_piece(
             }
         }
     }
-    let finder = finder.pass(piece, held);
+    let finder = finder.end_piece(piece, held);
     Search {
         finder,
         told,

@@ -19,36 +19,6 @@ returns-2 : tie.Need-returns-2
 unfolding lastFour
 returns-2 c = simp (le-ltb _ _ (c .before .if1 .left), lt-ltb _ _ (c .if2 .taken))
 
-slice-read-t7 : tie.Need-slice-read-t7
-slice-read-t7 c = search needs
-
-sub-t8 : tie.Need-sub-t8
-sub-t8 c = search needs
-
-slice-read-t10 : tie.Need-slice-read-t10
-slice-read-t10 c = search needs
-
-sub-t11 : tie.Need-sub-t11
-sub-t11 c = search needs
-
-slice-read-t13 : tie.Need-slice-read-t13
-slice-read-t13 c = search needs
-
-sub-t14 : tie.Need-sub-t14
-sub-t14 c = search needs
-
-slice-read-t16 : tie.Need-slice-read-t16
-slice-read-t16 c = search needs
-
-slice-aggregate-put : tie.Need-slice-aggregate-put
-slice-aggregate-put c = search needs
-
-put-requires : tie.Need-put-requires
-put-requires c κs = search needs
-
-same-length : tie.Need-same-length
-same-length c = search needs
-
 returns-3 : tie.Need-returns-3
 unfolding lastFour
 returns-3 c =
@@ -65,14 +35,14 @@ carry-spec =
     (tie.spec
     returns
     returns-2
-    slice-read-t7
-    sub-t8
-    slice-read-t10
-    sub-t11
-    slice-read-t13
-    sub-t14
-    slice-read-t16
-    slice-aggregate-put
-    put-requires
-    same-length
+    (λ c. search needs)
+    (λ c. search needs)
+    (λ c. search needs)
+    (λ c. search needs)
+    (λ c. search needs)
+    (λ c. search needs)
+    (λ c. search needs)
+    (λ c. search needs)
+    (λ c κs. search needs)
+    (λ c. search needs)
     returns-3)

@@ -79,14 +79,14 @@ unfolding explainedWords
 returns-11 c =
     let put = c .before .before in
     let told = put .before .before .before .before .before in
-    simp (told .why6 .given .1) (put .put-count .ensures)
+    simp (told .why6 .given .1) (put .put-counted .ensures)
 
 returns-12 : tie.Need-returns-12
 unfolding explainedWords
 returns-12 c =
     let put = c .before .before in
     let told = put .before .before .before .before .before in
-    simp (told .why7 .given .1) (put .put-count2 .ensures)
+    simp (told .why7 .given .1) (put .put-counted2 .ensures)
 
 returns-13 : tie.Need-returns-13
 unfolding explainedWords

@@ -1,5 +1,5 @@
 -- The count of turns falls at each turn; the buffers keep their lengths.
-use mathlib.Core.Path.{_≡_, refl}
+use mathlib.Core.Path.{_≡_}
 use lib.ListN.{length}
 use borrow.Author.Needs.{needs}
 use Rattle.why.proofs.seek_in.Statement.{statement}
