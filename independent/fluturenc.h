@@ -209,6 +209,37 @@ uint8_t fluturenc_why(uint8_t profile, uint8_t before, const uint8_t *run, size_
 uint8_t fluturenc_half_means(uint8_t profile, uint8_t kind, const uint8_t *body, size_t body_length, uint8_t first, uint8_t second, double *mean1,
                              double *mean2, int32_t *beside1, int32_t *beside2);
 
+/* ---- Saved exposure settings: crate fluturenc_settings. */
+
+/* A list of eight saved settings is bytes, which may be moved, copied and kept in a file: eight places end to end, the used ones first, oldest first,
+ * their versions in unbroken sequence. A place is version, fine and coarse exposure, each in two bytes, high byte first, gain code and clock divisor.
+ * Version 0 marks an unused place: a fresh list is all 0. */
+#define FLUTURENC_SETTING 8
+
+/* The bytes of the messages that write a setting to a sensor. */
+#define FLUTURENC_SETTING_MESSAGES 18
+
+/* The bytes of a list, no more and no fewer. */
+size_t fluturenc_settings_length(void);
+
+/* Saves a setting: one more than the newest version goes to `version`, 1 in an empty list. Fine exposure above 360 at 30 frames a second, or 438 at
+ * 25, and coarse exposure above 302 are clipped; where eight stand, the oldest is dropped. Refused, and then 0 goes to `version`: 37 not such a
+ * list, 29 a gain code that is not 0, 1, 3 or 7, a divisor above 3, or a rate other than 25 or 30, 31 the newest version is 65535. */
+uint8_t fluturenc_settings_save(uint8_t *list, size_t list_length, uint16_t fine, uint16_t coarse, uint8_t gain, uint8_t divisor, uint8_t rate,
+                                uint16_t *version);
+
+/* Puts the FLUTURENC_SETTING bytes of the setting under a version at the front of `setting`. Refused: 37, 30 the version is not held, as 0 never is,
+ * 12 too little room. */
+uint8_t fluturenc_settings_find(const uint8_t *list, size_t list_length, uint16_t version, uint8_t *setting, size_t setting_length);
+
+/* Goes back: saves a copy of the setting under a version, as it stands, and puts its new version at `new_version`. Refused, and then 0 goes there:
+ * 37, 30, 31. */
+uint8_t fluturenc_settings_back(uint8_t *list, size_t list_length, uint16_t version, uint16_t *new_version);
+
+/* Writes the messages of three bytes each that write the setting under a version to registers 32 to 37 of a VV5404 or VV6404. Refused: 37, 30, 12. */
+uint8_t fluturenc_settings_messages(const uint8_t *list, size_t list_length, uint16_t version, uint8_t *messages, size_t messages_length,
+                                    size_t *written);
+
 #ifdef __cplusplus
 }
 #endif

@@ -13,6 +13,7 @@ pub mod picture;
 pub mod random;
 pub mod reader;
 pub mod reason;
+pub mod settings;
 pub mod streams;
 pub mod told;
 pub mod two_wire;

@@ -1,5 +1,5 @@
-//! Saves exposure settings, and goes back to the first: settings on standard input, a line each of fine, coarse, gain code, divisor and frame rate, in
-//! decimal. Each is shown as it is held, and at the end the two-wire messages that write the one gone back to.
+//! Saves exposure settings, and goes back to the first: settings on standard input, a line each of fine, coarse, gain code, divisor and frame rate,
+//! in decimal. Each is shown as it is held, and at the end the two-wire messages that write the one gone back to.
 
 use fluturenc::settings::{Gain, Rate, Settings, MESSAGES};
 use fluturenc::Refusal;
@@ -18,10 +18,9 @@ fn main() -> Result<(), Box<dyn std::error::Error>> {
         let [fine, coarse, gain, divisor, rate] = numbers[..] else {
             return Err("fine, coarse, gain code, divisor and frame rate".into());
         };
-        let rate = if rate == 30 { Rate::PerSecond30 } else { Rate::PerSecond25 };
-        let saved = match Gain::coded(u8::try_from(gain)?) {
-            Some(gain) => list.save(fine, coarse, gain, u8::try_from(divisor)?, rate),
-            None => Err(Refusal::BadSetting),
+        let saved = match (Gain::coded(u8::try_from(gain)?), Rate::of(u8::try_from(rate)?)) {
+            (Some(gain), Some(rate)) => list.save(fine, coarse, gain, u8::try_from(divisor)?, rate),
+            _ => Err(Refusal::BadSetting),
         };
         match saved {
             Ok(version) => show(&list, version)?,

@@ -8,6 +8,7 @@ pub mod lists;
 pub mod means;
 pub mod picture;
 mod refusal;
+pub mod settings;
 pub mod two_wire;
 pub mod why;
 

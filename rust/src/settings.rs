@@ -13,7 +13,14 @@ pub enum Rate {
     PerSecond30 = 30,
 }
 
-/// What is multiplied: the code of each gain is its number.
+impl Rate {
+    /// The rate of so many frames a second.
+    pub fn of(frames: u8) -> Option<Rate> {
+        [Rate::PerSecond25, Rate::PerSecond30].into_iter().find(|rate| *rate as u8 == frames)
+    }
+}
+
+/// What each pixel is multiplied by. Its number is the code of the register.
 #[derive(Clone, Copy, PartialEq, Eq, Debug)]
 pub enum Gain {
     Times1 = 0,

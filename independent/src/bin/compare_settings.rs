@@ -115,13 +115,20 @@ fn typed(random: &mut Random, bytes: &[u8]) {
     same("a list with types", &bytes, held.as_ref().err().map(|why| why.number()), settings::from_bytes(bytes).err());
     let Ok(mut list) = held else { return };
     let old = version(random, bytes);
-    let wanted = settings::find(bytes, old).map(|s| Setting { version: s.version, fine: s.fine, coarse: s.coarse, gain: s.gain, divisor: s.divisor });
+    let wanted = settings::find(bytes, old).map(|s| Setting {
+        version: s.version,
+        fine: s.fine,
+        coarse: s.coarse,
+        gain: s.gain,
+        divisor: s.divisor,
+    });
     same("a setting with types", &(bytes, old), list.find(old).map_err(|why| why.number()), wanted);
     let mut messages = [0; 18];
     let told = list.messages(old, &mut messages).map_err(|why| why.number());
     same("messages with types", &(bytes, old), told.map(|length| messages[..length].to_vec()), settings::messages(bytes, old, 18));
     let (fine, coarse, divisor) = (word(random), word(random), random.byte() & 7);
-    let (gain, rate) = (random.pick(&[Gain::Times1, Gain::Times2, Gain::Times4, Gain::Times8]), random.pick(&[Rate::PerSecond25, Rate::PerSecond30]));
+    let (gain, rate) =
+        (random.pick(&[Gain::Times1, Gain::Times2, Gain::Times4, Gain::Times8]), random.pick(&[Rate::PerSecond25, Rate::PerSecond30]));
     let (told, wanted) = if random.once_in(2) {
         (number(list.save(fine, coarse, gain, divisor, rate)), settings::save(bytes, fine, coarse, gain as u8, divisor, rate as u8))
     } else {
