@@ -1,16 +1,16 @@
 -- What is said of saved settings: what was clipped, why a request is refused; and the messages of a setting.
 use mathlib.Core.Bool.{cond}
-use mathlib.Core.List.{List, [], _++_}
-use Prim.Native.Nat.{ℕ, _/_, _%_}
+use mathlib.Core.List.{List, [], _∷_, _++_}
+use Prim.Native.Nat.{ℕ}
 use lib.Dec.{eqb, ltb}
 use Rattle.refusal.specs.Refusal.{badSetting, versionNotHeld, noVersionLeft}
 use Rattle.text.specs.Text.{ascii}
-use Rattle.two_wire.specs.RegisterNames.{fineHigh, fineLow, coarseHigh, coarseLow, gain, clockDivisor}
 use Rattle.two_wire.specs.Writing.{message}
 use Rattle.two_wire_text.specs.Hex.{hexText}
 use Rattle.exposure.specs.Exposure.{fineLimit, coarseLimit}
 use Rattle.saved_setting.specs.declared.SavedSetting.{SavedSetting}
 use Rattle.saved_setting.specs.declared.Wanted.{Wanted}
+use Rattle.setting_registers.specs.SettingRegisters.{settingPairs}
 use Rattle.saved_text.specs.SettingsText.{field}
 
 -- ---- what was clipped: `fine 400 is above 360 at 30 a second: 360 saved`
@@ -45,11 +45,15 @@ settingsRefusal n =
 abbrev pub refusedRequest : ℕ → List ℕ
 refusedRequest n = field (ascii "REFUSED ") n ++ settingsRefusal n
 
--- ---- the messages of a setting, a line each: high byte first
+-- ---- the messages of a setting
 
+-- of pairs of index and value, a line each
+abbrev pub messageLines : List ℕ → List ℕ
+messageLines [] = []
+messageLines (i ∷ []) = []
+messageLines (i ∷ v ∷ []) = hexText (message i v)
+messageLines (i ∷ v ∷ j ∷ pairs) = hexText (message i v) ++ messageLines (j ∷ pairs)
+
+-- of the registers to write
 abbrev pub writesOf : SavedSetting → List ℕ
-writesOf s =
-    hexText (message fineHigh (s .fine / 256))
-    ++ (hexText (message fineLow (s .fine % 256))
-    ++ (hexText (message coarseHigh (s .coarse / 256))
-    ++ (hexText (message coarseLow (s .coarse % 256)) ++ (hexText (message gain (s .gain)) ++ hexText (message clockDivisor (s .divisor))))))
+writesOf s = messageLines (settingPairs s)

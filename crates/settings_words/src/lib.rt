@@ -7,7 +7,6 @@ use saved_setting::SavedSetting;
 use saved_setting::Wanted;
 use saved_text::put_field;
 use text::put;
-use two_wire::register;
 use two_wire_text::put_message;
 
 // What of a setting was clipped when it was saved; nothing where all was saved as wanted.
@@ -90,12 +89,11 @@ fn put_words(number: u8, out: &mut [u8], at: usize) -> usize
 pub fn put_writes(setting: SavedSetting, out: &mut [u8], at: usize) -> usize
     ensures { λ r. ⌜ Puts (now (out .entry)) at (writesOf setting) r (now (out .exit)) ⌝ }
 {
-    let fine = setting.fine;
-    let coarse = setting.coarse;
-    let a = put_message(register::FINE_HIGH, (fine / 256) as u8, out, at);
-    let b = put_message(register::FINE_LOW, (fine % 256) as u8, out, a);
-    let c = put_message(register::COARSE_HIGH, (coarse / 256) as u8, out, b);
-    let d = put_message(register::COARSE_LOW, (coarse % 256) as u8, out, c);
-    let e = put_message(register::GAIN, setting.gain, out, d);
-    put_message(register::CLOCK_DIVISOR, setting.divisor, out, e)
+    let p = setting_registers::pairs(setting);
+    let a = put_message(p[0], p[1], out, at);
+    let b = put_message(p[2], p[3], out, a);
+    let c = put_message(p[4], p[5], out, b);
+    let d = put_message(p[6], p[7], out, c);
+    let e = put_message(p[8], p[9], out, d);
+    put_message(p[10], p[11], out, e)
 }
