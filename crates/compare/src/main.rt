@@ -113,7 +113,6 @@ fn save(first: &[u8], second: &[u8], output: usize) {
     }
     let saving = frame_file::begin(&name[..n]);
     if saving.fd < 0 {
-        os::fail(&name[..n]);
         return;
     }
     let whole = all_rows(saving.fd, first, second);

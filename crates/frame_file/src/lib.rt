@@ -220,8 +220,8 @@ pub struct Saving {
     new: bool,
 }
 
-// Opens a file to be written. An older one that holds something stays until the new one is whole: that is written beside it, under its name
-// with .part.
+// Opens a file to be written, or says why it cannot. An older one that holds something stays until the new one is whole: that is written
+// beside it, under its name with .part, which is made anew: where that name is taken nothing is written.
 pub fn begin(name: &[u8]) -> Saving {
     let fd = os::create(name);
     if fd >= 0 {
@@ -233,6 +233,7 @@ pub fn begin(name: &[u8]) -> Saving {
     }
     let old = os::open_update(name);
     if old < 0 {
+        os::fail(name);
         return Saving {
             fd: old,
             beside: false,
@@ -257,7 +258,16 @@ pub fn begin(name: &[u8]) -> Saving {
 fn begin_part(name: &[u8]) -> i32 {
     let mut part = io::buffer();
     let n = put_part(name, &mut part);
-    os::open_overwrite(&part[..n])
+    make(&part[..n])
+}
+
+// Makes a file, or says why it cannot.
+fn make(name: &[u8]) -> i32 {
+    let fd = os::create(name);
+    if fd < 0 {
+        os::fail(name);
+    }
+    fd
 }
 
 // Puts the name of the part at the front of a buffer.

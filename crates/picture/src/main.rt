@@ -99,7 +99,6 @@ fn save(file: &[u8], picture: usize) {
     }
     let saving = frame_file::begin(&name[..n]);
     if saving.fd < 0 {
-        os::fail(&name[..n]);
         return;
     }
     let whole = send(saving.fd, &name[..n], file);

@@ -70,16 +70,63 @@ fn serve_file(request: Request) {
         command::tell_no_name();
         return;
     }
-    let mut text = io::large_buffer();
-    let read = read_file(makes_file(request), &name[..n], &mut text);
-    if read.failed {
+    if changes_file(request) {
+        change_file(request, &name[..n]);
         return;
+    }
+    serve_with(request, &name[..n], b"", -1);
+}
+
+// Whether a request may change the file.
+fn changes_file(request: Request) -> bool {
+    match request {
+        Request::Save(_) => true,
+        Request::Find(_) => false,
+        Request::Back(_) => true,
+        Request::ListAll => false,
+        Request::Messages(_) => false,
+    }
+}
+
+// Serves such a request: the new list is written beside the file, to one that is made before the old list is read. So two runs at once don't
+// lose what one of them saves.
+fn change_file(request: Request, name: &[u8]) {
+    let mut beside = io::buffer();
+    let n = put(name, &mut beside, 0);
+    let end = put(b".new", &mut beside, n);
+    if beside.len() <= end {
+        command::complain(b"the name of the file is too long\n");
+        return;
+    }
+    change_beside(request, name, &beside[..end]);
+}
+
+fn change_beside(request: Request, name: &[u8], beside: &[u8]) {
+    let fd = os::create(beside);
+    if fd < 0 {
+        os::fail(beside);
+        return;
+    }
+    let replaced = serve_with(request, name, beside, fd);
+    libc::close(fd);
+    if replaced {
+        return;
+    }
+    os::unlink(beside);
+}
+
+// Serves a request with what the file holds, and answers whether the file was replaced.
+fn serve_with(request: Request, name: &[u8], beside: &[u8], fd: i32) -> bool {
+    let mut text = io::large_buffer();
+    let read = read_file(makes_file(request), name, &mut text);
+    if read.failed {
+        return false;
     }
     let m = read.length;
     if text.len() < m {
-        return;
+        return false;
     }
-    serve(request, &name[..n], &text[..m]);
+    serve(request, name, &text[..m], beside, fd)
 }
 
 // Whether a request may make the file.
@@ -159,61 +206,44 @@ fn tell_not_settings() {
     command::complain(&out[..end]);
 }
 
-// Serves a request with a file's text. What is said is said once the file is written.
-fn serve(request: Request, name: &[u8], text: &[u8]) {
+// Serves a request with a file's text, and answers whether the file was replaced. What is said is said once it is.
+fn serve(request: Request, name: &[u8], text: &[u8], beside: &[u8], fd: i32) -> bool {
     let mut file = [0u8; ROOM];
     let mut out = [0u8; ROOM];
     let served = settings_request::serve(request, text, &mut file, &mut out);
     let end = served.file;
     let said = served.said;
     if file.len() < end {
-        return;
+        return false;
     }
     if out.len() < said {
-        return;
+        return false;
     }
     if served.refused {
         command::complain(&out[..said]);
-        return;
+        return false;
     }
     if served.changed {
-        if !replace(name, &file[..end]) {
-            return;
+        if replace(name, &file[..end], beside, fd) {
+            say(&out[..said]);
+            return true;
         }
+        return false;
     }
     say(&out[..said]);
+    false
 }
 
-// Writes a text beside a file, which then takes its name; answers whether it was done. A failure is told, and leaves the file as it was.
-fn replace(name: &[u8], text: &[u8]) -> bool {
-    let mut beside = io::buffer();
-    let n = put(name, &mut beside, 0);
-    let end = put(b".new", &mut beside, n);
-    if beside.len() <= end {
-        command::complain(b"the name of the file is too long\n");
-        return false;
-    }
-    replace_by(name, &beside[..end], text)
-}
-
-fn replace_by(name: &[u8], beside: &[u8], text: &[u8]) -> bool {
-    let fd = os::create(beside);
-    if fd < 0 {
-        os::fail(beside);
-        return false;
-    }
-    let written = write_out(fd, text);
-    if !written {
-        os::fail(beside);
-    }
-    libc::close(fd);
-    if written {
+// Writes a text to the file beside one, which then takes its name; answers whether it was done. A failure is told, and leaves the file as it was.
+fn replace(name: &[u8], text: &[u8], beside: &[u8], fd: i32) -> bool {
+    if write_out(fd, text) {
         if os::rename(beside, name) == 0 {
             return true;
         }
         os::fail(name);
+        return false;
     }
-    os::unlink(beside);
+    os::fail(beside);
     false
 }
 

@@ -8,8 +8,8 @@ use Rattle.frame_file.proofs.begin_part.Tie as tie
 array-share-prefix-part : tie.Need-array-share-prefix-part
 array-share-prefix-part c = search needs
 
-slice-aggregate-open-overwrite : tie.Need-slice-aggregate-open-overwrite
-slice-aggregate-open-overwrite c = sym (length-take-le _ _ (array-share-prefix-part (c .before)))
+slice-aggregate-make : tie.Need-slice-aggregate-make
+slice-aggregate-make c = sym (length-take-le _ _ (array-share-prefix-part (c .before)))
 
 pub begin-part-spec : {M : Type 1} → statement M
 begin-part-spec =
@@ -19,6 +19,6 @@ begin-part-spec =
     (λ c. search needs)
     (λ c κs. search needs)
     array-share-prefix-part
-    slice-aggregate-open-overwrite
+    slice-aggregate-make
     (λ c κs. search needs)
     (λ c. search needs))

@@ -23,6 +23,12 @@ array-share-prefix-out-2 c = search needs
 slice-aggregate-say : tie.Need-slice-aggregate-say
 slice-aggregate-say c = sym (length-take-le _ _ (array-share-prefix-out-2 (c .before)))
 
+array-share-prefix-out-3 : tie.Need-array-share-prefix-out-3
+array-share-prefix-out-3 c = search needs
+
+slice-aggregate-say-2 : tie.Need-slice-aggregate-say-2
+slice-aggregate-say-2 c = sym (length-take-le _ _ (array-share-prefix-out-3 (c .before)))
+
 pub serve-spec : {M : Type 1} → statement M
 serve-spec =
     tie.close
@@ -39,8 +45,12 @@ serve-spec =
     array-share-prefix-file
     slice-aggregate-replace
     (λ c κs. search needs)
-    (λ c. search needs)
     array-share-prefix-out-2
     slice-aggregate-say
+    (λ c κs. search needs)
+    (λ c. search needs)
+    (λ c. search needs)
+    array-share-prefix-out-3
+    slice-aggregate-say-2
     (λ c κs. search needs)
     (λ c. search needs))
