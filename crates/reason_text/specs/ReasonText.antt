@@ -80,18 +80,20 @@ hexes (b ∷ bs) = spacedHex b ++ hexes bs
 abbrev pub shownBeside : ℕ
 shownBeside = 4
 
--- a byte in brackets, four before it and four after it: ` 07 07 07 07 [08] ff ff 00 80`
-unfoldable pub aroundBad : List ℕ → ℕ → List ℕ
-aroundBad bytes i =
+-- a byte in brackets, with some more, four before these and four after: ` 07 07 07 07 [08] ff ff 00 80`, ` 0f ff f0 [09 e0]`
+unfoldable pub aroundBad : List ℕ → ℕ → ℕ → List ℕ
+aroundBad bytes i more =
+    let end : ℕ = min (length bytes) (i + 1 + more) in
     hexes (span bytes (i - min i shownBeside) i)
-    ++ (ascii " [" ++ (hexByte (getD bytes i 0) ++ (ascii "]" ++ hexes (span bytes (i + 1) (min (length bytes) (i + 1 + shownBeside))))))
+    ++ (ascii " ["
+    ++ (hexByte (getD bytes i 0)
+    ++ (hexes (span bytes (i + 1) end) ++ (ascii "]" ++ hexes (span bytes end (min (length bytes) (end + shownBeside)))))))
 
--- where there is a bad place, and a byte there
+-- where there is a bad place, and a byte there; a bad byte that begins in the second half of one is in brackets with the next
 unfoldable pub aroundWords : List ℕ → Bool → ℕ → List ℕ
 aroundWords bytes low place =
-    cond (ltb 0 place)
-    (cond (ltb ((nibblesBefore low + place) / 2) (length bytes)) (ascii "; there:" ++ aroundBad bytes ((nibblesBefore low + place) / 2)) [])
-    []
+    let n : ℕ = nibblesBefore low + place in
+    cond (ltb 0 place) (cond (ltb (n / 2) (length bytes)) (ascii "; there:" ++ aroundBad bytes (n / 2) (n % 2)) []) []
 
 -- The line.
 

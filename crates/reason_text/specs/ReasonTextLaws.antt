@@ -2,7 +2,7 @@
 use mathlib.Core.Path.{_≡_, refl, ap, ap₂, sym, subst, _∙_}
 use mathlib.Core.Bool.{Bool, true, false}
 use mathlib.Core.List.{List, [], _∷_, _++_}
-use Prim.Native.Nat.{ℕ, zero, suc, _+_, _-_, _*_, _/_, _≤_, _<_, min}
+use Prim.Native.Nat.{ℕ, zero, suc, _+_, _-_, _*_, _/_, _%_, _≤_, _<_, min}
 use native.Mathlib.Omega.{arith}
 use lib.Dec.{leb, ltb}
 use lib.ListN.{length, take, drop, getD, length-append, length-take, length-drop}
@@ -30,20 +30,35 @@ take-short zero w = omega arith
 take-short (suc n) [] = omega arith
 take-short (suc n) (x ∷ w) = let h = take-short n w in omega arith
 
-around-short : (bytes : List ℕ) (i : ℕ) → length (aroundBad bytes i) ≤ 29
-unfolding aroundBad
-around-short bytes i =
-    let before = span bytes (i - min i shownBeside) i in
-    let after = span bytes (i + 1) (min (length bytes) (i + 1 + shownBeside)) in
-    simp length-append
-    (omega (arith, hexes-length before, hexes-length after, take-short (i - (i - min i shownBeside)) (drop (i - min i shownBeside) bytes), take-short (min (length bytes) (i + 1 + shownBeside) - (i + 1)) (drop (i + 1) bytes)))
+-- the bytes between two places, in hex
+span-short : (bytes : List ℕ) (from to n : ℕ) → to - from ≤ n → length (hexes (span bytes from to)) ≤ 3 * n
+span-short bytes from to n h = omega (arith, hexes-length (span bytes from to), take-short (to - from) (drop from bytes))
 
-around-words-short : (bytes : List ℕ) (low : Bool) (place : ℕ) → length (aroundWords bytes low place) ≤ 37
+-- from a place up to at most some later one
+up-to : (limit place n : ℕ) → min limit (place + n) - place ≤ n
+up-to limit place n = omega arith
+
+around-short : (bytes : List ℕ) (i more : ℕ) → more ≤ 1 → length (aroundBad bytes i more) ≤ 32
+unfolding aroundBad
+around-short bytes i more h =
+    let from = i - min i shownBeside in
+    let end = min (length bytes) (i + 1 + more) in
+    let to = min (length bytes) (end + shownBeside) in
+    let few : i - from ≤ shownBeside = omega arith in
+    let a = span-short bytes from i shownBeside few in
+    let b = span-short bytes (i + 1) end more (up-to (length bytes) (i + 1) more) in
+    let c = span-short bytes end to shownBeside (up-to (length bytes) end shownBeside) in
+    simp length-append (shorter _ _ _ more a b c h)
+  where
+    shorter : (x y z m : ℕ) → x ≤ 3 * 4 → y ≤ 3 * m → z ≤ 3 * 4 → m ≤ 1 → x + suc (suc (suc (suc (y + (1 + z))))) ≤ 32
+    shorter x y z m a b c h = omega arith
+
+around-words-short : (bytes : List ℕ) (low : Bool) (place : ℕ) → length (aroundWords bytes low place) ≤ 40
 unfolding aroundWords
 around-words-short bytes low place =
-    let i = (nibblesBefore low + place) / 2 in
-    either-short (ltb 0 place) _ _ 37
-    (either-short (ltb i (length bytes)) _ _ 37 (simp length-append (omega (arith, around-short bytes i))) (omega arith))
+    let n = nibblesBefore low + place in
+    either-short (ltb 0 place) _ _ 40
+    (either-short (ltb (n / 2) (length bytes)) _ _ 40 (simp length-append (omega (arith, around-short bytes (n / 2) (n % 2) (omega arith)))) (omega arith))
     (omega arith)
 
 -- no line is longer than the room that is asked for it

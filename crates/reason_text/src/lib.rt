@@ -168,27 +168,29 @@ fn put_around(bytes: &[u8], low: bool, bad: usize, out: &mut [u8], at: usize) ->
     ensures { λ r. ⌜ Puts (now (out .entry)) at (aroundWords (now (bytes .entry)) low bad) r (now (out .exit)) ⌝ }
 {
     if 0 < bad {
-        let i = (nibbles_before(low) + bad) / 2;
-        if i < bytes.len() {
+        let n = nibbles_before(low) + bad;
+        if n / 2 < bytes.len() {
             let at = put(b"; there:", out, at);
-            return put_bytes_around(bytes, i, out, at);
+            return put_bytes_around(bytes, n / 2, n % 2, out, at);
         }
     }
     at
 }
 
-// A byte in brackets, four before it and four after it.
-fn put_bytes_around(bytes: &[u8], i: usize, out: &mut [u8], at: usize) -> usize
-    requires { ⌜ (i < length (now bytes)) × (i ≤ 8192) ⌝ }
-    ensures { λ r. ⌜ Puts (now (out .entry)) at (aroundBad (now (bytes .entry)) i) r (now (out .exit)) ⌝ }
+// A byte in brackets, with some more, four before these and four after.
+fn put_bytes_around(bytes: &[u8], i: usize, more: usize, out: &mut [u8], at: usize) -> usize
+    requires { ⌜ (i < length (now bytes)) × (i ≤ 8192) × (more ≤ 1) ⌝ }
+    ensures { λ r. ⌜ Puts (now (out .entry)) at (aroundBad (now (bytes .entry)) i more) r (now (out .exit)) ⌝ }
 {
     let from = i - lesser(i, SHOWN);
-    let to = lesser(bytes.len(), i + 1 + SHOWN);
+    let end = lesser(bytes.len(), i + 1 + more);
+    let to = lesser(bytes.len(), end + SHOWN);
     let at = put_bytes(&bytes[from..i], out, at);
     let at = put(b" [", out, at);
     let at = put_hex(bytes[i], out, at);
+    let at = put_bytes(&bytes[i + 1..end], out, at);
     let at = put(b"]", out, at);
-    put_bytes(&bytes[i + 1..to], out, at)
+    put_bytes(&bytes[end..to], out, at)
 }
 
 // The bytes that are shown on either side of a bad one.

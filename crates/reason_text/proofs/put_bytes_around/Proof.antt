@@ -1,4 +1,4 @@
--- The bytes before, the one in brackets, and the bytes after, one after another.
+-- The bytes before, those in brackets, and the bytes after, one after another.
 use Rattle.text.specs.PutLaws.{then}
 use Rattle.reason_text.specs.ReasonText.{aroundBad}
 use borrow.Author.Needs.{needs}
@@ -10,12 +10,15 @@ unfolding aroundBad
 returns c =
     let after = c .before .before in
     let close = after .before .before .before .before .before in
-    let byte = close .before .before .before .before .before in
+    let more = close .before .before .before .before .before in
+    let byte = more .before .before .before .before .before in
     let bracket = byte .before .before .before .before .before in
     let bytes = bracket .before .before .before .before .before in
     let to = bytes .before .before .before in
-    simp (← to .before .lesser .ensures, ← to .lesser2 .ensures)
-    (then (bytes .put-bytes .ensures) (then (bracket .put .ensures) (then (byte .put-hex .ensures) (then (close .put2 .ensures) (after .put-bytes2 .ensures)))))
+    let end = to .before in
+    simp (← end .before .lesser .ensures, ← end .lesser2 .ensures, ← to .lesser3 .ensures)
+    (then (bytes .put-bytes .ensures)
+    (then (bracket .put .ensures) (then (byte .put-hex .ensures) (then (more .put-bytes2 .ensures) (then (close .put2 .ensures) (after .put-bytes3 .ensures))))))
 
 pub put-bytes-around-spec : {M : Type 1} → statement M
 put-bytes-around-spec =
@@ -27,6 +30,8 @@ put-bytes-around-spec =
     (λ c. search needs)
     (λ c κs. search needs)
     (λ c. search needs)
+    (λ c κs. search needs)
+    (λ c. search needs)
     (λ c. search needs)
     (λ c. search needs)
     (λ c κs. search needs)
@@ -35,8 +40,12 @@ put-bytes-around-spec =
     (λ c. search needs)
     (λ c κs. search needs)
     (λ c. search needs)
+    (λ c. search needs)
+    (λ c. search needs)
+    (λ c. search needs)
     (λ c κs. search needs)
     (λ c. search needs)
+    (λ c κs. search needs)
     (λ c. search needs)
     (λ c. search needs)
     (λ c. search needs)
