@@ -253,8 +253,8 @@ impl TablePlace {
     }
 }
 
-// What a technician is refused of a place, by its owner; 0 where it is theirs.
-fn denial(technician: u8, owner: u8) -> u8
+// What a technician is refused of a place with this owner: 32, 34, or nothing, 0.
+pub fn denial(technician: u8, owner: u8) -> u8
     ensures { λ r. ⌜ r ≡ denialBy technician owner ⌝ }
 {
     if is_technician(technician) {
@@ -266,7 +266,8 @@ fn denial(technician: u8, owner: u8) -> u8
     refusal::NO_SUCH_TECHNICIAN
 }
 
-fn is_technician(number: u8) -> bool
+// Whether a technician has this number.
+pub fn is_technician(number: u8) -> bool
     ensures { λ r. ⌜ r ≡ isTechnician number ⌝ }
 {
     if number == 1 {
