@@ -240,6 +240,31 @@ uint8_t fluturenc_settings_back(uint8_t *list, size_t list_length, uint16_t vers
 uint8_t fluturenc_settings_messages(const uint8_t *list, size_t list_length, uint16_t version, uint8_t *messages, size_t messages_length,
                                     size_t *written);
 
+/* ---- A table of readers for two technicians: crate fluturenc_table. */
+
+/* Eight places, 0 to 7, each free or a technician's, with a reader: bytes, which may be moved and copied. A technician is 1 or 2, and calls only the
+ * places that they opened. Refused, before all else that is said below: 11 fewer bytes than fluturenc_table_length(), 32 no such technician; and
+ * of a call of a place 34: it is not there, or is free, or is the other's, which are told alike. */
+
+/* The bytes of a table. */
+size_t fluturenc_table_length(void);
+
+/* Frees all places: 0; or 12 fewer bytes than fluturenc_table_length(). */
+uint8_t fluturenc_table_new(uint8_t *table, size_t table_length);
+
+/* Gives the lowest free place, with a fresh reader: its number. Refused: 11 no such profile, 33 no place is free. */
+uint8_t fluturenc_table_open(uint8_t *table, size_t table_length, uint8_t technician, uint8_t profile);
+
+/* fluturenc_feed of the place's reader. */
+uint64_t fluturenc_table_feed(uint8_t *table, size_t table_length, uint8_t technician, size_t place, const uint8_t *nibbles, size_t nibbles_length,
+                              uint8_t *line, size_t line_length, size_t *taken);
+
+/* fluturenc_finish of the place's reader; the place stays its technician's. */
+uint64_t fluturenc_table_finish(uint8_t *table, size_t table_length, uint8_t technician, size_t place);
+
+/* Frees the place: 0. A mark that is still open is not answered. */
+uint8_t fluturenc_table_close(uint8_t *table, size_t table_length, uint8_t technician, size_t place);
+
 #ifdef __cplusplus
 }
 #endif

@@ -13,6 +13,9 @@ pub fn arguments() -> (usize, Random) {
     (times, Random::new(seed))
 }
 
+/// Bytes beyond a state, which no call may touch.
+pub const BEYOND: [u8; 3] = [0xA5, 0x00, 0xFF];
+
 /// Shows the difference, if there is one, and exits 1.
 pub fn same<T: PartialEq + Debug>(what: &str, context: &dyn Debug, proved: T, plain: T) {
     if proved != plain {

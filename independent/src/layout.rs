@@ -6,6 +6,9 @@ pub enum Profile {
     P1,
 }
 
+/// The bytes of the longest body.
+pub const LONGEST: usize = 356;
+
 impl Profile {
     pub fn from_number(n: u8) -> Option<Profile> {
         match n {

@@ -15,6 +15,7 @@ pub mod reader;
 pub mod reason;
 pub mod settings;
 pub mod streams;
+pub mod table;
 pub mod told;
 pub mod two_wire;
 pub mod writer;

@@ -1,6 +1,6 @@
 //! Streams to run both versions on: clean lines and frames, and the same damaged.
 
-use crate::layout::{Profile, CLEAN};
+use crate::layout::{Profile, CLEAN, LONGEST};
 use crate::random::Random;
 use crate::writer;
 
@@ -230,4 +230,30 @@ pub fn stream(random: &mut Random, sort: Sort, profile: Profile) -> Vec<u8> {
             w
         }
     }
+}
+
+/// A line buffer of a length that is enough, mostly.
+pub fn line_buffer(random: &mut Random, profile: Profile) -> Vec<u8> {
+    let n = profile.body_length();
+    let length = match random.below(12) {
+        0 => n + random.below(40),
+        1 => n - 1 - random.below(3),
+        2 => random.below(2 * n),
+        3 => LONGEST,
+        _ => n,
+    };
+    let fill = random.byte();
+    (0..length).map(|i| fill.wrapping_add(i as u8)).collect()
+}
+
+/// How many of the nibbles that are left a call is given.
+pub fn run_length(random: &mut Random, left: usize) -> usize {
+    let length = match random.below(6) {
+        0 => random.below(3),
+        1 => random.below(20),
+        2 => random.below(2000),
+        3 => left,
+        _ => random.below(800),
+    };
+    length.min(left)
 }

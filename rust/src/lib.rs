@@ -9,6 +9,7 @@ pub mod means;
 pub mod picture;
 mod refusal;
 pub mod settings;
+pub mod table;
 pub mod two_wire;
 pub mod why;
 

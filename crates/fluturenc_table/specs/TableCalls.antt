@@ -5,11 +5,12 @@ use Prim.Native.Nat.{ℕ, zero, suc}
 use lib.Dec.{eqb, leb, ltb}
 use lib.ListN.{length, set}
 use Rattle.refusal.specs.Refusal.{badState, noRoom, noSuchTechnician, noPlaceFree}
+use Rattle.lent_call.specs.LentCall.{Called}
 use Rattle.profile.specs.declared.Numbered.{Numbered}
 use Rattle.profile.specs.declared.Numbered.the-variants as numbered
 use Rattle.profile.specs.Profile.{profileNumbered}
 use Rattle.reader_table.specs.Table.{isTechnician, nobody, placeCount}
-use Rattle.fluturenc.specs.Calls.{Called, FeedCalled, openCall, feedCall, finishCall}
+use Rattle.fluturenc.specs.Calls.{FeedCalled, openCall, feedCall, finishCall}
 use Rattle.fluturenc_table.specs.TableBytes.{tableLength, placeStart, stateAt, withState, lowestFrom, denialAt}
 
 abbrev pub refusedTable : ℕ → List ℕ → Called

@@ -2,16 +2,14 @@
 //! by call: compare_bus [TIMES [SEED]]. Shows the first difference and exits 1, if there is one.
 
 use fluturenc::bus::{self, raw};
-use independent::check::{arguments, same};
+use independent::check::{arguments, same, BEYOND};
 use independent::judge::{Judge, Ruling};
-use independent::layout::Profile;
+use independent::layout::{Profile, LONGEST};
 use independent::random::Random;
 use independent::reader::{Answer, Reader};
-use independent::streams::{self, Line, Sort, SORTS};
+use independent::streams::{self, line_buffer, run_length, Line, Sort, SORTS};
 use independent::{told, writer};
 use std::fmt::Debug;
-
-const LONGEST: usize = 356;
 
 /// What was compared.
 #[derive(Default)]
@@ -43,9 +41,6 @@ struct Pair {
     typed: bus::Reader,
     plain: Reader,
 }
-
-/// Bytes beyond the state, which no call may touch.
-const BEYOND: [u8; 3] = [0xA5, 0x00, 0xFF];
 
 impl Pair {
     fn new(profile: Profile) -> Pair {
@@ -91,31 +86,6 @@ impl Pair {
         count.answer(&ours);
         ours
     }
-}
-
-/// A line buffer of a length that is enough, mostly.
-fn line_buffer(random: &mut Random, profile: Profile) -> Vec<u8> {
-    let n = profile.body_length();
-    let length = match random.below(12) {
-        0 => n + random.below(40),
-        1 => n - 1 - random.below(3),
-        2 => random.below(2 * n),
-        3 => LONGEST,
-        _ => n,
-    };
-    let fill = random.byte();
-    (0..length).map(|i| fill.wrapping_add(i as u8)).collect()
-}
-
-fn run_length(random: &mut Random, left: usize) -> usize {
-    let length = match random.below(6) {
-        0 => random.below(3),
-        1 => random.below(20),
-        2 => random.below(2000),
-        3 => left,
-        _ => random.below(800),
-    };
-    length.min(left)
 }
 
 /// One stream in runs of random lengths, and finish at its end or not.

@@ -2,13 +2,10 @@
 //! compare_two_wire [TIMES [SEED]]. Shows the first difference and exits 1, if there is one.
 
 use fluturenc::two_wire::{self as typed, raw};
-use independent::check::{arguments, same, Counted};
+use independent::check::{arguments, same, Counted, BEYOND};
 use independent::random::Random;
 use independent::told;
 use independent::two_wire::{self, Sensor};
-
-/// Bytes beyond the state, which no call may touch.
-const BEYOND: [u8; 3] = [0xA5, 0x00, 0xFF];
 
 /// A byte, often one that counts.
 fn byte(random: &mut Random) -> u8 {
