@@ -1,0 +1,3 @@
+pub mod TableHeld
+pub mod ApartLaws
+pub mod TableBytesLaws
