@@ -43,6 +43,13 @@ settingsText list = linesOf 8 list
 
 -- ---- the numbers of a text
 
+-- the last numbers of a line, and what is gathered of a text, by names that laws elsewhere can say
+abbrev pub LineFields : Type 0
+LineFields = Fields
+
+abbrev pub TextGathered : Type 0
+TextGathered = Gathered
+
 abbrev pub noFields : Fields
 noFields = record { version = 0; fine = 0; coarse = 0; gain = 0; divisor = 0 }
 

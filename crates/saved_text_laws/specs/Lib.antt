@@ -1,0 +1,4 @@
+pub mod FieldRanges
+pub mod NumberRead
+pub mod SettingsRead
+pub mod SettingsReadLaws

@@ -1,0 +1,322 @@
+-- The text of a list of saved settings is read back as that list. Its lines are gathered one after another, each in its place; characters that
+-- don't count leave what is gathered as it is; and the list that was read has the text that was written.
+use mathlib.Core.Path.{_≡_, refl, sym, ap, subst, _∙_}
+use mathlib.Core.Bool.{Bool, true, false, _&&_, cond, true≢false}
+use mathlib.Core.List.{List, [], _∷_, _++_, append-nil, append-assoc}
+use Prim.Native.Nat.{ℕ, zero, suc, _+_, _/_, _%_, _≤_}
+use native.Mathlib.Omega.{arith}
+use lib.Dec.{eqb, ltb}
+use lib.ListN.{length, drop, getD, set, replicate, length-append, length-map, List·getD-map}
+use lib.Seq.{append-snoc, set-append-seam}
+use borrow.Author.Tests.{lt-ltb, le-ltb, le-leb, leb-true, eq-eqb, eqb-true, ne-eqb}
+use Rattle.bits.specs.Every.{and-left, and-right, and-both}
+use Rattle.text.specs.Text.{ascii, newline, digit, digits, decimal}
+use Rattle.saved_setting.specs.declared.SavedSetting.{SavedSetting}
+use Rattle.saved_setting.specs.SavedSettings.{isUnused, mayFollow, versionsInOrder, placeCount, isSavedList}
+use Rattle.saved_settings_laws.specs.Histories.{usedOf}
+use Rattle.saved_settings_laws.specs.OrderLaws.{by-side, sides, unused-follows, order-tail, order-head}
+use Rattle.saved_text.specs.declared.Restored.{Restored}
+use Rattle.saved_text.specs.SettingsText.{TextGathered, settingLine, placeLine, unused, linesOf, settingsText, noFields, fieldsAfter, withLine, gatheredAfter, gatheredOver, nothingGathered, numbersOf, carriageReturn, coverOf, startsBy, mayStand, isLike, isSettingsText, restored}
+use Rattle.saved_text_laws.specs.SettingsRead.{InFields, AllInFields, placeRestored, listRestored, ZerosUnused, withReturns, RestoredAs, TextRestores}
+use Rattle.saved_text_laws.specs.FieldRanges.{numbers-in-fields}
+use Rattle.saved_text_laws.specs.NumberRead.{over-append, setting-back, line-read}
+
+-- ---- a list as it is read back
+
+restored-unused : (s : SavedSetting) → isUnused s ≡ true → placeRestored s ≡ unused
+unfolding placeRestored
+restored-unused s u = simp u
+
+restored-used : (s : SavedSetting) → isUnused s ≡ false → placeRestored s ≡ s
+unfolding placeRestored
+restored-used s u = simp u
+
+same-version : (s : SavedSetting) → placeRestored s .version ≡ s .version
+unfolding placeRestored
+same-version s = by-side (λ (r : SavedSetting). r .version ≡ s .version) (isUnused s) (λ u. sym (eqb-true (s .version) 0 u)) (λ u. refl)
+
+same-line : (s : SavedSetting) → placeLine (placeRestored s) ≡ placeLine s
+unfolding placeLine
+same-line s =
+    sides (isUnused s) (λ u. let e = restored-unused s u in simp (e, u)) (λ u. let e = restored-used s u in simp e)
+
+same-lines : (n : ℕ) (list : List SavedSetting) → linesOf n (listRestored list) ≡ linesOf n list
+unfolding placeRestored
+same-lines zero list = refl
+same-lines (suc n) list =
+    rw (same-lines n list, List·getD-map placeRestored list n unused, same-line (getD list n unused)) refl
+
+same-follow : (s t : SavedSetting) → mayFollow (placeRestored s) (placeRestored t) ≡ mayFollow s t
+unfolding mayFollow
+same-follow s t = simp (same-version s, same-version t)
+
+same-order : (list : List SavedSetting) → versionsInOrder (listRestored list) ≡ versionsInOrder list
+unfolding versionsInOrder
+same-order [] = refl
+same-order (s ∷ []) = refl
+same-order (s ∷ t ∷ list) = rw (same-follow s t, same-order (t ∷ list)) refl
+
+same-used : (list : List SavedSetting) → usedOf (listRestored list) ≡ usedOf list
+unfolding usedOf
+same-used [] = refl
+same-used (s ∷ list) =
+    sides (isUnused s) (λ u. simp (same-version s, u)) (λ u. simp (restored-used s u, u, same-used list))
+
+same-list : (list : List SavedSetting) → ZerosUnused list → listRestored list ≡ list
+same-list [] z = refl
+same-list (s ∷ list) z =
+    let place : placeRestored s ≡ s = sides (isUnused s) (λ u. restored-unused s u ∙ sym (z .0 u)) (restored-used s) in
+    rw (place, same-list list (z .1)) refl
+
+-- ---- lines one after another, each gathered in its place
+
+-- what is gathered once the settings of some places are, and some places are left
+abbrev gatheredAt : List SavedSetting → ℕ → TextGathered
+gatheredAt before n = record { list = before ++ replicate n unused; count = length before; fields = noFields }
+
+-- a list is gathered, and the text's end adds nothing to it
+record IsGathered (g : TextGathered) (list : List SavedSetting) : Type 0 where
+  so-far : g .list ≡ list
+  at-end : withLine g .list ≡ list
+
+lines-first : (n : ℕ) (s : SavedSetting) (list : List SavedSetting) → linesOf (suc n) (s ∷ list) ≡ placeLine s ++ linesOf n list
+lines-first zero s list = sym (append-nil (placeLine s))
+lines-first (suc n) s list =
+    ap (λ (t : List ℕ). t ++ placeLine (getD list n unused)) (lines-first n s list) ∙ append-assoc (placeLine s) (linesOf n list) (placeLine (getD list n unused))
+
+-- from an unused place on: no lines, and zeros are read back
+unused-lines : (s : SavedSetting) (list : List SavedSetting) → versionsInOrder (s ∷ list) ≡ true → isUnused s ≡ true
+    → (linesOf (length (s ∷ list)) (s ∷ list) ≡ []) × (listRestored (s ∷ list) ≡ replicate (length (s ∷ list)) unused)
+unfolding placeLine
+unused-lines s [] h u = (simp u, ap (λ (t : SavedSetting). t ∷ []) (restored-unused s u))
+unused-lines s (t ∷ list) h u =
+    let rest = unused-lines t list (order-tail s (t ∷ list) h) (unused-follows s t (order-head s t list h) u) in
+    (lines-first (length (t ∷ list)) s (t ∷ list) ∙ simp (u, rest .0), rw (restored-unused s u, rest .1) refl)
+
+-- a setting's line, at the first place that is left
+place-gathered : (before : List SavedSetting) (n : ℕ) (s : SavedSetting) → length before + suc n ≡ placeCount → InFields s → isUnused s ≡ false
+    → gatheredOver (gatheredAt before (suc n)) (placeLine s) ≡ gatheredAt (before ++ (s ∷ [])) n
+unfolding placeLine
+place-gathered before n s long r u =
+    let here : ltb (length before) 8 ≡ true = lt-ltb (length before) 8 (omega (arith, long)) in
+    let put : set (before ++ (unused ∷ replicate n unused)) (length before) s ≡ (before ++ (s ∷ [])) ++ replicate n unused
+    = set-append-seam before unused (replicate n unused) s ∙ sym (append-snoc before s (replicate n unused)) in
+    let more : length before + 1 ≡ length (before ++ (s ∷ [])) = sym (length-append before (s ∷ [])) in
+    simp u (line-read (gatheredAt before (suc n)) s r ∙ simp (here, setting-back s r, put, more))
+
+places-gathered : (before list : List SavedSetting) → length before + length list ≡ placeCount → versionsInOrder list ≡ true → AllInFields list
+    → IsGathered (gatheredOver (gatheredAt before (length list)) (linesOf (length list) list)) (before ++ listRestored list)
+places-gathered before [] long h r =
+    let full : ltb (length before) 8 ≡ false = le-ltb (length before) 8 (omega (arith, long)) in
+    record { so-far = refl; at-end = simp full }
+places-gathered before (s ∷ list) long h r =
+    sides (isUnused s)
+    (λ u.
+    let none = unused-lines s list h u in
+    let here : ltb (length before) 8 ≡ true = lt-ltb (length before) 8 (omega (arith, long)) in
+    rw (none .0, none .1)
+    (record { so-far = refl; at-end = simp here (set-append-seam before unused (replicate (length list) unused) unused) }))
+    (λ u.
+    let next : length (before ++ (s ∷ [])) + length list ≡ placeCount = rw (length-append before (s ∷ [])) (omega (arith, long)) in
+    let rest = places-gathered (before ++ (s ∷ [])) list next (order-tail s list h) (r .1) in
+    let front = over-append (gatheredAt before (suc (length list))) (placeLine s) (linesOf (length list) list) in
+    let here = place-gathered before (length list) s long (r .0) u in
+    rw (lines-first (length list) s list, front, here, restored-used s u, ← append-snoc before s (listRestored list))
+    rest)
+
+-- ---- characters that don't count
+
+-- the last character; d where there is none
+abbrev lastOf : ℕ → List ℕ → ℕ
+lastOf d [] = d
+lastOf d (c ∷ text) = lastOf c text
+
+last-append : (d : ℕ) (s t : List ℕ) → lastOf d (s ++ t) ≡ lastOf (lastOf d s) t
+last-append d [] t = refl
+last-append d (c ∷ s) t = last-append c s t
+
+return-kept : (g : TextGathered) (c : ℕ) → eqb c carriageReturn ≡ true → gatheredAfter g c ≡ g
+unfolding gatheredAfter fieldsAfter
+return-kept g c e = subst (λ (x : ℕ). gatheredAfter g x ≡ g) (sym (eqb-true c carriageReturn e)) refl
+
+-- a carriage return stands anywhere and takes nothing; another character is the next one
+return-like : (c : ℕ) (text whole : List ℕ) → eqb c carriageReturn ≡ true → isLike (c ∷ text) whole ≡ isLike text whole
+unfolding mayStand coverOf
+return-like c text whole e = simp e
+
+next-like : (c : ℕ) (text whole : List ℕ) → eqb c carriageReturn ≡ false → isLike (c ∷ text) whole ≡ (startsBy c whole && isLike text (drop 1 whole))
+unfolding mayStand coverOf
+next-like c text whole e = simp e
+
+-- a text that is like one that ends a line, or is empty, is gathered as that one is
+like-gathered : (list : List SavedSetting) (text whole : List ℕ) (g : TextGathered) (d : ℕ) → isLike text whole ≡ true → lastOf d whole ≡ newline
+    → IsGathered (gatheredOver g whole) list → withLine (gatheredOver g text) .list ≡ list
+unfolding gatheredAfter
+like-gathered list [] [] g d h l is = is .at-end
+like-gathered list [] (c ∷ []) g d h l is = subst (λ (x : ℕ). gatheredAfter g x .list ≡ list) l (is .so-far)
+like-gathered list [] (c ∷ b ∷ whole) g d h l is = absurd (omega (arith, leb-true (length (c ∷ b ∷ whole)) 1 h))
+like-gathered list (c ∷ text) [] g d h l is =
+    sides (eqb c carriageReturn)
+    (λ e. like-gathered list text [] (gatheredAfter g c) d (sym (return-like c text [] e) ∙ h) l (rw (return-kept g c e) is))
+    (λ e. absurd (true≢false (sym (sym (next-like c text [] e) ∙ h))))
+like-gathered list (c ∷ text) (b ∷ whole) g d h l is =
+    sides (eqb c carriageReturn)
+    (λ e. like-gathered list text (b ∷ whole) (gatheredAfter g c) d (sym (return-like c text (b ∷ whole) e) ∙ h) l (rw (return-kept g c e) is))
+    (λ e.
+    let both = sym (next-like c text (b ∷ whole) e) ∙ h in
+    let same = eqb-true b c (and-left (eqb b c) (isLike text whole) both) in
+    like-gathered list text whole (gatheredAfter g c) b (and-right (eqb b c) (isLike text whole) both) l
+    (subst (λ (x : ℕ). IsGathered (gatheredOver (gatheredAfter g x) whole) list) same is))
+
+-- ---- the characters of a list's text
+
+-- no carriage return stands in it
+abbrev noReturns : List ℕ → Bool
+noReturns [] = true
+noReturns (c ∷ text) = cond (eqb c carriageReturn) false true && noReturns text
+
+none-append : (s t : List ℕ) → noReturns s ≡ true → noReturns t ≡ true → noReturns (s ++ t) ≡ true
+none-append [] t h k = k
+none-append (c ∷ s) t h k =
+    and-both (cond (eqb c carriageReturn) false true) (noReturns (s ++ t)) (and-left (cond (eqb c carriageReturn) false true) (noReturns s) h)
+    (none-append s t (and-right (cond (eqb c carriageReturn) false true) (noReturns s) h) k)
+
+none-digit : (d : ℕ) → noReturns (digit d ∷ []) ≡ true
+none-digit d = simp (ne-eqb (digit d) carriageReturn (λ e. omega (arith, e)))
+
+none-digits : (k n : ℕ) → noReturns (digits k n) ≡ true
+none-digits zero n = refl
+none-digits (suc k) n =
+    by-side (λ (t : List ℕ). noReturns t ≡ true) (ltb n 10) (λ e. none-digit n)
+    (λ e. none-append (digits k (n / 10)) (digit (n % 10) ∷ []) (none-digits k (n / 10)) (none-digit (n % 10)))
+
+none-field : (name : List ℕ) (n : ℕ) (rest : List ℕ) → noReturns name ≡ true → noReturns rest ≡ true → noReturns ((name ++ decimal n) ++ rest) ≡ true
+unfolding decimal
+none-field name n rest h k = none-append (name ++ decimal n) rest (none-append name (decimal n) h (none-digits 20 n)) k
+
+none-line : (s : SavedSetting) → noReturns (settingLine s) ≡ true
+none-line s =
+    none-field (ascii "version ") (s .version) _ refl
+    (none-field (ascii ": fine ") (s .fine) _ refl
+    (none-field (ascii ", coarse ") (s .coarse) _ refl
+    (none-field (ascii ", gain ") (s .gain) _ refl (none-field (ascii ", divisor ") (s .divisor) (newline ∷ []) refl refl))))
+
+-- each line ends
+line-ends : (d : ℕ) (s : SavedSetting) → lastOf d (settingLine s) ≡ newline
+line-ends d s = simp last-append
+
+-- a place's line, or none
+by-line : (P : List ℕ → Type 0) (s : SavedSetting) → P [] → P (settingLine s) → P (placeLine s)
+unfolding placeLine
+by-line P s none line = by-side P (isUnused s) (λ u. none) (λ u. line)
+
+none-lines : (n : ℕ) (list : List SavedSetting) → noReturns (linesOf n list) ≡ true
+none-lines zero list = refl
+none-lines (suc n) list =
+    let s = getD list n unused in
+    none-append (linesOf n list) (placeLine s) (none-lines n list) (by-line (λ (t : List ℕ). noReturns t ≡ true) s refl (none-line s))
+
+lines-end : (n : ℕ) (list : List SavedSetting) → lastOf newline (linesOf n list) ≡ newline
+lines-end zero list = refl
+lines-end (suc n) list =
+    let s = getD list n unused in
+    last-append newline (linesOf n list) (placeLine s) ∙ ap (λ (d : ℕ). lastOf d (placeLine s)) (lines-end n list)
+    ∙ by-line (λ (t : List ℕ). lastOf newline t ≡ newline) s refl (line-ends newline s)
+
+-- ---- texts that are like it
+
+is-not : (b : Bool) → cond b false true ≡ true → b ≡ false
+is-not true h = absurd (true≢false (sym h))
+is-not false h = refl
+
+-- one more character of both
+also-like : (c : ℕ) (text whole : List ℕ) → eqb c carriageReturn ≡ false → isLike text whole ≡ true → isLike (c ∷ text) (c ∷ whole) ≡ true
+also-like c text whole e h = next-like c text (c ∷ whole) e ∙ and-both (eqb c c) (isLike text whole) (eq-eqb c c refl) h
+
+module _ (c : ℕ) (text : List ℕ) (h : noReturns (c ∷ text) ≡ true) where
+  first-other : eqb c carriageReturn ≡ false
+  first-other = is-not (eqb c carriageReturn) (and-left (cond (eqb c carriageReturn) false true) (noReturns text) h)
+
+  rest-none : noReturns text ≡ true
+  rest-none = and-right (cond (eqb c carriageReturn) false true) (noReturns text) h
+
+-- all of it but its last character, and the whole
+like-front : (text end : List ℕ) → length end ≤ 1 → noReturns (text ++ end) ≡ true → isLike text (text ++ end) ≡ true
+like-front [] end short h = le-leb (length end) 1 short
+like-front (c ∷ text) end short h =
+    also-like c text (text ++ end) (first-other c (text ++ end) h) (like-front text end short (rest-none c (text ++ end) h))
+
+like-itself : (text : List ℕ) → noReturns text ≡ true → isLike text text ≡ true
+like-itself text h = subst (λ (t : List ℕ). isLike text t ≡ true) (append-nil text) (like-front text [] (omega arith) (rw (append-nil text) h))
+
+-- with carriage returns
+returns-like : (text : List ℕ) → noReturns text ≡ true → isLike (withReturns text) text ≡ true
+returns-like [] h = refl
+returns-like (c ∷ text) h =
+    let rest = also-like c (withReturns text) text (first-other c text h) (returns-like text (rest-none c text h)) in
+    by-side (λ (t : List ℕ). isLike t (c ∷ text) ≡ true) (eqb c newline)
+    (λ e. return-like carriageReturn (c ∷ withReturns text) (c ∷ text) refl ∙ rest) (λ e. rest)
+
+-- ---- read back
+
+-- the text of any list of saved settings, in any form that is like it
+module _ (list : List SavedSetting) (saved : isSavedList list ≡ true) (r : AllInFields list) where
+  long : length list ≡ placeCount
+  long = eqb-true (length list) placeCount (and-left (eqb (length list) placeCount) (versionsInOrder list) saved)
+
+  whole-gathered : IsGathered (gatheredOver nothingGathered (linesOf 8 list)) (listRestored list)
+  whole-gathered =
+      subst (λ (n : ℕ). IsGathered (gatheredOver (gatheredAt [] n) (linesOf n list)) (listRestored list)) long
+      (places-gathered [] list (omega (arith, long)) (and-right (eqb (length list) placeCount) (versionsInOrder list) saved) r)
+
+  restored-saved : isSavedList (listRestored list) ≡ true
+  restored-saved = rw (length-map list placeRestored, same-order list) saved
+
+  same-text : settingsText (listRestored list) ≡ settingsText list
+  unfolding settingsText
+  same-text = same-lines 8 list
+
+  module _ (text : List ℕ) (like : isLike text (settingsText list) ≡ true) where
+    like-numbers : numbersOf text ≡ listRestored list
+    unfolding settingsText numbersOf
+    like-numbers = like-gathered (listRestored list) text (linesOf 8 list) nothingGathered newline like (lines-end 8 list) whole-gathered
+
+    like-valid : isSettingsText text ≡ true
+    unfolding isSettingsText
+    like-valid =
+        rw (like-numbers, same-text) (and-both (isLike text (settingsText list)) (isSavedList (listRestored list)) like restored-saved)
+
+    like-restored : RestoredAs list text
+    like-restored = rw (like-numbers, like-valid) refl
+
+  -- no other text is read so
+  only-like : (text : List ℕ) → RestoredAs list text → isLike text (settingsText list) ≡ true
+  unfolding isSettingsText
+  only-like text e =
+      let numbers : numbersOf text ≡ listRestored list = ap (λ (x : Restored). x .list) e in
+      let like = and-left (isLike text (settingsText (numbersOf text))) (isSavedList (numbersOf text)) (ap (λ (x : Restored). x .valid) e) in
+      subst (λ (t : List ℕ). isLike text t ≡ true) (ap settingsText numbers ∙ same-text) like
+
+  no-returns : noReturns (settingsText list) ≡ true
+  unfolding settingsText
+  no-returns = none-lines 8 list
+
+  pub text-restores : TextRestores list
+  text-restores =
+      record {
+        written = like-restored (settingsText list) (like-itself (settingsText list) no-returns);
+        returned = like-restored (withReturns (settingsText list)) (returns-like (settingsText list) no-returns);
+        unended = λ text e. like-restored text (subst (λ (t : List ℕ). isLike text t ≡ true) e (like-front text (newline ∷ []) (omega arith) (rw e no-returns)));
+        like = like-restored;
+        only = only-like;
+        same-used = same-used list;
+        same = same-list list;
+      }
+
+-- a text that is valid: its list, written and read, is what it was read as
+pub read-again : (text : List ℕ) → restored text .valid ≡ true → restored (settingsText (restored text .list)) ≡ restored text
+unfolding isSettingsText
+read-again text valid =
+    let list = numbersOf text in
+    let back = text-restores list (and-right (isLike text (settingsText list)) (isSavedList list) valid) (numbers-in-fields text) in
+    back .written ∙ sym (back .like text (and-left (isLike text (settingsText list)) (isSavedList list) valid))

@@ -1,0 +1,1 @@
+// Laws of the text of saved settings (02, A11): no code.
