@@ -77,8 +77,8 @@ setting-back s r =
     let divisor : s .divisor % 256 ≡ s .divisor = omega (arith, r .divisor) in
     simp (gain, divisor)
 
-joined : (g h : TextGathered) {k : TextGathered} (s t : List ℕ) → gatheredOver g s ≡ h → gatheredOver h t ≡ k → gatheredOver g (s ++ t) ≡ k
-joined g h s t e d = over-append g s t ∙ ap (λ (x : TextGathered). gatheredOver x t) e ∙ d
+over-two : (g h : TextGathered) {k : TextGathered} (s t : List ℕ) → gatheredOver g s ≡ h → gatheredOver h t ≡ k → gatheredOver g (s ++ t) ≡ k
+over-two g h s t e d = over-append g s t ∙ ap (λ (x : TextGathered). gatheredOver x t) e ∙ d
 
 pub line-read : (g : TextGathered) (s : SavedSetting) → InFields s → gatheredOver (gatheredWith g noFields) (settingLine s) ≡ withLine (gatheredWith g (fieldsOf s))
 unfolding gatheredAfter fieldsAfter
@@ -87,13 +87,13 @@ line-read g s r =
     let f2 : LineFields = record { version = 0; fine = 0; coarse = 0; gain = s .version; divisor = s .fine } in
     let f3 : LineFields = record { version = 0; fine = 0; coarse = s .version; gain = s .fine; divisor = s .coarse } in
     let f4 : LineFields = record { version = 0; fine = s .version; coarse = s .fine; gain = s .coarse; divisor = s .gain } in
-    joined (gatheredWith g noFields) (gatheredWith g f1) (field (ascii "version ") (s .version)) _
+    over-two (gatheredWith g noFields) (gatheredWith g f1) (field (ascii "version ") (s .version)) _
     (field-read g f1 (gatheredWith g noFields) (ascii "version ") (s .version) (r .version) refl)
-    (joined (gatheredWith g f1) (gatheredWith g f2) (field (ascii ": fine ") (s .fine)) _
+    (over-two (gatheredWith g f1) (gatheredWith g f2) (field (ascii ": fine ") (s .fine)) _
     (field-read g f2 (gatheredWith g f1) (ascii ": fine ") (s .fine) (r .fine) refl)
-    (joined (gatheredWith g f2) (gatheredWith g f3) (field (ascii ", coarse ") (s .coarse)) _
+    (over-two (gatheredWith g f2) (gatheredWith g f3) (field (ascii ", coarse ") (s .coarse)) _
     (field-read g f3 (gatheredWith g f2) (ascii ", coarse ") (s .coarse) (r .coarse) refl)
-    (joined (gatheredWith g f3) (gatheredWith g f4) (field (ascii ", gain ") (s .gain)) _
+    (over-two (gatheredWith g f3) (gatheredWith g f4) (field (ascii ", gain ") (s .gain)) _
     (field-read g f4 (gatheredWith g f3) (ascii ", gain ") (s .gain) (omega (arith, r .gain)) refl)
-    (joined (gatheredWith g f4) (gatheredWith g (fieldsOf s)) (field (ascii ", divisor ") (s .divisor)) (newline ∷ [])
+    (over-two (gatheredWith g f4) (gatheredWith g (fieldsOf s)) (field (ascii ", divisor ") (s .divisor)) (newline ∷ [])
     (field-read g (fieldsOf s) (gatheredWith g f4) (ascii ", divisor ") (s .divisor) (omega (arith, r .divisor)) refl) refl))))

@@ -44,12 +44,13 @@ withReturns (c ∷ text) = cond (eqb c newline) (carriageReturn ∷ c ∷ withRe
 abbrev pub RestoredAs : List SavedSetting → List ℕ → Type 0
 RestoredAs list text = restored text ≡ record { list = listRestored list; valid = true }
 
--- a list's text is read back: as it is written, with carriage returns, without its last newline, and in any form that is like it
+-- a list's text is read back: as it is written, with carriage returns, without its last newline, and in any form that is like it, but no other text
+-- is read so; the used places are the same, and all of them where the unused ones held zeros
 pub record TextRestores (list : List SavedSetting) : Type 0 where
   pub written : RestoredAs list (settingsText list)
   pub returned : RestoredAs list (withReturns (settingsText list))
   pub unended : (text : List ℕ) → text ++ (newline ∷ []) ≡ settingsText list → RestoredAs list text
   pub like : (text : List ℕ) → isLike text (settingsText list) ≡ true → RestoredAs list text
   pub only : (text : List ℕ) → RestoredAs list text → isLike text (settingsText list) ≡ true
-  pub same-used : usedOf (listRestored list) ≡ usedOf list
-  pub same : ZerosUnused list → listRestored list ≡ list
+  pub used : usedOf (listRestored list) ≡ usedOf list
+  pub zeros : ZerosUnused list → listRestored list ≡ list

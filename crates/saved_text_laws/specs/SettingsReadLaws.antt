@@ -31,42 +31,42 @@ restored-used : (s : SavedSetting) → isUnused s ≡ false → placeRestored s 
 unfolding placeRestored
 restored-used s u = simp u
 
-same-version : (s : SavedSetting) → placeRestored s .version ≡ s .version
+restored-version : (s : SavedSetting) → placeRestored s .version ≡ s .version
 unfolding placeRestored
-same-version s = by-side (λ (r : SavedSetting). r .version ≡ s .version) (isUnused s) (λ u. sym (eqb-true (s .version) 0 u)) (λ u. refl)
+restored-version s = by-side (λ (r : SavedSetting). r .version ≡ s .version) (isUnused s) (λ u. sym (eqb-true (s .version) 0 u)) (λ u. refl)
 
-same-line : (s : SavedSetting) → placeLine (placeRestored s) ≡ placeLine s
+restored-line : (s : SavedSetting) → placeLine (placeRestored s) ≡ placeLine s
 unfolding placeLine
-same-line s =
+restored-line s =
     sides (isUnused s) (λ u. let e = restored-unused s u in simp (e, u)) (λ u. let e = restored-used s u in simp e)
 
-same-lines : (n : ℕ) (list : List SavedSetting) → linesOf n (listRestored list) ≡ linesOf n list
+restored-lines : (n : ℕ) (list : List SavedSetting) → linesOf n (listRestored list) ≡ linesOf n list
 unfolding placeRestored
-same-lines zero list = refl
-same-lines (suc n) list =
-    rw (same-lines n list, List·getD-map placeRestored list n unused, same-line (getD list n unused)) refl
+restored-lines zero list = refl
+restored-lines (suc n) list =
+    rw (restored-lines n list, List·getD-map placeRestored list n unused, restored-line (getD list n unused)) refl
 
-same-follow : (s t : SavedSetting) → mayFollow (placeRestored s) (placeRestored t) ≡ mayFollow s t
+restored-follow : (s t : SavedSetting) → mayFollow (placeRestored s) (placeRestored t) ≡ mayFollow s t
 unfolding mayFollow
-same-follow s t = simp (same-version s, same-version t)
+restored-follow s t = simp (restored-version s, restored-version t)
 
-same-order : (list : List SavedSetting) → versionsInOrder (listRestored list) ≡ versionsInOrder list
+restored-order : (list : List SavedSetting) → versionsInOrder (listRestored list) ≡ versionsInOrder list
 unfolding versionsInOrder
-same-order [] = refl
-same-order (s ∷ []) = refl
-same-order (s ∷ t ∷ list) = rw (same-follow s t, same-order (t ∷ list)) refl
+restored-order [] = refl
+restored-order (s ∷ []) = refl
+restored-order (s ∷ t ∷ list) = rw (restored-follow s t, restored-order (t ∷ list)) refl
 
-same-used : (list : List SavedSetting) → usedOf (listRestored list) ≡ usedOf list
+restored-first : (list : List SavedSetting) → usedOf (listRestored list) ≡ usedOf list
 unfolding usedOf
-same-used [] = refl
-same-used (s ∷ list) =
-    sides (isUnused s) (λ u. simp (same-version s, u)) (λ u. simp (restored-used s u, u, same-used list))
+restored-first [] = refl
+restored-first (s ∷ list) =
+    sides (isUnused s) (λ u. simp (restored-version s, u)) (λ u. simp (restored-used s u, u, restored-first list))
 
-same-list : (list : List SavedSetting) → ZerosUnused list → listRestored list ≡ list
-same-list [] z = refl
-same-list (s ∷ list) z =
+restored-whole : (list : List SavedSetting) → ZerosUnused list → listRestored list ≡ list
+restored-whole [] z = refl
+restored-whole (s ∷ list) z =
     let place : placeRestored s ≡ s = sides (isUnused s) (λ u. restored-unused s u ∙ sym (z .0 u)) (restored-used s) in
-    rw (place, same-list list (z .1)) refl
+    rw (place, restored-whole list (z .1)) refl
 
 -- ---- lines one after another, each gathered in its place
 
@@ -175,53 +175,53 @@ abbrev noReturns : List ℕ → Bool
 noReturns [] = true
 noReturns (c ∷ text) = cond (eqb c carriageReturn) false true && noReturns text
 
-none-append : (s t : List ℕ) → noReturns s ≡ true → noReturns t ≡ true → noReturns (s ++ t) ≡ true
-none-append [] t h k = k
-none-append (c ∷ s) t h k =
+returnless-append : (s t : List ℕ) → noReturns s ≡ true → noReturns t ≡ true → noReturns (s ++ t) ≡ true
+returnless-append [] t h k = k
+returnless-append (c ∷ s) t h k =
     and-both (cond (eqb c carriageReturn) false true) (noReturns (s ++ t)) (and-left (cond (eqb c carriageReturn) false true) (noReturns s) h)
-    (none-append s t (and-right (cond (eqb c carriageReturn) false true) (noReturns s) h) k)
+    (returnless-append s t (and-right (cond (eqb c carriageReturn) false true) (noReturns s) h) k)
 
-none-digit : (d : ℕ) → noReturns (digit d ∷ []) ≡ true
-none-digit d = simp (ne-eqb (digit d) carriageReturn (λ e. omega (arith, e)))
+returnless-digit : (d : ℕ) → noReturns (digit d ∷ []) ≡ true
+returnless-digit d = simp (ne-eqb (digit d) carriageReturn (λ e. omega (arith, e)))
 
-none-digits : (k n : ℕ) → noReturns (digits k n) ≡ true
-none-digits zero n = refl
-none-digits (suc k) n =
-    by-side (λ (t : List ℕ). noReturns t ≡ true) (ltb n 10) (λ e. none-digit n)
-    (λ e. none-append (digits k (n / 10)) (digit (n % 10) ∷ []) (none-digits k (n / 10)) (none-digit (n % 10)))
+returnless-digits : (k n : ℕ) → noReturns (digits k n) ≡ true
+returnless-digits zero n = refl
+returnless-digits (suc k) n =
+    by-side (λ (t : List ℕ). noReturns t ≡ true) (ltb n 10) (λ e. returnless-digit n)
+    (λ e. returnless-append (digits k (n / 10)) (digit (n % 10) ∷ []) (returnless-digits k (n / 10)) (returnless-digit (n % 10)))
 
-none-field : (name : List ℕ) (n : ℕ) (rest : List ℕ) → noReturns name ≡ true → noReturns rest ≡ true → noReturns ((name ++ decimal n) ++ rest) ≡ true
+returnless-field : (name : List ℕ) (n : ℕ) (rest : List ℕ) → noReturns name ≡ true → noReturns rest ≡ true → noReturns ((name ++ decimal n) ++ rest) ≡ true
 unfolding decimal
-none-field name n rest h k = none-append (name ++ decimal n) rest (none-append name (decimal n) h (none-digits 20 n)) k
+returnless-field name n rest h k = returnless-append (name ++ decimal n) rest (returnless-append name (decimal n) h (returnless-digits 20 n)) k
 
-none-line : (s : SavedSetting) → noReturns (settingLine s) ≡ true
-none-line s =
-    none-field (ascii "version ") (s .version) _ refl
-    (none-field (ascii ": fine ") (s .fine) _ refl
-    (none-field (ascii ", coarse ") (s .coarse) _ refl
-    (none-field (ascii ", gain ") (s .gain) _ refl (none-field (ascii ", divisor ") (s .divisor) (newline ∷ []) refl refl))))
+returnless-line : (s : SavedSetting) → noReturns (settingLine s) ≡ true
+returnless-line s =
+    returnless-field (ascii "version ") (s .version) _ refl
+    (returnless-field (ascii ": fine ") (s .fine) _ refl
+    (returnless-field (ascii ", coarse ") (s .coarse) _ refl
+    (returnless-field (ascii ", gain ") (s .gain) _ refl (returnless-field (ascii ", divisor ") (s .divisor) (newline ∷ []) refl refl))))
 
 -- each line ends
-line-ends : (d : ℕ) (s : SavedSetting) → lastOf d (settingLine s) ≡ newline
-line-ends d s = simp last-append
+line-ended : (d : ℕ) (s : SavedSetting) → lastOf d (settingLine s) ≡ newline
+line-ended d s = simp last-append
 
 -- a place's line, or none
-by-line : (P : List ℕ → Type 0) (s : SavedSetting) → P [] → P (settingLine s) → P (placeLine s)
+by-place : (P : List ℕ → Type 0) (s : SavedSetting) → P [] → P (settingLine s) → P (placeLine s)
 unfolding placeLine
-by-line P s none line = by-side P (isUnused s) (λ u. none) (λ u. line)
+by-place P s none line = by-side P (isUnused s) (λ u. none) (λ u. line)
 
-none-lines : (n : ℕ) (list : List SavedSetting) → noReturns (linesOf n list) ≡ true
-none-lines zero list = refl
-none-lines (suc n) list =
+returnless-lines : (n : ℕ) (list : List SavedSetting) → noReturns (linesOf n list) ≡ true
+returnless-lines zero list = refl
+returnless-lines (suc n) list =
     let s = getD list n unused in
-    none-append (linesOf n list) (placeLine s) (none-lines n list) (by-line (λ (t : List ℕ). noReturns t ≡ true) s refl (none-line s))
+    returnless-append (linesOf n list) (placeLine s) (returnless-lines n list) (by-place (λ (t : List ℕ). noReturns t ≡ true) s refl (returnless-line s))
 
-lines-end : (n : ℕ) (list : List SavedSetting) → lastOf newline (linesOf n list) ≡ newline
-lines-end zero list = refl
-lines-end (suc n) list =
+lines-ended : (n : ℕ) (list : List SavedSetting) → lastOf newline (linesOf n list) ≡ newline
+lines-ended zero list = refl
+lines-ended (suc n) list =
     let s = getD list n unused in
-    last-append newline (linesOf n list) (placeLine s) ∙ ap (λ (d : ℕ). lastOf d (placeLine s)) (lines-end n list)
-    ∙ by-line (λ (t : List ℕ). lastOf newline t ≡ newline) s refl (line-ends newline s)
+    last-append newline (linesOf n list) (placeLine s) ∙ ap (λ (d : ℕ). lastOf d (placeLine s)) (lines-ended n list)
+    ∙ by-place (λ (t : List ℕ). lastOf newline t ≡ newline) s refl (line-ended newline s)
 
 -- ---- texts that are like it
 
@@ -234,17 +234,17 @@ also-like : (c : ℕ) (text whole : List ℕ) → eqb c carriageReturn ≡ false
 also-like c text whole e h = next-like c text (c ∷ whole) e ∙ and-both (eqb c c) (isLike text whole) (eq-eqb c c refl) h
 
 module _ (c : ℕ) (text : List ℕ) (h : noReturns (c ∷ text) ≡ true) where
-  first-other : eqb c carriageReturn ≡ false
-  first-other = is-not (eqb c carriageReturn) (and-left (cond (eqb c carriageReturn) false true) (noReturns text) h)
+  returnless-first : eqb c carriageReturn ≡ false
+  returnless-first = is-not (eqb c carriageReturn) (and-left (cond (eqb c carriageReturn) false true) (noReturns text) h)
 
-  rest-none : noReturns text ≡ true
-  rest-none = and-right (cond (eqb c carriageReturn) false true) (noReturns text) h
+  returnless-rest : noReturns text ≡ true
+  returnless-rest = and-right (cond (eqb c carriageReturn) false true) (noReturns text) h
 
 -- all of it but its last character, and the whole
 like-front : (text end : List ℕ) → length end ≤ 1 → noReturns (text ++ end) ≡ true → isLike text (text ++ end) ≡ true
 like-front [] end short h = le-leb (length end) 1 short
 like-front (c ∷ text) end short h =
-    also-like c text (text ++ end) (first-other c (text ++ end) h) (like-front text end short (rest-none c (text ++ end) h))
+    also-like c text (text ++ end) (returnless-first c (text ++ end) h) (like-front text end short (returnless-rest c (text ++ end) h))
 
 like-itself : (text : List ℕ) → noReturns text ≡ true → isLike text text ≡ true
 like-itself text h = subst (λ (t : List ℕ). isLike text t ≡ true) (append-nil text) (like-front text [] (omega arith) (rw (append-nil text) h))
@@ -253,7 +253,7 @@ like-itself text h = subst (λ (t : List ℕ). isLike text t ≡ true) (append-n
 returns-like : (text : List ℕ) → noReturns text ≡ true → isLike (withReturns text) text ≡ true
 returns-like [] h = refl
 returns-like (c ∷ text) h =
-    let rest = also-like c (withReturns text) text (first-other c text h) (returns-like text (rest-none c text h)) in
+    let rest = also-like c (withReturns text) text (returnless-first c text h) (returns-like text (returnless-rest c text h)) in
     by-side (λ (t : List ℕ). isLike t (c ∷ text) ≡ true) (eqb c newline)
     (λ e. return-like carriageReturn (c ∷ withReturns text) (c ∷ text) refl ∙ rest) (λ e. rest)
 
@@ -270,21 +270,21 @@ module _ (list : List SavedSetting) (saved : isSavedList list ≡ true) (r : All
       (places-gathered [] list (omega (arith, long)) (and-right (eqb (length list) placeCount) (versionsInOrder list) saved) r)
 
   restored-saved : isSavedList (listRestored list) ≡ true
-  restored-saved = rw (length-map list placeRestored, same-order list) saved
+  restored-saved = rw (length-map list placeRestored, restored-order list) saved
 
-  same-text : settingsText (listRestored list) ≡ settingsText list
+  restored-text : settingsText (listRestored list) ≡ settingsText list
   unfolding settingsText
-  same-text = same-lines 8 list
+  restored-text = restored-lines 8 list
 
   module _ (text : List ℕ) (like : isLike text (settingsText list) ≡ true) where
     like-numbers : numbersOf text ≡ listRestored list
     unfolding settingsText numbersOf
-    like-numbers = like-gathered (listRestored list) text (linesOf 8 list) nothingGathered newline like (lines-end 8 list) whole-gathered
+    like-numbers = like-gathered (listRestored list) text (linesOf 8 list) nothingGathered newline like (lines-ended 8 list) whole-gathered
 
     like-valid : isSettingsText text ≡ true
     unfolding isSettingsText
     like-valid =
-        rw (like-numbers, same-text) (and-both (isLike text (settingsText list)) (isSavedList (listRestored list)) like restored-saved)
+        rw (like-numbers, restored-text) (and-both (isLike text (settingsText list)) (isSavedList (listRestored list)) like restored-saved)
 
     like-restored : RestoredAs list text
     like-restored = rw (like-numbers, like-valid) refl
@@ -295,22 +295,22 @@ module _ (list : List SavedSetting) (saved : isSavedList list ≡ true) (r : All
   only-like text e =
       let numbers : numbersOf text ≡ listRestored list = ap (λ (x : Restored). x .list) e in
       let like = and-left (isLike text (settingsText (numbersOf text))) (isSavedList (numbersOf text)) (ap (λ (x : Restored). x .valid) e) in
-      subst (λ (t : List ℕ). isLike text t ≡ true) (ap settingsText numbers ∙ same-text) like
+      subst (λ (t : List ℕ). isLike text t ≡ true) (ap settingsText numbers ∙ restored-text) like
 
-  no-returns : noReturns (settingsText list) ≡ true
+  returnless-text : noReturns (settingsText list) ≡ true
   unfolding settingsText
-  no-returns = none-lines 8 list
+  returnless-text = returnless-lines 8 list
 
   pub text-restores : TextRestores list
   text-restores =
       record {
-        written = like-restored (settingsText list) (like-itself (settingsText list) no-returns);
-        returned = like-restored (withReturns (settingsText list)) (returns-like (settingsText list) no-returns);
-        unended = λ text e. like-restored text (subst (λ (t : List ℕ). isLike text t ≡ true) e (like-front text (newline ∷ []) (omega arith) (rw e no-returns)));
+        written = like-restored (settingsText list) (like-itself (settingsText list) returnless-text);
+        returned = like-restored (withReturns (settingsText list)) (returns-like (settingsText list) returnless-text);
+        unended = λ text e. like-restored text (subst (λ (t : List ℕ). isLike text t ≡ true) e (like-front text (newline ∷ []) (omega arith) (rw e returnless-text)));
         like = like-restored;
         only = only-like;
-        same-used = same-used list;
-        same = same-list list;
+        used = restored-first list;
+        zeros = restored-whole list;
       }
 
 -- a text that is valid: its list, written and read, is what it was read as
