@@ -26,7 +26,7 @@ use Rattle.refinement.specs.Runs.{RunCall, run, one}
 use Rattle.reader_table.specs.declared.TablePlace.{TablePlace}
 use Rattle.reader_table.specs.declared.ReaderTable.{ReaderTable}
 use Rattle.reader_table.specs.Table.{isTechnician, nobody, placeFor, freePlace, placeCount, emptyTable, placeAt, withPlace, heldBy, lowestFree, PlaceCalled, notOpened, opensAt, openPlace, openNumbered, openPlaceOf, notCalled, lentTo, callHeld, callPlaceOf, closeHeld, closePlaceOf, denialBy}
-use Rattle.table_history.specs.Places.{somebody, put-same, put-other}
+use Rattle.table_history.specs.Places.{somebody, put-same, put-other, there}
 use Rattle.table_history.specs.Lowest.{put-length}
 use Rattle.fluturenc.specs.State.{stateLength, stored, readerIn}
 use Rattle.fluturenc.specs.StateLaws.{stored-length}
@@ -38,6 +38,9 @@ use Rattle.fluturenc_table_laws.specs.TableHeld.{placeBy, placesHeld, ta
 use Rattle.fluturenc_table_laws.specs.ApartLaws.{within, owner-byte, state-length, with-room, with-here, with-others, with-owners, owned-states, owned-others}
 
 -- Places.
+
+not-nobody : (who : ℕ) → isTechnician who ≡ true → eqb who nobody ≡ false
+not-nobody who h = ne-eqb who nobody (λ e. eqb-false nobody who (somebody who h) (sym e))
 
 placed-owner : (owner : ℕ) (state : List ℕ) → placeBy owner state .owner ≡ owner
 placed-owner owner state = go (eqb owner nobody) refl
@@ -197,20 +200,11 @@ module _ (s : List ℕ) (t : ReaderTable) (h : HoldsTable s t) where
 
   module _ (who i : ℕ) (a : isTechnician who ≡ true) (b : eqb (ownerAt s i) who ≡ true) where
     is-there : i < placeCount
-    unfolding placeAt
-    is-there = go (ltb i placeCount) refl (owner-same i ∙ eqb-true (ownerAt s i) who b)
-      where
-        go : (x : Bool) → ltb i placeCount ≡ x → placeAt t i .owner ≡ who → i < placeCount
-        go true e o = ltb-true i placeCount e
-        go false e o =
-            absurd (eqb-false nobody who (somebody who a) (sym (ap (λ (p : TablePlace). p .owner) (List·getD-eq-default (t .places) freePlace {n = i} (let k = ltb-false i placeCount e in omega (arith, k, h .eight)))) ∙ o))
-
-    is-taken : eqb who nobody ≡ false
-    is-taken = ne-eqb who nobody (λ e. eqb-false nobody who (somebody who a) (sym e))
+    is-there = let l = there t who i (placeAt t i .reader) a (held-by who i true b) in omega (arith, l, h .eight)
 
     reader-there : HoldsReader (stateAt s i) (placeAt t i .reader)
     reader-there =
-        let taken : eqb (ownerAt s i) nobody ≡ false = ap (λ (n : ℕ). eqb n nobody) (eqb-true (ownerAt s i) who b) ∙ is-taken in
+        let taken : eqb (ownerAt s i) nobody ≡ false = ap (λ (n : ℕ). eqb n nobody) (eqb-true (ownerAt s i) who b) ∙ not-nobody who a in
         let place = h .each i is-there in
         subst (HoldsReader (stateAt s i))
         (ap (λ (p : TablePlace). p .reader) (sym (taken-place (ownerAt s i) (stateAt s i) taken) ∙ place .read))
@@ -334,7 +328,7 @@ module _ (s : List ℕ) (t : ReaderTable) (h : HoldsTable s t) where
             says = ap (λ (c : FeedCalled). c .answer) (fed .0);
             count = ap (λ (c : FeedCalled). c .taken) (fed .0);
             leaves = ap (λ (c : FeedCalled). c .line) (fed .0);
-            keeps = state-put s t h i who (feedCall (stateAt s i) w line .state) (runOf r w (length line) .reader) l (eqb-true (ownerAt s i) who f) (is-taken s t h who i e f)
+            keeps = state-put s t h i who (feedCall (stateAt s i) w line .state) (runOf r w (length line) .reader) l (eqb-true (ownerAt s i) who f) (not-nobody who e)
                 (fed-length (stateAt s i) w line r x ∙ state-length s i (h .room) l) (fed .1);
           })
 
@@ -357,7 +351,7 @@ module _ (s : List ℕ) (t : ReaderTable) (h : HoldsTable s t) where
           (technician-called t who i (one done) (some r) e (held-by s t h who i true f))
           (record {
             says = finishes (stateAt s i) r x .0;
-            keeps = state-put s t h i who (finishCall (stateAt s i) .state) (finishOf r .reader) l (eqb-true (ownerAt s i) who f) (is-taken s t h who i e f)
+            keeps = state-put s t h i who (finishCall (stateAt s i) .state) (finishOf r .reader) l (eqb-true (ownerAt s i) who f) (not-nobody who e)
                 (finished-length (stateAt s i) r x ∙ state-length s i (h .room) l) (finishes (stateAt s i) r x .1);
           })
 
@@ -398,7 +392,7 @@ module _ (s : List ℕ) (t : ReaderTable) (h : HoldsTable s t) where
       ))
       (moved (owner-byte bytes i l ∙ getD-set-same with-fresh (placeStart i) who 0 (let k = within i l in omega (arith, k, h .room, same-room)))
       (owned-states with-fresh i who i ∙ with-here s i state (h .room) l full) refl
-      (reader-held who state (freshReader p) (ne-eqb who nobody (λ q. eqb-false nobody who (somebody who a) (sym q))) held))
+      (reader-held who state (freshReader p) (not-nobody who a) held))
     where
       state : List ℕ
       state = openCall n (stateAt s i) .state
