@@ -42,6 +42,6 @@ pieces zero a b = []
 pieces (suc turns) a b =
     cond (eqb (passed a b + passed b a) 0) [] (rowsText (nextDifferences a b) ∷ pieces turns (drop (passed a b) a) (drop (passed b a) b))
 
-abbrev pub endToEnd : List (List ℕ) → List ℕ
-endToEnd [] = []
-endToEnd (p ∷ ps) = p ++ endToEnd ps
+abbrev pub rowsEndToEnd : List (List ℕ) → List ℕ
+rowsEndToEnd [] = []
+rowsEndToEnd (p ∷ ps) = p ++ rowsEndToEnd ps

@@ -24,7 +24,7 @@ use Rattle.line_diff_laws.specs.CompareLaws.{AllBytes}
 use Rattle.diff_summary.specs.Front.{frontOf, frontSize, changeOf}
 use Rattle.diff_summary.specs.FrontLaws.{differences-step}
 use Rattle.diff_summary.specs.Words.{changeRow, lineWord, kindWord, kindsWords, pairWords}
-use Rattle.diff_rows.specs.Rows.{rowsText, allRows, passed, pieces, endToEnd}
+use Rattle.diff_rows.specs.Rows.{rowsText, allRows, passed, pieces, rowsEndToEnd}
 
 rows-append : (ds es : List Difference) → rowsText (ds ++ es) ≡ rowsText ds ++ rowsText es
 rows-append [] es = refl
@@ -163,7 +163,7 @@ bytes-drop : (x : List ℕ) (k : ℕ) → AllBytes x → AllBytes (drop k x)
 bytes-drop x k b i = subst (λ (v : ℕ). v < 256) (sym (getD-drop k x i 0)) (b (k + i))
 
 -- the law: the rows of one number after another, from as many numbers as the lists may hold, are all rows
-pub rows-end-to-end : (turns : ℕ) (x y : List ℕ) → AllBytes x → AllBytes y → length x + length y ≤ turns → endToEnd (pieces turns x y) ≡ allRows x y
+pub rows-end-to-end : (turns : ℕ) (x y : List ℕ) → AllBytes x → AllBytes y → length x + length y ≤ turns → rowsEndToEnd (pieces turns x y) ≡ allRows x y
 rows-end-to-end zero x y b c h =
     let s = stepped x y (nextNumber x) (nextNumber y) (bytes-next x b) (bytes-next y c) in
     sym (ap rowsText (s .ends (omega (arith, s .first-in, s .second-in))))
@@ -178,8 +178,8 @@ rows-end-to-end (suc turns) x y b c h =
     onward = allRows (drop (passed x y) x) (drop (passed y x) y)
 
     by : (t : Bool) → eqb (passed x y + passed y x) 0 ≡ t
-        → (length (drop (passed x y) x) + length (drop (passed y x) y) ≤ turns → endToEnd (pieces turns (drop (passed x y) x) (drop (passed y x) y)) ≡ onward)
-        → endToEnd (cond t [] (rowsText (nextDifferences x y) ∷ pieces turns (drop (passed x y) x) (drop (passed y x) y))) ≡ allRows x y
+        → (length (drop (passed x y) x) + length (drop (passed y x) y) ≤ turns → rowsEndToEnd (pieces turns (drop (passed x y) x) (drop (passed y x) y)) ≡ onward)
+        → rowsEndToEnd (cond t [] (rowsText (nextDifferences x y) ∷ pieces turns (drop (passed x y) x) (drop (passed y x) y))) ≡ allRows x y
     by true e rest = sym (ap rowsText (s .ends (eqb-true (passed x y + passed y x) 0 e)))
     by false e rest =
         let fewer = rest (omega (arith, h, eqb-false (passed x y + passed y x) 0 e, s .first-in, s .second-in, length-drop (passed x y) x, length-drop (passed y x) y)) in

@@ -9,7 +9,7 @@ use Rattle.saved_setting.specs.declared.SavedSetting.{SavedSetting}
 use Rattle.saved_setting.specs.declared.Saved.{Saved}
 use Rattle.saved_setting.specs.declared.Saved.the-variants as saved
 use Rattle.saved_setting.specs.declared.SavedList.{SavedList}
-use Rattle.saved_setting.specs.SavedSettings.{placeCount, Leaves}
+use Rattle.saved_setting.specs.SavedSettings.{settingPlaces, Leaves}
 use Rattle.fluturenc_settings.specs.SavedBytes.{listSize, listIn, savedNumber, savedVersion, bytesAfter, SaveGives}
 use Rattle.fluturenc_settings.specs.SavedBytesLaws.{no-list}
 
@@ -24,7 +24,7 @@ told call list held after a answer version before bytes e left g =
       leaves = g .leaves ∙ ap₂ (λ (x : Saved) (l : List SavedSetting). bytesAfter x l before) (same .answers) (same .leaves);
     }
 
-pub not-eight : (b : List ℕ) → (length b ≡ listSize → ⊥) → length (listIn b) ≡ placeCount → ⊥
+pub not-eight : (b : List ℕ) → (length b ≡ listSize → ⊥) → length (listIn b) ≡ settingPlaces → ⊥
 not-eight b other h =
     let none : length (listIn b) ≡ 0 = ap length (no-list b other) in
     omega (arith, none, h)

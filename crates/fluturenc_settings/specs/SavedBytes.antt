@@ -19,7 +19,7 @@ use Rattle.saved_setting.specs.declared.Saved.the-variants as saved
 use Rattle.saved_setting.specs.declared.Held.{Held}
 use Rattle.saved_setting.specs.declared.Held.the-variants as held
 use Rattle.saved_setting.specs.declared.SavedList.{SavedList}
-use Rattle.saved_setting.specs.SavedSettings.{placeCount}
+use Rattle.saved_setting.specs.SavedSettings.{settingPlaces}
 use Rattle.fluturenc_settings.specs.declared.FourPlaces.{FourPlaces}
 
 -- the bytes of a place, and of a list
@@ -27,7 +27,7 @@ abbrev pub placeSize : ℕ
 placeSize = 8
 
 abbrev pub listSize : ℕ
-listSize = placeCount * placeSize
+listSize = settingPlaces * placeSize
 
 -- ---- settings as bytes
 
@@ -58,7 +58,7 @@ firstSettings (suc n) b = frontSetting b ∷ firstSettings n (drop placeSize b)
 
 -- the eight settings of a list; bytes of another length hold none
 unfoldable pub listIn : List ℕ → List SavedSetting
-listIn b = cond (eqb (length b) listSize) (firstSettings placeCount b) []
+listIn b = cond (eqb (length b) listSize) (firstSettings settingPlaces b) []
 
 -- half of a list
 abbrev pub fourOf : FourPlaces → List SavedSetting

@@ -16,7 +16,7 @@ use Rattle.saved_setting.specs.declared.SavedSetting.{SavedSetting}
 use Rattle.saved_setting.specs.declared.Saved.{Saved}
 use Rattle.saved_setting.specs.declared.Saved.the-variants as saved
 use Rattle.saved_setting.specs.declared.SavedList.{SavedList}
-use Rattle.saved_setting.specs.SavedSettings.{mayFollow, placeCount, versionsInOrder, isSavedList, refusing, savedWanted, foundIn, savedAgain}
+use Rattle.saved_setting.specs.SavedSettings.{mayFollow, settingPlaces, versionsInOrder, isSavedList, keepingList, savedWanted, foundIn, savedAgain}
 use Rattle.saved_settings_laws.specs.Histories.{usedOf, SettingCall, saving, goingBack, calledOn, afterCalls}
 use Rattle.saved_settings_laws.specs.OrderLaws.{sides}
 use Rattle.saved_settings_laws.specs.HistoryLaws.{refusal-keeps, stays-ordered}
@@ -24,7 +24,7 @@ use Rattle.fluturenc_settings.specs.SavedBytes.{placeSize, listSize, pla
 
 -- ---- settings and bytes
 
-pub held-list : (b : List ℕ) → length b ≡ listSize → firstSettings placeCount b ≡ listIn b
+pub held-list : (b : List ℕ) → length b ≡ listSize → firstSettings settingPlaces b ≡ listIn b
 unfolding listIn
 held-list b h = simp (eq-eqb (length b) listSize h)
 
@@ -51,7 +51,7 @@ bytes-length [] = refl
 bytes-length (s ∷ list) = omega (arith, bytes-length list)
 
 -- eight settings that are stored are read back
-pub list-back : (list : List SavedSetting) → length list ≡ placeCount → listIn (listBytes list) ≡ list
+pub list-back : (list : List SavedSetting) → length list ≡ settingPlaces → listIn (listBytes list) ≡ list
 list-back list h =
     let long : length (listBytes list) ≡ listSize = omega (arith, bytes-length list, h) in
     sym (held-list (listBytes list) long) ∙ ap (λ (n : ℕ). firstSettings n (listBytes list)) (sym h) ∙ settings-back list
@@ -88,7 +88,7 @@ first-back (suc n) b h small =
 
 -- the bytes of a list that is read are stored as they were
 pub same-bytes : (b : List ℕ) → length b ≡ listSize → ((i : ℕ) → getD b i 0 < 256) → listBytes (listIn b) ≡ b
-same-bytes b h small = ap listBytes (sym (held-list b h)) ∙ first-back placeCount b h small
+same-bytes b h small = ap listBytes (sym (held-list b h)) ∙ first-back settingPlaces b h small
 
 -- a fresh list is all 0: it is in order, and none of its places is used
 pub fresh-list : (isSavedList (listIn (replicate listSize 0)) ≡ true) × (usedOf (listIn (replicate listSize 0)) ≡ [])
@@ -105,12 +105,12 @@ abbrev pub bytesAfterCalls : List ℕ → List SettingCall → List ℕ
 bytesAfterCalls b [] = b
 bytesAfterCalls b (c ∷ calls) = bytesAfterCalls (bytesCalled b c) calls
 
-left-by : (b : List ℕ) (list : List SavedSetting) (a : Saved) → length list ≡ placeCount → ((n : ℕ) → a ≡ saved.Refused n → list ≡ listIn b)
+left-by : (b : List ℕ) (list : List SavedSetting) (a : Saved) → length list ≡ settingPlaces → ((n : ℕ) → a ≡ saved.Refused n → list ≡ listIn b)
     → listIn (bytesAfter a list b) ≡ list
 left-by b list (saved.Version v) long same = list-back list long
 left-by b list (saved.Refused n) long same = sym (same n refl)
 
-out-of-order : (list : List SavedSetting) (c : SettingCall) → isSavedList list ≡ false → calledOn list c ≡ refusing notSavedSettings list
+out-of-order : (list : List SavedSetting) (c : SettingCall) → isSavedList list ≡ false → calledOn list c ≡ keepingList notSavedSettings list
 unfolding savedWanted savedAgain foundIn
 out-of-order list (saving w) h = simp h
 out-of-order list (goingBack v) h = simp h
@@ -122,7 +122,7 @@ call-left b c =
     (λ ok.
     let after : List SavedSetting = calledOn (listIn b) c .list in
     left-by b after (calledOn (listIn b) c .answer)
-    (eqb-true (length after) placeCount (and-left (eqb (length after) placeCount) (versionsInOrder after) (stays-ordered (listIn b) c ok)))
+    (eqb-true (length after) settingPlaces (and-left (eqb (length after) settingPlaces) (versionsInOrder after) (stays-ordered (listIn b) c ok)))
     (refusal-keeps (listIn b) c))
     (λ no. subst (λ (o : SavedList). listIn (bytesAfter (o .answer) (o .list) b) ≡ o .list) (sym (out-of-order (listIn b) c no)) refl)
 

@@ -8,7 +8,7 @@ use lib.Dec.{eqb}
 use lib.ListN.{length}
 use Rattle.recovery.specs.Calls.{done}
 use Rattle.refinement.specs.Runs.{run, one}
-use Rattle.table_history.specs.History.{Request, toOpen, toRead, toClose, TableCall, TableReply, openReply, callReply}
+use Rattle.table_history.specs.History.{TableRequest, toOpen, toRead, toClose, TableCall, TableReply, openReply, callReply}
 use Rattle.fluturenc.specs.Calls.{FeedCalled, answerNumber}
 use Rattle.fluturenc_table.specs.TableBytes.{tableLength}
 use Rattle.fluturenc_table.specs.TableCalls.{newTable, openTable, feedTable, finishTable, closeTable}
@@ -78,7 +78,7 @@ BytesIsolated who =
 
 -- The same history, of the table.
 
-abbrev pub requestFor : TableAsk → Request
+abbrev pub requestFor : TableAsk → TableRequest
 requestFor (askOpen n) = toOpen n
 requestFor (askFeed i w line) = toRead i (run w line)
 requestFor (askFinish i) = toRead i (one done)

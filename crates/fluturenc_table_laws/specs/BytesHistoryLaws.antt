@@ -20,7 +20,7 @@ use Rattle.recovery.specs.Calls.{done}
 use Rattle.refinement.specs.Runs.{one}
 use Rattle.reader_table.specs.declared.ReaderTable.{ReaderTable}
 use Rattle.reader_table.specs.Table.{isTechnician, placeCount, emptyTable, heldBy, lowestFree, Placing, at-place, not-placed, notOpened, opensAt, openPlace, openNumbered, openPlaceOf, notCalled, lentTo, callHeld, callPlaceOf, closeHeld, closePlaceOf}
-use Rattle.table_history.specs.History.{TableReply, openReply, callReply, Served, serve, requestsOf, toldTo, openingsIn}
+use Rattle.table_history.specs.History.{TableReply, openReply, callReply, TableServed, serve, requestsOf, toldTo, openingsIn}
 use Rattle.table_history.specs.Isolation.{isolation}
 use Rattle.fluturenc_table.specs.TableCalls.{newTable}
 use Rattle.fluturenc_table_laws.specs.TableHeld.{HoldsTable, placingNumber}
@@ -79,7 +79,7 @@ history-told who (c ∷ cs) s t h =
     a : BytesServed
     a = bytesServe s (c .who) (c .ask)
 
-    b : Served
+    b : TableServed
     b = serve t (c .who) (requestFor (c .ask))
 
     xs : List BytesReply
@@ -157,7 +157,7 @@ told-legal who (c ∷ cs) s t h =
     go (eqb (c .who) who)
     (told-legal who cs (bytesServe s (c .who) (c .ask) .bytes) (serve t (c .who) (requestFor (c .ask)) .table) (after-held s t h (c .who) (c .ask)))
   where
-    a : Served
+    a : TableServed
     a = serve t (c .who) (requestFor (c .ask))
 
     rest : List TableReply

@@ -67,7 +67,7 @@ pub fn read(file: &[u8], rows: &mut [u8]) -> Filled
 
 impl Format {
     // The rows of a picture.
-    pub fn height(self) -> usize
+    fn height(self) -> usize
         ensures { λ r. ⌜ r ≡ height self ⌝ }
     {
         match self {
@@ -77,7 +77,7 @@ impl Format {
     }
 
     // The pixels of a picture.
-    pub fn size(self) -> usize
+    fn size(self) -> usize
         ensures { λ r. ⌜ r ≡ size self ⌝ }
     {
         self.height() * Profile::WIDTH

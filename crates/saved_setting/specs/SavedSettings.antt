@@ -49,11 +49,11 @@ versionsInOrder [] = true
 versionsInOrder (s ∷ []) = true
 versionsInOrder (s ∷ t ∷ list) = mayFollow s t && versionsInOrder (t ∷ list)
 
-abbrev pub placeCount : ℕ
-placeCount = 8
+abbrev pub settingPlaces : ℕ
+settingPlaces = 8
 
 abbrev pub isSavedList : List SavedSetting → Bool
-isSavedList list = eqb (length list) placeCount && versionsInOrder list
+isSavedList list = eqb (length list) settingPlaces && versionsInOrder list
 
 -- ---- versions
 
@@ -92,18 +92,18 @@ savedInto s list = putIn s (cond (allUsed list) (drop 1 list) list)
 
 -- ---- what the calls answer, and the list that they leave
 
-abbrev pub refusing : ℕ → List SavedSetting → SavedList
-refusing n list = record { answer = saved.Refused n; list = list }
+abbrev pub keepingList : ℕ → List SavedSetting → SavedList
+keepingList n list = record { answer = saved.Refused n; list = list }
 
 -- a setting is saved as it is, under one more than the newest version held
 unfoldable pub savedNext : List SavedSetting → SavedSetting → SavedList
 savedNext list s =
-    cond (eqb (newestVersion list) lastVersion) (refusing noVersionLeft list)
+    cond (eqb (newestVersion list) lastVersion) (keepingList noVersionLeft list)
     (record { answer = saved.Version (newestVersion list + 1); list = savedInto (renumbered s (newestVersion list + 1)) list })
 
 unfoldable pub savedWanted : List SavedSetting → Wanted → SavedList
 savedWanted list w =
-    cond (isSavedList list) (cond (isAllowed w) (savedNext list (clipped w)) (refusing badSetting list)) (refusing notSavedSettings list)
+    cond (isSavedList list) (cond (isAllowed w) (savedNext list (clipped w)) (keepingList badSetting list)) (keepingList notSavedSettings list)
 
 unfoldable pub foundIn : List SavedSetting → ℕ → Held
 foundIn list v = cond (isSavedList list) (cond (eqb v 0) (held.Refused versionNotHeld) (lookUp v list)) (held.Refused notSavedSettings)
@@ -111,7 +111,7 @@ foundIn list v = cond (isSavedList list) (cond (eqb v 0) (held.Refused versionNo
 -- going back: what is found is saved as it stands
 abbrev pub savedFound : List SavedSetting → Held → SavedList
 savedFound list (held.Setting s) = savedNext list s
-savedFound list (held.Refused n) = refusing n list
+savedFound list (held.Refused n) = keepingList n list
 
 unfoldable pub savedAgain : List SavedSetting → ℕ → SavedList
 savedAgain list v = savedFound list (foundIn list v)

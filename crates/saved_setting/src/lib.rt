@@ -130,7 +130,7 @@ fn refused(n: u8, places: EightPlaces) -> SavedPlaces
 }
 
 // Whether a setting may be saved: its gain code, divisor and frame rate.
-pub fn is_allowed(wanted: Wanted) -> bool
+fn is_allowed(wanted: Wanted) -> bool
     ensures { λ r. ⌜ r ≡ isAllowed wanted ⌝ }
 {
     if exposure::is_gain(wanted.gain as u32) {
@@ -146,7 +146,7 @@ pub fn is_allowed(wanted: Wanted) -> bool
 }
 
 // What is saved of a wanted setting: fine and coarse exposure clipped. Its version is still to be given.
-pub fn clip(wanted: Wanted) -> SavedSetting
+fn clip(wanted: Wanted) -> SavedSetting
     ensures { λ r. ⌜ r ≡ clipped wanted ⌝ }
 {
     SavedSetting {

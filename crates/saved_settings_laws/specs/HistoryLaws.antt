@@ -16,7 +16,7 @@ use Rattle.saved_setting.specs.declared.Saved.the-variants as saved
 use Rattle.saved_setting.specs.declared.Held.{Held}
 use Rattle.saved_setting.specs.declared.Held.the-variants as held
 use Rattle.saved_setting.specs.declared.SavedList.{SavedList}
-use Rattle.saved_setting.specs.SavedSettings.{isAllowed, clipped, renumbered, versionsInOrder, placeCount, isSavedList, lastVersion, newestVersion, lookUp, allUsed, savedInto, refusing, savedNext, savedWanted, foundIn, savedFound, savedAgain}
+use Rattle.saved_setting.specs.SavedSettings.{isAllowed, clipped, renumbered, versionsInOrder, settingPlaces, isSavedList, lastVersion, newestVersion, lookUp, allUsed, savedInto, keepingList, savedNext, savedWanted, foundIn, savedFound, savedAgain}
 use Rattle.saved_settings_laws.specs.Histories.{usedOf, SettingCall, saving, goingBack, calledOn, ToSave, afterCalls, savesOf, laterSaves}
 use Rattle.saved_settings_laws.specs.OrderLaws.{by-side, sides, by-held, held-recent, isSetting}
 use Rattle.saved_settings_laws.specs.PutInLaws.{into}
@@ -27,7 +27,7 @@ use Rattle.saved_settings_laws.specs.PutInLaws.{into}
 abbrev savedUnder : List SavedSetting → SavedSetting → SavedList
 savedUnder list s = record { answer = saved.Version (newestVersion list + 1); list = savedInto (renumbered s (newestVersion list + 1)) list }
 
-module _ (P : SavedList → Type 0) (list : List SavedSetting) (no : (n : ℕ) → P (refusing n list))
+module _ (P : SavedList → Type 0) (list : List SavedSetting) (no : (n : ℕ) → P (keepingList n list))
     (yes : (s : SavedSetting) → isSavedList list ≡ true → (newestVersion list ≡ lastVersion → ⊥) → P (savedUnder list s)) where
   by-next : (s : SavedSetting) → isSavedList list ≡ true → P (savedNext list s)
   unfolding savedNext
@@ -97,7 +97,7 @@ record Did (list : List SavedSetting) (s : SavedSetting) (v : ℕ) (o : SavedLis
   does : o ≡ savedUnder list s
 
 module _ (list : List SavedSetting) (v : ℕ) where
-  refuses : (s : SavedSetting) (n : ℕ) → refusing n list .answer ≡ saved.Version v → Did list s v (refusing n list)
+  refuses : (s : SavedSetting) (n : ℕ) → keepingList n list .answer ≡ saved.Version v → Did list s v (keepingList n list)
   refuses s n q = absurd (true≢false (sym (ap isVersion q)))
 
   did-next : (s : SavedSetting) → isSavedList list ≡ true → savedNext list s .answer ≡ saved.Version v → Did list s v (savedNext list s)
@@ -124,7 +124,7 @@ module _ (list : List SavedSetting) (v : ℕ) where
 record SavedSince (v : ℕ) (s : SavedSetting) (k : ℕ) (list : List SavedSetting) : Type 0 where
   ordered : isSavedList list ≡ true
   newest : newestVersion list ≡ v + k
-  stays : k < placeCount → lookUp v list ≡ held.Setting s
+  stays : k < settingPlaces → lookUp v list ≡ held.Setting s
 
 module _ (v : ℕ) (s : SavedSetting) (some : v ≡ 0 → ⊥) where
   recounted : (k n : ℕ) (list : List SavedSetting) → k ≡ n → SavedSince v s k list → SavedSince v s n list
@@ -151,21 +151,21 @@ module _ (v : ℕ) (s : SavedSetting) (some : v ≡ 0 → ⊥) where
       recounted (n + k + m) (k + (n + m)) (afterCalls (later .list) calls) (omega arith) (since-calls (n + k) (later .list) calls (since-call k list c since))
 
   since-found : (k : ℕ) (list : List SavedSetting) → SavedSince v s k list
-      → foundIn list v ≡ cond (ltb k placeCount) (held.Setting s) (held.Refused versionNotHeld)
+      → foundIn list v ≡ cond (ltb k settingPlaces) (held.Setting s) (held.Refused versionNotHeld)
   unfolding foundIn
   since-found k list since =
       let ok = since .ordered in
-      let long = eqb-true (length list) placeCount (and-left (eqb (length list) placeCount) (versionsInOrder list) ok) in
-      let h = and-right (eqb (length list) placeCount) (versionsInOrder list) ok in
-      let looked : lookUp v list ≡ cond (ltb k placeCount) (held.Setting s) (held.Refused versionNotHeld) =
-      by-side (λ (x : Held). lookUp v list ≡ x) (ltb k placeCount) (λ e. since .stays (ltb-true k placeCount e))
+      let long = eqb-true (length list) settingPlaces (and-left (eqb (length list) settingPlaces) (versionsInOrder list) ok) in
+      let h = and-right (eqb (length list) settingPlaces) (versionsInOrder list) ok in
+      let looked : lookUp v list ≡ cond (ltb k settingPlaces) (held.Setting s) (held.Refused versionNotHeld) =
+      by-side (λ (x : Held). lookUp v list ≡ x) (ltb k settingPlaces) (λ e. since .stays (ltb-true k settingPlaces e))
       (λ e.
       by-held (λ (x : Held). x ≡ held.Refused versionNotHeld) v list
-      (λ t q. absurd (too-old (ltb-false k placeCount e) (held-recent v list t h some q .1) long (since .newest))) refl) in
+      (λ t q. absurd (too-old (ltb-false k settingPlaces e) (held-recent v list t h some q .1) long (since .newest))) refl) in
       ap (λ (b : Bool). cond b (cond (eqb v 0) (held.Refused versionNotHeld) (lookUp v list)) (held.Refused notSavedSettings)) ok
       ∙ ap (λ (b : Bool). cond b (held.Refused versionNotHeld) (lookUp v list)) (ne-eqb v 0 some) ∙ looked
     where
-      too-old : placeCount ≤ k → newestVersion list < v + length list → length list ≡ placeCount → newestVersion list ≡ v + k → ⊥
+      too-old : settingPlaces ≤ k → newestVersion list < v + length list → length list ≡ settingPlaces → newestVersion list ≡ v + k → ⊥
       too-old many recent long new = omega (arith, many, recent, long, new)
 
 -- ---- what a call saved: a wanted setting clipped, an old one as it stood, under the version answered
@@ -181,7 +181,7 @@ module _ (list : List SavedSetting) (c : SettingCall) (s : SavedSetting) (v : �
 
   -- it is found until eight later ones came, and then no more
   pub saved-until : (calls : List SettingCall) → foundIn (afterCalls (calledOn list c .list) calls) v
-      ≡ cond (ltb (laterSaves (calledOn list c .list) calls) placeCount) (held.Setting (renumbered s v)) (held.Refused versionNotHeld)
+      ≡ cond (ltb (laterSaves (calledOn list c .list) calls) settingPlaces) (held.Setting (renumbered s v)) (held.Refused versionNotHeld)
   unfolding renumbered
   saved-until calls =
       let d = did-wanted list v c s same answered in

@@ -11,7 +11,7 @@ use Rattle.bits.specs.Every.{and-left, and-right, and-both}
 use Rattle.refusal.specs.Refusal.{versionNotHeld}
 use Rattle.saved_setting.specs.declared.SavedSetting.{SavedSetting}
 use Rattle.saved_setting.specs.declared.Held.the-variants as held
-use Rattle.saved_setting.specs.SavedSettings.{isUnused, mayFollow, versionsInOrder, placeCount, isSavedList, laterVersion, newestVersion, heldHere, lookUp, allUsed, putIn, savedInto}
+use Rattle.saved_setting.specs.SavedSettings.{isUnused, mayFollow, versionsInOrder, settingPlaces, isSavedList, laterVersion, newestVersion, heldHere, lookUp, allUsed, putIn, savedInto}
 use Rattle.saved_settings_laws.specs.Histories.{usedOf}
 use Rattle.saved_settings_laws.specs.OrderLaws.{by-side, sides, unused-follows, may-next, may-unused, order-tail, order-head, later-used, newest-rest, used-rest, newest-last, newest-least, newest-on, all-used, newest-full, skipped, here, isSetting, kept-behind, held-recent}
 
@@ -114,10 +114,10 @@ pub record Into (t : SavedSetting) (list after : List SavedSetting) : Type 0 whe
   -- the oldest is dropped where all are used, and nothing else
   pub keeps : usedOf after ≡ cond (allUsed list) (drop 1 (usedOf list)) (usedOf list) ++ (t ∷ [])
   pub found : lookUp (t .version) after ≡ held.Setting t
-  pub still : (v : ℕ) (s : SavedSetting) → (v ≡ 0 → ⊥) → newestVersion list + 1 < v + placeCount → lookUp v list ≡ held.Setting s → lookUp v after ≡ held.Setting s
+  pub still : (v : ℕ) (s : SavedSetting) → (v ≡ 0 → ⊥) → newestVersion list + 1 < v + settingPlaces → lookUp v list ≡ held.Setting s → lookUp v after ≡ held.Setting s
 
-saved-list : (list : List SavedSetting) → length list ≡ placeCount → versionsInOrder list ≡ true → isSavedList list ≡ true
-saved-list list long h = and-both (eqb (length list) placeCount) (versionsInOrder list) (eq-eqb (length list) placeCount long) h
+saved-list : (list : List SavedSetting) → length list ≡ settingPlaces → versionsInOrder list ≡ true → isSavedList list ≡ true
+saved-list list long h = and-both (eqb (length list) settingPlaces) (versionsInOrder list) (eq-eqb (length list) settingPlaces long) h
 
 used-all : (list : List SavedSetting) → allUsed list ≡ true → usedOf list ≡ list
 unfolding usedOf
@@ -129,7 +129,7 @@ module _ (t : SavedSetting) where
   t-used n e = ne-eqb (t .version) 0 (λ (z : t .version ≡ 0). omega (arith, z, e))
 
   -- with an unused place
-  into-unused : (list : List SavedSetting) → length list ≡ placeCount → versionsInOrder list ≡ true → newestVersion list + 1 ≡ t .version → allUsed list ≡ false
+  into-unused : (list : List SavedSetting) → length list ≡ settingPlaces → versionsInOrder list ≡ true → newestVersion list + 1 ≡ t .version → allUsed list ≡ false
       → Into t list (putIn t list)
   into-unused list long h e room =
       let used = t-used (newestVersion list) e in
@@ -142,7 +142,7 @@ module _ (t : SavedSetting) where
       }
 
   -- with none: the first place is dropped
-  into-full : (x y : SavedSetting) (list : List SavedSetting) → length (x ∷ y ∷ list) ≡ placeCount → versionsInOrder (x ∷ y ∷ list) ≡ true
+  into-full : (x y : SavedSetting) (list : List SavedSetting) → length (x ∷ y ∷ list) ≡ settingPlaces → versionsInOrder (x ∷ y ∷ list) ≡ true
       → newestVersion (x ∷ y ∷ list) + 1 ≡ t .version → allUsed (x ∷ y ∷ list) ≡ true → Into t (x ∷ y ∷ list) (putIn t (y ∷ list))
   unfolding lookUp
   into-full x y list long h e full =
@@ -169,8 +169,8 @@ unfolding savedInto
 into t [] ok e = absurd (true≢false (sym ok))
 into t (x ∷ []) ok e = absurd (true≢false (sym ok))
 into t (x ∷ y ∷ list) ok e =
-    let long = eqb-true (length (x ∷ y ∷ list)) placeCount (and-left (eqb (length (x ∷ y ∷ list)) placeCount) (versionsInOrder (x ∷ y ∷ list)) ok) in
-    let h = and-right (eqb (length (x ∷ y ∷ list)) placeCount) (versionsInOrder (x ∷ y ∷ list)) ok in
+    let long = eqb-true (length (x ∷ y ∷ list)) settingPlaces (and-left (eqb (length (x ∷ y ∷ list)) settingPlaces) (versionsInOrder (x ∷ y ∷ list)) ok) in
+    let h = and-right (eqb (length (x ∷ y ∷ list)) settingPlaces) (versionsInOrder (x ∷ y ∷ list)) ok in
     by-into (allUsed (x ∷ y ∷ list)) (into-full t x y list long h e) (into-unused t (x ∷ y ∷ list) long h e)
   where
     by-into : (b : Bool) → (b ≡ true → Into t (x ∷ y ∷ list) (putIn t (y ∷ list))) → (b ≡ false → Into t (x ∷ y ∷ list) (putIn t (x ∷ y ∷ list)))

@@ -33,13 +33,13 @@ abbrev pub unused : SavedSetting
 unused = record { version = 0; fine = 0; coarse = 0; gain = 0; divisor = 0 }
 
 -- the lines of a list's first places, oldest first
-abbrev pub linesOf : ℕ → List SavedSetting → List ℕ
-linesOf zero list = []
-linesOf (suc n) list = linesOf n list ++ placeLine (getD list n unused)
+abbrev pub placeLines : ℕ → List SavedSetting → List ℕ
+placeLines zero list = []
+placeLines (suc n) list = placeLines n list ++ placeLine (getD list n unused)
 
 -- a list's text: the lines of its eight places
 unfoldable pub settingsText : List SavedSetting → List ℕ
-settingsText list = linesOf 8 list
+settingsText list = placeLines 8 list
 
 -- ---- the numbers of a text
 
@@ -71,15 +71,15 @@ abbrev pub settingOfFields : Fields → SavedSetting
 settingOfFields f = record { version = f .version; fine = f .fine; coarse = f .coarse; gain = f .gain % 256; divisor = f .divisor % 256 }
 
 -- a line's setting in its place; lines past the eighth have none
-abbrev pub withLine : Gathered → Gathered
-withLine g =
+abbrev pub withSettingLine : Gathered → Gathered
+withSettingLine g =
     cond (ltb (g .count) 8)
     (record { list = set (g .list) (g .count) (settingOfFields (g .fields)); count = g .count + 1; fields = noFields })
     (record { list = g .list; count = g .count; fields = noFields })
 
 unfoldable pub gatheredAfter : Gathered → ℕ → Gathered
 gatheredAfter g c =
-    cond (eqb c newline) (withLine g) (record { list = g .list; count = g .count; fields = fieldsAfter (g .fields) c })
+    cond (eqb c newline) (withSettingLine g) (record { list = g .list; count = g .count; fields = fieldsAfter (g .fields) c })
 
 abbrev pub gatheredOver : Gathered → List ℕ → Gathered
 gatheredOver g [] = g
@@ -90,7 +90,7 @@ nothingGathered = record { list = replicate 8 unused; count = 0; fields = noFiel
 
 -- the list of a text's numbers; its end ends its last line
 unfoldable pub numbersOf : List ℕ → List SavedSetting
-numbersOf text = withLine (gatheredOver nothingGathered text) .list
+numbersOf text = withSettingLine (gatheredOver nothingGathered text) .list
 
 -- ---- read
 

@@ -19,12 +19,12 @@ use Rattle.saved_setting.specs.declared.Held.{Held}
 use Rattle.saved_setting.specs.declared.Held.the-variants as held
 use Rattle.saved_setting.specs.SavedSettings.{isSavedList, foundIn}
 use Rattle.saved_text.specs.declared.Gathered.{Gathered}
-use Rattle.saved_text.specs.SettingsText.{settingLine, placeLine, linesOf, settingsText, unused, gatheredAfter, gatheredOver, startsBy, coverOf, mayStand, isLike}
+use Rattle.saved_text.specs.SettingsText.{settingLine, placeLine, placeLines, settingsText, unused, gatheredAfter, gatheredOver, startsBy, coverOf, mayStand, isLike}
 
 -- ---- written
 
 -- one place more
-pub lines-more : (l : List SavedSetting) (n : ℕ) → linesOf (n + 1) l ≡ linesOf n l ++ placeLine (getD l n unused)
+pub lines-more : (l : List SavedSetting) (n : ℕ) → placeLines (n + 1) l ≡ placeLines n l ++ placeLine (getD l n unused)
 lines-more l n = rw (add-one n)
 
 line-short : (s : SavedSetting) → length (settingLine s) ≤ 142
@@ -39,7 +39,7 @@ place-short s = either (eqb (s .version) 0)
     either true = omega arith
     either false = line-short s
 
-lines-short : (n : ℕ) (l : List SavedSetting) → length (linesOf n l) ≤ n * 142
+lines-short : (n : ℕ) (l : List SavedSetting) → length (placeLines n l) ≤ n * 142
 lines-short zero l = omega arith
 lines-short (suc n) l = simp length-append (omega (arith, place-short (getD l n unused), lines-short n l))
 

@@ -11,7 +11,7 @@ ghost use Prim.Native.Nat.{_≤_};
 ghost use lib.ListN.{drop};
 ghost use Rattle.text.specs.Put.{Puts};
 ghost use Rattle.saved_setting.specs.SavedSettings.{isSavedList};
-ghost use Rattle.saved_text.specs.SettingsText.{field, settingLine, placeLine, settingsText, withDigit, withField, fieldsAfter, settingOfFields, noFields, withLine, nothingGathered, gatheredAfter, numbersOf, coverOf, mayStand, isLike, restored};
+ghost use Rattle.saved_text.specs.SettingsText.{field, settingLine, placeLine, settingsText, withDigit, withField, fieldsAfter, settingOfFields, noFields, withSettingLine, nothingGathered, gatheredAfter, numbersOf, coverOf, mayStand, isLike, restored};
 use saved_setting::Held;
 use saved_setting::SavedSetting;
 use saved_settings::find_held;
@@ -173,7 +173,7 @@ fn nothing_gathered() -> Gathered
 
 // With the open line's setting in its place; lines past the eighth have none.
 fn end_line(gathered: Gathered) -> Gathered
-    ensures { λ r. ⌜ r ≡ withLine gathered ⌝ }
+    ensures { λ r. ⌜ r ≡ withSettingLine gathered ⌝ }
 {
     let mut list = gathered.list;
     let count = gathered.count;

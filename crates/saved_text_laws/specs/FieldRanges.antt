@@ -7,7 +7,7 @@ use lib.ListN.{set}
 use Rattle.text.specs.Text.{newline}
 use Rattle.saved_setting.specs.declared.SavedSetting.{SavedSetting}
 use Rattle.saved_settings_laws.specs.OrderLaws.{by-side}
-use Rattle.saved_text.specs.SettingsText.{LineFields, TextGathered, unused, noFields, withDigit, withField, fieldsAfter, settingOfFields, withLine, gatheredAfter, gatheredOver, nothingGathered, numbersOf}
+use Rattle.saved_text.specs.SettingsText.{LineFields, TextGathered, unused, noFields, withDigit, withField, fieldsAfter, settingOfFields, withSettingLine, gatheredAfter, gatheredOver, nothingGathered, numbersOf}
 use Rattle.saved_text_laws.specs.SettingsRead.{InFields, AllInFields}
 
 record InLine (f : LineFields) : Type 0 where
@@ -45,7 +45,7 @@ set-in (x ∷ list) (suc i) s r h = (r .0, set-in list i s (r .1) h)
 setting-in : (f : LineFields) → InLine f → InFields (settingOfFields f)
 setting-in f r = record { version = r .version; fine = r .fine; coarse = r .coarse; gain = omega arith; divisor = omega arith }
 
-line-in : (g : TextGathered) → InText g → InText (withLine g)
+line-in : (g : TextGathered) → InText g → InText (withSettingLine g)
 line-in g r =
     by-side InText (ltb (g .count) 8) (λ e. record { list = set-in (g .list) (g .count) (settingOfFields (g .fields)) (r .list) (setting-in (g .fields) (r .fields)); fields = none-in })
     (λ e. record { list = r .list; fields = none-in })

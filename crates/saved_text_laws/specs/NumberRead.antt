@@ -9,7 +9,7 @@ use lib.Dec.{eqb, ltb, leb}
 use borrow.Author.Tests.{ltb-true, ltb-false, le-leb, ne-eqb}
 use Rattle.text.specs.Text.{ascii, newline, digit, digits, decimal}
 use Rattle.saved_setting.specs.declared.SavedSetting.{SavedSetting}
-use Rattle.saved_text.specs.SettingsText.{LineFields, TextGathered, field, settingLine, noFields, settingOfFields, fieldsAfter, withLine, gatheredAfter, gatheredOver}
+use Rattle.saved_text.specs.SettingsText.{LineFields, TextGathered, field, settingLine, noFields, settingOfFields, fieldsAfter, withSettingLine, gatheredAfter, gatheredOver}
 use Rattle.saved_text_laws.specs.SettingsRead.{InFields}
 
 -- what is gathered, with other numbers of the open line
@@ -80,7 +80,7 @@ setting-back s r =
 over-two : (g h : TextGathered) {k : TextGathered} (s t : List ℕ) → gatheredOver g s ≡ h → gatheredOver h t ≡ k → gatheredOver g (s ++ t) ≡ k
 over-two g h s t e d = over-append g s t ∙ ap (λ (x : TextGathered). gatheredOver x t) e ∙ d
 
-pub line-read : (g : TextGathered) (s : SavedSetting) → InFields s → gatheredOver (gatheredWith g noFields) (settingLine s) ≡ withLine (gatheredWith g (fieldsOf s))
+pub line-read : (g : TextGathered) (s : SavedSetting) → InFields s → gatheredOver (gatheredWith g noFields) (settingLine s) ≡ withSettingLine (gatheredWith g (fieldsOf s))
 unfolding gatheredAfter fieldsAfter
 line-read g s r =
     let f1 : LineFields = record { version = 0; fine = 0; coarse = 0; gain = 0; divisor = s .version } in

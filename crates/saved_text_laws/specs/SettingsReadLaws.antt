@@ -12,11 +12,11 @@ use borrow.Author.Tests.{lt-ltb, le-ltb, le-leb, leb-true, eq-eqb, eqb-true, ne-
 use Rattle.bits.specs.Every.{and-left, and-right, and-both}
 use Rattle.text.specs.Text.{ascii, newline, digit, digits, decimal}
 use Rattle.saved_setting.specs.declared.SavedSetting.{SavedSetting}
-use Rattle.saved_setting.specs.SavedSettings.{isUnused, mayFollow, versionsInOrder, placeCount, isSavedList}
+use Rattle.saved_setting.specs.SavedSettings.{isUnused, mayFollow, versionsInOrder, settingPlaces, isSavedList}
 use Rattle.saved_settings_laws.specs.Histories.{usedOf}
 use Rattle.saved_settings_laws.specs.OrderLaws.{by-side, sides, unused-follows, order-tail, order-head}
 use Rattle.saved_text.specs.declared.Restored.{Restored}
-use Rattle.saved_text.specs.SettingsText.{TextGathered, settingLine, placeLine, unused, linesOf, settingsText, noFields, fieldsAfter, withLine, gatheredAfter, gatheredOver, nothingGathered, numbersOf, carriageReturn, coverOf, startsBy, mayStand, isLike, isSettingsText, restored}
+use Rattle.saved_text.specs.SettingsText.{TextGathered, settingLine, placeLine, unused, placeLines, settingsText, noFields, fieldsAfter, withSettingLine, gatheredAfter, gatheredOver, nothingGathered, numbersOf, carriageReturn, coverOf, startsBy, mayStand, isLike, isSettingsText, restored}
 use Rattle.saved_text_laws.specs.SettingsRead.{InFields, AllInFields, placeRestored, listRestored, ZerosUnused, withReturns, RestoredAs, TextRestores}
 use Rattle.saved_text_laws.specs.FieldRanges.{numbers-in-fields}
 use Rattle.saved_text_laws.specs.NumberRead.{over-append, setting-back, line-read}
@@ -40,7 +40,7 @@ unfolding placeLine
 restored-line s =
     sides (isUnused s) (λ u. let e = restored-unused s u in simp (e, u)) (λ u. let e = restored-used s u in simp e)
 
-restored-lines : (n : ℕ) (list : List SavedSetting) → linesOf n (listRestored list) ≡ linesOf n list
+restored-lines : (n : ℕ) (list : List SavedSetting) → placeLines n (listRestored list) ≡ placeLines n list
 unfolding placeRestored
 restored-lines zero list = refl
 restored-lines (suc n) list =
@@ -77,16 +77,16 @@ gatheredAt before n = record { list = before ++ replicate n unused; count = leng
 -- a list is gathered, and the text's end adds nothing to it
 record IsGathered (g : TextGathered) (list : List SavedSetting) : Type 0 where
   so-far : g .list ≡ list
-  at-end : withLine g .list ≡ list
+  at-end : withSettingLine g .list ≡ list
 
-lines-first : (n : ℕ) (s : SavedSetting) (list : List SavedSetting) → linesOf (suc n) (s ∷ list) ≡ placeLine s ++ linesOf n list
+lines-first : (n : ℕ) (s : SavedSetting) (list : List SavedSetting) → placeLines (suc n) (s ∷ list) ≡ placeLine s ++ placeLines n list
 lines-first zero s list = sym (append-nil (placeLine s))
 lines-first (suc n) s list =
-    ap (λ (t : List ℕ). t ++ placeLine (getD list n unused)) (lines-first n s list) ∙ append-assoc (placeLine s) (linesOf n list) (placeLine (getD list n unused))
+    ap (λ (t : List ℕ). t ++ placeLine (getD list n unused)) (lines-first n s list) ∙ append-assoc (placeLine s) (placeLines n list) (placeLine (getD list n unused))
 
 -- from an unused place on: no lines, and zeros are read back
 unused-lines : (s : SavedSetting) (list : List SavedSetting) → versionsInOrder (s ∷ list) ≡ true → isUnused s ≡ true
-    → (linesOf (length (s ∷ list)) (s ∷ list) ≡ []) × (listRestored (s ∷ list) ≡ replicate (length (s ∷ list)) unused)
+    → (placeLines (length (s ∷ list)) (s ∷ list) ≡ []) × (listRestored (s ∷ list) ≡ replicate (length (s ∷ list)) unused)
 unfolding placeLine
 unused-lines s [] h u = (simp u, ap (λ (t : SavedSetting). t ∷ []) (restored-unused s u))
 unused-lines s (t ∷ list) h u =
@@ -94,7 +94,7 @@ unused-lines s (t ∷ list) h u =
     (lines-first (length (t ∷ list)) s (t ∷ list) ∙ simp (u, rest .0), rw (restored-unused s u, rest .1) refl)
 
 -- a setting's line, at the first place that is left
-place-gathered : (before : List SavedSetting) (n : ℕ) (s : SavedSetting) → length before + suc n ≡ placeCount → InFields s → isUnused s ≡ false
+place-gathered : (before : List SavedSetting) (n : ℕ) (s : SavedSetting) → length before + suc n ≡ settingPlaces → InFields s → isUnused s ≡ false
     → gatheredOver (gatheredAt before (suc n)) (placeLine s) ≡ gatheredAt (before ++ (s ∷ [])) n
 unfolding placeLine
 place-gathered before n s long r u =
@@ -104,8 +104,8 @@ place-gathered before n s long r u =
     let more : length before + 1 ≡ length (before ++ (s ∷ [])) = sym (length-append before (s ∷ [])) in
     simp u (line-read (gatheredAt before (suc n)) s r ∙ simp (here, setting-back s r, put, more))
 
-places-gathered : (before list : List SavedSetting) → length before + length list ≡ placeCount → versionsInOrder list ≡ true → AllInFields list
-    → IsGathered (gatheredOver (gatheredAt before (length list)) (linesOf (length list) list)) (before ++ listRestored list)
+places-gathered : (before list : List SavedSetting) → length before + length list ≡ settingPlaces → versionsInOrder list ≡ true → AllInFields list
+    → IsGathered (gatheredOver (gatheredAt before (length list)) (placeLines (length list) list)) (before ++ listRestored list)
 places-gathered before [] long h r =
     let full : ltb (length before) 8 ≡ false = le-ltb (length before) 8 (omega (arith, long)) in
     record { so-far = refl; at-end = simp full }
@@ -117,9 +117,9 @@ places-gathered before (s ∷ list) long h r =
     rw (none .0, none .1)
     (record { so-far = refl; at-end = simp here (set-append-seam before unused (replicate (length list) unused) unused) }))
     (λ u.
-    let next : length (before ++ (s ∷ [])) + length list ≡ placeCount = rw (length-append before (s ∷ [])) (omega (arith, long)) in
+    let next : length (before ++ (s ∷ [])) + length list ≡ settingPlaces = rw (length-append before (s ∷ [])) (omega (arith, long)) in
     let rest = places-gathered (before ++ (s ∷ [])) list next (order-tail s list h) (r .1) in
-    let front = over-append (gatheredAt before (suc (length list))) (placeLine s) (linesOf (length list) list) in
+    let front = over-append (gatheredAt before (suc (length list))) (placeLine s) (placeLines (length list) list) in
     let here = place-gathered before (length list) s long (r .0) u in
     rw (lines-first (length list) s list, front, here, restored-used s u, ← append-snoc before s (listRestored list))
     rest)
@@ -150,7 +150,7 @@ next-like c text whole e = simp e
 
 -- a text that is like one that ends a line, or is empty, is gathered as that one is
 like-gathered : (list : List SavedSetting) (text whole : List ℕ) (g : TextGathered) (d : ℕ) → isLike text whole ≡ true → lastOf d whole ≡ newline
-    → IsGathered (gatheredOver g whole) list → withLine (gatheredOver g text) .list ≡ list
+    → IsGathered (gatheredOver g whole) list → withSettingLine (gatheredOver g text) .list ≡ list
 unfolding gatheredAfter
 like-gathered list [] [] g d h l is = is .at-end
 like-gathered list [] (c ∷ []) g d h l is = subst (λ (x : ℕ). gatheredAfter g x .list ≡ list) l (is .so-far)
@@ -210,17 +210,17 @@ by-place : (P : List ℕ → Type 0) (s : SavedSetting) → P [] → P (settingL
 unfolding placeLine
 by-place P s none line = by-side P (isUnused s) (λ u. none) (λ u. line)
 
-returnless-lines : (n : ℕ) (list : List SavedSetting) → noReturns (linesOf n list) ≡ true
+returnless-lines : (n : ℕ) (list : List SavedSetting) → noReturns (placeLines n list) ≡ true
 returnless-lines zero list = refl
 returnless-lines (suc n) list =
     let s = getD list n unused in
-    returnless-append (linesOf n list) (placeLine s) (returnless-lines n list) (by-place (λ (t : List ℕ). noReturns t ≡ true) s refl (returnless-line s))
+    returnless-append (placeLines n list) (placeLine s) (returnless-lines n list) (by-place (λ (t : List ℕ). noReturns t ≡ true) s refl (returnless-line s))
 
-lines-ended : (n : ℕ) (list : List SavedSetting) → lastOf newline (linesOf n list) ≡ newline
+lines-ended : (n : ℕ) (list : List SavedSetting) → lastOf newline (placeLines n list) ≡ newline
 lines-ended zero list = refl
 lines-ended (suc n) list =
     let s = getD list n unused in
-    last-append newline (linesOf n list) (placeLine s) ∙ ap (λ (d : ℕ). lastOf d (placeLine s)) (lines-ended n list)
+    last-append newline (placeLines n list) (placeLine s) ∙ ap (λ (d : ℕ). lastOf d (placeLine s)) (lines-ended n list)
     ∙ by-place (λ (t : List ℕ). lastOf newline t ≡ newline) s refl (line-ended newline s)
 
 -- ---- texts that are like it
@@ -261,13 +261,13 @@ returns-like (c ∷ text) h =
 
 -- the text of any list of saved settings, in any form that is like it
 module _ (list : List SavedSetting) (saved : isSavedList list ≡ true) (r : AllInFields list) where
-  long : length list ≡ placeCount
-  long = eqb-true (length list) placeCount (and-left (eqb (length list) placeCount) (versionsInOrder list) saved)
+  long : length list ≡ settingPlaces
+  long = eqb-true (length list) settingPlaces (and-left (eqb (length list) settingPlaces) (versionsInOrder list) saved)
 
-  whole-gathered : IsGathered (gatheredOver nothingGathered (linesOf 8 list)) (listRestored list)
+  whole-gathered : IsGathered (gatheredOver nothingGathered (placeLines 8 list)) (listRestored list)
   whole-gathered =
-      subst (λ (n : ℕ). IsGathered (gatheredOver (gatheredAt [] n) (linesOf n list)) (listRestored list)) long
-      (places-gathered [] list (omega (arith, long)) (and-right (eqb (length list) placeCount) (versionsInOrder list) saved) r)
+      subst (λ (n : ℕ). IsGathered (gatheredOver (gatheredAt [] n) (placeLines n list)) (listRestored list)) long
+      (places-gathered [] list (omega (arith, long)) (and-right (eqb (length list) settingPlaces) (versionsInOrder list) saved) r)
 
   restored-saved : isSavedList (listRestored list) ≡ true
   restored-saved = rw (length-map list placeRestored, restored-order list) saved
@@ -279,7 +279,7 @@ module _ (list : List SavedSetting) (saved : isSavedList list ≡ true) (r : All
   module _ (text : List ℕ) (like : isLike text (settingsText list) ≡ true) where
     like-numbers : numbersOf text ≡ listRestored list
     unfolding settingsText numbersOf
-    like-numbers = like-gathered (listRestored list) text (linesOf 8 list) nothingGathered newline like (lines-ended 8 list) whole-gathered
+    like-numbers = like-gathered (listRestored list) text (placeLines 8 list) nothingGathered newline like (lines-ended 8 list) whole-gathered
 
     like-valid : isSettingsText text ≡ true
     unfolding isSettingsText

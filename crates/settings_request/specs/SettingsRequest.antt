@@ -31,8 +31,8 @@ pub record RequestEffect : Type 0 where
   pub refused : Bool
 
 -- nothing is changed but for a setting that is saved
-abbrev pub saying : List SavedSetting → List ℕ → RequestEffect
-saying list text = record { list = list; text = text; changed = false; refused = false }
+abbrev pub telling : List SavedSetting → List ℕ → RequestEffect
+telling list text = record { list = list; text = text; changed = false; refused = false }
 
 abbrev pub refusingRequest : List SavedSetting → ℕ → RequestEffect
 refusingRequest list n = record { list = list; text = refusedRequest n; changed = false; refused = true }
@@ -48,12 +48,12 @@ saving list more (saved.Version v) = record { list = list; text = heldLine (foun
 saving list more (saved.Refused n) = refusingRequest list n
 
 -- the line of what is found, or its messages
-unfoldable pub finding : List SavedSetting → Held → RequestEffect
-finding list (held.Setting s) = saying list (settingLine s)
-finding list (held.Refused n) = refusingRequest list n
+unfoldable pub lookingUp : List SavedSetting → Held → RequestEffect
+lookingUp list (held.Setting s) = telling list (settingLine s)
+lookingUp list (held.Refused n) = refusingRequest list n
 
 unfoldable pub sending : List SavedSetting → Held → RequestEffect
-sending list (held.Setting s) = saying list (writesOf s)
+sending list (held.Setting s) = telling list (writesOf s)
 sending list (held.Refused n) = refusingRequest list n
 
 unfoldable pub listedText : List SavedSetting → List ℕ
@@ -62,9 +62,9 @@ listedText list = cond (isUnused (getD list 0 unused)) (ascii "nothing is saved 
 -- a request's effect: after saving, what was clipped is said too
 abbrev pub requestEffect : Request → List SavedSetting → RequestEffect
 requestEffect (Save w) list = saving (savedWanted list w .list) (notes w) (savedWanted list w .answer)
-requestEffect (Find v) list = finding list (foundIn list v)
+requestEffect (Find v) list = lookingUp list (foundIn list v)
 requestEffect (Back v) list = saving (savedAgain list v .list) [] (savedAgain list v .answer)
-requestEffect ListAll list = saying list (listedText list)
+requestEffect ListAll list = telling list (listedText list)
 requestEffect (Messages v) list = sending list (foundIn list v)
 
 -- a call that has an effect, and puts what is said at the front of a buffer

@@ -10,9 +10,9 @@ use Rattle.recovery.specs.Calls.{feed, done}
 use Rattle.refinement.specs.Runs.{one}
 use Rattle.reader_table.specs.declared.ReaderTable.{ReaderTable}
 use Rattle.reader_table.specs.Table.{isTechnician, emptyTable, placeAt, withPlace, heldBy, at-place, not-placed, openPlace, openPlaceOf, callPlaceOf, closePlaceOf}
-use Rattle.table_history.specs.History.{Request, toOpen, toRead, toClose, TableCall, TableReply, openReply, callReply, serve}
+use Rattle.table_history.specs.History.{TableRequest, toOpen, toRead, toClose, TableCall, TableReply, openReply, callReply, serve}
 
-abbrev by : ℕ → Request → TableCall
+abbrev by : ℕ → TableRequest → TableCall
 by n q = record { who = n; request = q }
 
 -- what everyone is told

@@ -11,15 +11,15 @@ use Rattle.reader_table.specs.Table.{emptyTable, Placing, PlaceOpened, openPlac
 
 -- what is asked of the table: a reader of the profile with this number; a feed, run or finish of a place, with the buffer lent; or that a
 -- place is closed
-pub data Request : Type 0 where
-  toOpen : ℕ → Request
-  toRead : ℕ → RunCall → Request
-  toClose : ℕ → Request
+pub data TableRequest : Type 0 where
+  toOpen : ℕ → TableRequest
+  toRead : ℕ → RunCall → TableRequest
+  toClose : ℕ → TableRequest
 
 -- a call: the technician's number, and the request
 pub record TableCall : Type 0 where
   pub who : ℕ
-  pub request : Request
+  pub request : TableRequest
 
 -- what a call is told: an opening's answer; or an answer, how many nibbles a run took, and the lent buffer as it is then
 pub data TableReply : Type 0 where
@@ -27,18 +27,18 @@ pub data TableReply : Type 0 where
   callReply : Answer → ℕ → List ℕ → TableReply
 
 -- the table after a call, and what the call is told
-pub record Served : Type 0 where
+pub record TableServed : Type 0 where
   pub table : ReaderTable
   pub told : TableReply
 
-abbrev pub servedOpening : PlaceOpened → Served
+abbrev pub servedOpening : PlaceOpened → TableServed
 servedOpening a = record { table = a .table; told = openReply (a .placing) }
 
-abbrev pub served : PlaceCalled → Served
+abbrev pub served : PlaceCalled → TableServed
 served a = record { table = a .table; told = callReply (a .answer) (a .taken) (a .buffer) }
 
 -- a request, served
-abbrev pub serve : ReaderTable → ℕ → Request → Served
+abbrev pub serve : ReaderTable → ℕ → TableRequest → TableServed
 serve t who (toOpen n) = servedOpening (openPlaceOf t who n)
 serve t who (toRead i c) = served (callPlaceOf t who i c)
 serve t who (toClose i) = served (closePlaceOf t who i)
@@ -51,7 +51,7 @@ tableAfter t (c ∷ h) = tableAfter (serve t (c .who) (c .request) .table) h
 -- One technician's part of a history.
 
 -- what they ask, in order
-abbrev pub requestsOf : ℕ → List TableCall → List Request
+abbrev pub requestsOf : ℕ → List TableCall → List TableRequest
 requestsOf who [] = []
 requestsOf who (c ∷ h) = cond (eqb (c .who) who) (c .request ∷ requestsOf who h) (requestsOf who h)
 
@@ -59,7 +59,7 @@ requestsOf who (c ∷ h) = cond (eqb (c .who) who) (c .request ∷ requestsOf wh
 abbrev pub toldTo : ℕ → ReaderTable → List TableCall → List TableReply
 toldTo who t [] = []
 toldTo who t (c ∷ h) =
-    let s : Served = serve t (c .who) (c .request) in
+    let s : TableServed = serve t (c .who) (c .request) in
     cond (eqb (c .who) who) (s .told ∷ toldTo who (s .table) h) (toldTo who (s .table) h)
 
 -- the openings' answers among it

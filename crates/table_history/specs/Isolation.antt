@@ -11,12 +11,12 @@ use Rattle.profile.specs.Profile.{profileNumbered}
 use Rattle.reader.specs.declared.Reader.{Reader}
 use Rattle.reader_table.specs.declared.ReaderTable.{ReaderTable}
 use Rattle.reader_table.specs.Table.{isTechnician, emptyTable, Placing, openPlaceOf}
-use Rattle.table_history.specs.History.{Request, TableCall, TableReply, toOpen, toRead, toClose, openReply, Served, serve, requestsOf, toldTo, openingsIn, Isolated}
+use Rattle.table_history.specs.History.{TableRequest, TableCall, TableReply, toOpen, toRead, toClose, openReply, TableServed, serve, requestsOf, toldTo, openingsIn, Isolated}
 use Rattle.table_history.specs.Places.{view}
 use Rattle.table_history.specs.Views.{other-keeps, toldHeld, keptHeld, toldClosed, keptClosed, keptOpened, opens, reads, closes, strange, stranger}
 
 -- what a technician is told, of what they hold, what they ask, and what their openings are answered
-abbrev replay : (ℕ → Option Reader) → List Request → List Placing → List TableReply
+abbrev replay : (ℕ → Option Reader) → List TableRequest → List Placing → List TableReply
 replay v [] os = []
 replay v (toOpen n ∷ qs) [] = []
 replay v (toOpen n ∷ qs) (o ∷ os) = openReply o ∷ replay (keptOpened v (profileNumbered n) o) qs os
@@ -24,7 +24,7 @@ replay v (toRead i c ∷ qs) os = toldHeld (v i) c ∷ replay (keptHeld v i c (v
 replay v (toClose i ∷ qs) os = toldClosed (v i) ∷ replay (keptClosed v i (v i)) qs os
 
 module _ (who : ℕ) (h : isTechnician who ≡ true) where
-  own : (q : Request) (t : ReaderTable) (qs : List Request) (ts : List TableReply)
+  own : (q : TableRequest) (t : ReaderTable) (qs : List TableRequest) (ts : List TableReply)
       → ts ≡ replay (view who (serve t who q .table)) qs (openingsIn ts)
       → serve t who q .told ∷ ts ≡ replay (view who t) (q ∷ qs) (openingsIn (serve t who q .told ∷ ts))
   own (toOpen n) t qs ts e =
@@ -42,13 +42,13 @@ module _ (who : ℕ) (h : isTechnician who ≡ true) where
   replayed [] t = refl
   replayed (c ∷ cs) t = go (eqb (c .who) who) refl (replayed cs (serve t (c .who) (c .request) .table))
     where
-      s : Served
+      s : TableServed
       s = serve t (c .who) (c .request)
 
       rest : List TableReply
       rest = toldTo who (s .table) cs
 
-      qs : List Request
+      qs : List TableRequest
       qs = requestsOf who cs
 
       go : (b : Bool) → eqb (c .who) who ≡ b → rest ≡ replay (view who (s .table)) qs (openingsIn rest)
@@ -67,7 +67,7 @@ strangers : (who : ℕ) → isTechnician who ≡ false → (cs : List TableCall)
 strangers who h [] t = refl
 strangers who h (c ∷ cs) t = go (eqb (c .who) who) refl (strangers who h cs (serve t (c .who) (c .request) .table))
   where
-    s : Served
+    s : TableServed
     s = serve t (c .who) (c .request)
 
     go : (b : Bool) → eqb (c .who) who ≡ b → toldTo who (s .table) cs ≡ map strange (requestsOf who cs)
@@ -75,7 +75,7 @@ strangers who h (c ∷ cs) t = go (eqb (c .who) who) refl (strangers who h cs (s
         ≡ map strange (cond b (c .request ∷ requestsOf who cs) (requestsOf who cs))
     go true e k =
         ap {B = List TableReply} (λ (x : TableReply). x ∷ toldTo who (s .table) cs)
-        (ap (λ (n : ℕ). serve t n (c .request) .told) (eqb-true _ _ e) ∙ ap (λ (x : Served). x .told) (stranger who h t (c .request)))
+        (ap (λ (n : ℕ). serve t n (c .request) .told) (eqb-true _ _ e) ∙ ap (λ (x : TableServed). x .told) (stranger who h t (c .request)))
         ∙ ap {B = List TableReply} (λ l. strange (c .request) ∷ l) k
     go false e k = k
 
@@ -86,7 +86,7 @@ isolation who cs ds same openings = go (isTechnician who) refl
     go : (b : Bool) → isTechnician who ≡ b → toldTo who emptyTable cs ≡ toldTo who emptyTable ds
     go true h =
         replayed who h cs emptyTable
-        ∙ ap (λ (qs : List Request). replay (view who emptyTable) qs (openingsIn (toldTo who emptyTable cs))) same
+        ∙ ap (λ (qs : List TableRequest). replay (view who emptyTable) qs (openingsIn (toldTo who emptyTable cs))) same
         ∙ ap (λ (os : List Placing). replay (view who emptyTable) (requestsOf who ds) os) openings
         ∙ sym (replayed who h ds emptyTable)
     go false h = strangers who h cs emptyTable ∙ ap (map strange) same ∙ sym (strangers who h ds emptyTable)

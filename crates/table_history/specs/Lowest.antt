@@ -20,7 +20,7 @@ use Rattle.refinement.specs.Runs.{runResult}
 use Rattle.reader_table.specs.declared.TablePlace.{TablePlace}
 use Rattle.reader_table.specs.declared.ReaderTable.{ReaderTable}
 use Rattle.reader_table.specs.Table.{isTechnician, nobody, placeFor, freePlace, placeCount, emptyTable, placeAt, withPlace, heldBy, lowestFree, notOpened, opensAt, openPlace, openNumbered, openPlaceOf, notCalled, lentTo, callHeld, callPlaceOf, closeHeld, closePlaceOf}
-use Rattle.table_history.specs.History.{Request, toOpen, toRead, toClose, TableCall, serve, tableAfter}
+use Rattle.table_history.specs.History.{TableRequest, toOpen, toRead, toClose, TableCall, serve, tableAfter}
 use Rattle.table_history.specs.FreePlaces.{Free, OpensLowest, all-taken, lowest-one}
 use Rattle.table_history.specs.Places.{lowest-free}
 
@@ -30,7 +30,7 @@ pub put-length : (t : ReaderTable) (i : ℕ) (p : TablePlace) → length (withPl
 unfolding withPlace
 put-length t i p = length-set (t .places) i p
 
-serve-length : (t : ReaderTable) (who : ℕ) (q : Request) → length (serve t who q .table .places) ≡ length (t .places)
+serve-length : (t : ReaderTable) (who : ℕ) (q : TableRequest) → length (serve t who q .table .places) ≡ length (t .places)
 unfolding openPlaceOf openPlace callPlaceOf closePlaceOf
 serve-length t who (toOpen n) = go (isTechnician who) (profileNumbered n)
   where

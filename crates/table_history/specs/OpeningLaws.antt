@@ -21,7 +21,7 @@ use Rattle.refinement.specs.Runs.{RunCall, run, one, runResult, runsTaken, runs
 use Rattle.refinement.specs.Runs as runs
 use Rattle.reader_table.specs.declared.ReaderTable.{ReaderTable}
 use Rattle.reader_table.specs.Table.{isTechnician, nobody, placeAt, heldBy, lowestFree, Placing, at-place, not-placed, notOpened, opensAt, openPlace, openNumbered, openPlaceOf, runTaken, callPlaceOf, closePlaceOf}
-use Rattle.table_history.specs.History.{Request, TableCall, TableReply, toOpen, toRead, toClose, callReply, Served, serve}
+use Rattle.table_history.specs.History.{TableRequest, TableCall, TableReply, toOpen, toRead, toClose, callReply, TableServed, serve}
 use Rattle.table_history.specs.Openings.{andOn, callsBy, callsOf, toldBy, toldOf, readerTold, nibblesIn, toldCollected}
 use Rattle.table_history.specs.Places.{somebody, view, but, owned, lowest-free}
 use Rattle.table_history.specs.Views.{other-keeps, toldHeld, keptHeld, keptClosed, keptOpened, opens, reads, closes}
@@ -75,7 +75,7 @@ but-other v j x i e = ap (λ (b : Bool). cond b x (v i)) (ne-eqb i j (λ q. eqb-
 
 module _ (who : ℕ) (h : isTechnician who ≡ true) (i : ℕ) where
   -- another's call leaves it
-  pub by-other : (t : ReaderTable) (other : ℕ) (q : Request) → eqb other who ≡ false → heldBy (serve t other q .table) who i ≡ heldBy t who i
+  pub by-other : (t : ReaderTable) (other : ℕ) (q : TableRequest) → eqb other who ≡ false → heldBy (serve t other q .table) who i ≡ heldBy t who i
   by-other t other q f = λ k. other-keeps who h other f t q k i
 
   -- so does an opening of one's own, which takes a free place
@@ -131,12 +131,12 @@ module _ (who : ℕ) (h : isTechnician who ≡ true) (i : ℕ) where
       in-front (k .0) (rec (callPlaceOf t who j (one (feed n buffer)) .table) (runResult r (one (feed n buffer)) .reader) (k .1))
   call-projects cs rec t r e j f (one done) = in-front (by-call t j (one done) r e f .0) refl
 
-  own-projects : (cs : List TableCall) → Projects who i cs → (t : ReaderTable) (r : Reader) → heldBy t who i ≡ some r → (q : Request)
+  own-projects : (cs : List TableCall) → Projects who i cs → (t : ReaderTable) (r : Reader) → heldBy t who i ≡ some r → (q : TableRequest)
       → toldBy i q (serve t who q .told) (toldOf who i (serve t who q .table) cs) ≡ readerTold r (callsBy i q (callsOf who i cs))
   own-projects cs rec t r e (toOpen n) = rec (openPlaceOf t who n .table) r (by-opening t n r e)
   own-projects cs rec t r e (toRead j d) = at (eqb j i) refl
     where
-      x : Served
+      x : TableServed
       x = serve t who (toRead j d)
 
       at : (b : Bool) → eqb j i ≡ b
@@ -153,7 +153,7 @@ module _ (who : ℕ) (h : isTechnician who ≡ true) (i : ℕ) where
   step-projects : (c : TableCall) (cs : List TableCall) → Projects who i cs → Projects who i (c ∷ cs)
   step-projects c cs rec t r e = go (eqb (c .who) who) refl
     where
-      s : Served
+      s : TableServed
       s = serve t (c .who) (c .request)
 
       go : (b : Bool) → eqb (c .who) who ≡ b
@@ -200,7 +200,7 @@ and-on-last (run w buffer) h = runs.run-first h
 and-on-last (one (feed n buffer)) h = runs.feed-first h
 and-on-last (one done) h = runs.done-last
 
-calls-by-last : (i : ℕ) (q : Request) {cs : List RunCall} → FinishLastRun cs → FinishLastRun (callsBy i q cs)
+calls-by-last : (i : ℕ) (q : TableRequest) {cs : List RunCall} → FinishLastRun cs → FinishLastRun (callsBy i q cs)
 calls-by-last i (toOpen n) h = h
 calls-by-last i (toRead j d) {cs} h = go (eqb j i)
   where

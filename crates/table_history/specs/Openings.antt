@@ -16,7 +16,7 @@ use Rattle.refinement.specs.ReaderCalls.{readerCall}
 use Rattle.refinement.specs.Runs.{RunCall, run, one, runResult, runCollects, allOneByOne, SameAsFeeds}
 use Rattle.reader_table.specs.declared.ReaderTable.{ReaderTable}
 use Rattle.reader_table.specs.Table.{runTaken}
-use Rattle.table_history.specs.History.{Request, toOpen, toRead, toClose, TableCall, TableReply, openReply, callReply, Served, serve, tableAfter}
+use Rattle.table_history.specs.History.{TableRequest, toOpen, toRead, toClose, TableCall, TableReply, openReply, callReply, TableServed, serve, tableAfter}
 
 -- x and what comes later; a finish is the last
 abbrev pub andOn : {A : Type 0} → RunCall → A → List A → List A
@@ -25,7 +25,7 @@ andOn (one (feed n buffer)) x later = x ∷ later
 andOn (one done) x later = x ∷ []
 
 -- the calls of the place i
-abbrev pub callsBy : ℕ → Request → List RunCall → List RunCall
+abbrev pub callsBy : ℕ → TableRequest → List RunCall → List RunCall
 callsBy i (toOpen n) later = later
 callsBy i (toRead j c) later = cond (eqb j i) (andOn c c later) later
 callsBy i (toClose j) later = cond (eqb j i) [] later
@@ -35,7 +35,7 @@ callsOf who i [] = []
 callsOf who i (c ∷ h) = cond (eqb (c .who) who) (callsBy i (c .request) (callsOf who i h)) (callsOf who i h)
 
 -- what the table told to these same calls
-abbrev pub toldBy : ℕ → Request → TableReply → List TableReply → List TableReply
+abbrev pub toldBy : ℕ → TableRequest → TableReply → List TableReply → List TableReply
 toldBy i (toOpen n) x later = later
 toldBy i (toRead j c) x later = cond (eqb j i) (andOn c x later) later
 toldBy i (toClose j) x later = cond (eqb j i) [] later
@@ -43,7 +43,7 @@ toldBy i (toClose j) x later = cond (eqb j i) [] later
 abbrev pub toldOf : ℕ → ℕ → ReaderTable → List TableCall → List TableReply
 toldOf who i t [] = []
 toldOf who i t (c ∷ h) =
-    let s : Served = serve t (c .who) (c .request) in
+    let s : TableServed = serve t (c .who) (c .request) in
     cond (eqb (c .who) who) (toldBy i (c .request) (s .told) (toldOf who i (s .table) h)) (toldOf who i (s .table) h)
 
 -- what a reader of one's own tells to calls
@@ -85,7 +85,7 @@ collectedOf k p who i t h = toldCollected k p (callsOf who i h) (toldOf who i t 
 -- A history in two parts.
 
 -- whether the opening has its finish or close in this part
-abbrev pub endsBy : ℕ → Request → Bool
+abbrev pub endsBy : ℕ → TableRequest → Bool
 endsBy i (toOpen n) = false
 endsBy i (toRead j (run w buffer)) = false
 endsBy i (toRead j (one (feed n buffer))) = false

@@ -11,7 +11,7 @@ use Rattle.recovery.specs.Calls.{Call, feed, done}
 use Rattle.refinement.specs.Runs.{RunCall, run, one, runResult, onRuns, oneByOne, allOneByOne}
 use Rattle.reader_table.specs.declared.ReaderTable.{ReaderTable}
 use Rattle.reader_table.specs.Table.{isTechnician, heldBy, openPlaceOf, callPlaceOf, closePlaceOf}
-use Rattle.table_history.specs.History.{Request, toOpen, toRead, toClose, TableCall, serve, tableAfter}
+use Rattle.table_history.specs.History.{TableRequest, toOpen, toRead, toClose, TableCall, serve, tableAfter}
 use Rattle.table_history.specs.Openings.{callsBy, callsOf, callsAfter, toldOf, readerTold, endsBy, endsIn, toldAfter}
 use Rattle.table_history.specs.OpeningLaws.{by-other, by-opening, by-call, by-elsewhere, by-close, projected}
 
@@ -19,7 +19,7 @@ use Rattle.table_history.specs.OpeningLaws.{by-other, by-opening, by-cal
 
 module _ (i : ℕ) (cs ds : List RunCall) where
   -- a request in front of the two parts
-  append-by : (q : Request) (b : Bool) (es : List RunCall) → es ≡ cs ++ cond b [] ds → callsBy i q es ≡ callsBy i q cs ++ cond (endsBy i q || b) [] ds
+  append-by : (q : TableRequest) (b : Bool) (es : List RunCall) → es ≡ cs ++ cond b [] ds → callsBy i q es ≡ callsBy i q cs ++ cond (endsBy i q || b) [] ds
   append-by (toOpen n) b es k = k
   append-by (toRead j (run w buffer)) b es k = go (eqb j i)
     where
@@ -69,7 +69,7 @@ Keeps who i cs =
     (t : ReaderTable) (r : Reader) → heldBy t who i ≡ some r → endsIn who i cs ≡ false → heldBy (tableAfter t cs) who i ≡ some (onRuns r (callsOf who i cs))
 
 module _ (who : ℕ) (h : isTechnician who ≡ true) (i : ℕ) (cs : List TableCall) (rec : Keeps who i cs) (t : ReaderTable) (r : Reader) (e : heldBy t who i ≡ some r) where
-  keeps-by : (q : Request) → (endsBy i q || endsIn who i cs) ≡ false
+  keeps-by : (q : TableRequest) → (endsBy i q || endsIn who i cs) ≡ false
       → heldBy (tableAfter (serve t who q .table) cs) who i ≡ some (onRuns r (callsBy i q (callsOf who i cs)))
   keeps-by (toOpen n) f = rec (openPlaceOf t who n .table) r (by-opening who h i t n r e) f
   keeps-by (toRead j (run w buffer)) f = go (eqb j i) refl

@@ -22,7 +22,7 @@ use Rattle.refinement.specs.Runs.{RunCall, runResult, onRuns}
 use Rattle.refinement.specs.RunsReached.{runs-never-eleven}
 use Rattle.reader_table.specs.declared.ReaderTable.{ReaderTable}
 use Rattle.reader_table.specs.Table.{isTechnician, freePlace, placeCount, emptyTable, placeAt, heldBy, Placing, at-place, not-placed, openPlaceOf, notCalled, lentTo, callHeld, callPlaceOf}
-use Rattle.table_history.specs.History.{Request, toOpen, toRead, toClose, TableCall, serve, tableAfter}
+use Rattle.table_history.specs.History.{TableRequest, toOpen, toRead, toClose, TableCall, serve, tableAfter}
 use Rattle.table_history.specs.Places.{somebody, holding, held, view, but}
 use Rattle.table_history.specs.Views.{other-keeps, keptHeld, keptClosed, keptOpened, opens, reads, closes}
 
@@ -77,7 +77,7 @@ closed-own v j none k = k
 closed-own v j (some r) k = but-own v j none k tt
 
 module _ (who : ℕ) (h : isTechnician who ≡ true) where
-  own-own : (t : ReaderTable) (q : Request) → OwnView (view who t) → OwnView (view who (serve t who q .table))
+  own-own : (t : ReaderTable) (q : TableRequest) → OwnView (view who t) → OwnView (view who (serve t who q .table))
   own-own t (toOpen n) k =
       subst OwnView (sym (opens who h t n)) (opened-own (view who t) (profileNumbered n) (openPlaceOf t who n .placing) k)
   own-own t (toRead j c) k = subst OwnView (sym (reads who h t j c .1)) (held-own (view who t) j c (view who t j) (k j) k)

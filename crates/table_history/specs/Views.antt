@@ -18,7 +18,7 @@ use Rattle.reader.specs.Reader.{freshReader}
 use Rattle.refinement.specs.Runs.{RunCall, runResult}
 use Rattle.reader_table.specs.declared.ReaderTable.{ReaderTable}
 use Rattle.reader_table.specs.Table.{isTechnician, placeFor, freePlace, heldBy, lowestFree, Placing, at-place, not-placed, notOpened, opensAt, openPlace, openNumbered, openPlaceOf, notCalled, lentTo, runTaken, callHeld, callPlaceOf, closeHeld, closePlaceOf}
-use Rattle.table_history.specs.History.{Request, TableReply, toOpen, toRead, toClose, openReply, callReply, served, serve}
+use Rattle.table_history.specs.History.{TableRequest, TableReply, toOpen, toRead, toClose, openReply, callReply, served, serve}
 use Rattle.table_history.specs.Places.{somebody, holding, view, but, view-put, view-foreign, owned, there, lowest-free}
 
 -- Other technicians' calls leave all that a technician holds.
@@ -67,7 +67,7 @@ module _ (who : ℕ) (h : isTechnician who ≡ true) (other : ℕ) (f : eqb othe
       go true none e = refl
       go true (some r) e = view-foreign who t i freePlace (somebody who h) (not-theirs _ (owned t other i r e)) (somebody who h)
 
-  pub other-keeps : (q : Request) → view who (serve t other q .table) ≡ view who t
+  pub other-keeps : (q : TableRequest) → view who (serve t other q .table) ≡ view who t
   other-keeps (toOpen n) = other-opens n
   other-keeps (toRead i c) = other-reads i c
   other-keeps (toClose i) = other-closes i
@@ -164,12 +164,12 @@ module _ (who : ℕ) (h : isTechnician who ≡ true) where
 
 -- A number that is no technician's: 32, and nothing changes.
 
-abbrev pub strange : Request → TableReply
+abbrev pub strange : TableRequest → TableReply
 strange (toOpen n) = openReply (not-placed noSuchTechnician)
 strange (toRead i c) = callReply (answerFor (refused noSuchTechnician)) 0 (lentTo c)
 strange (toClose i) = callReply (answerFor (refused noSuchTechnician)) 0 []
 
-pub stranger : (who : ℕ) → isTechnician who ≡ false → (t : ReaderTable) (q : Request) → serve t who q ≡ record { table = t; told = strange q }
+pub stranger : (who : ℕ) → isTechnician who ≡ false → (t : ReaderTable) (q : TableRequest) → serve t who q ≡ record { table = t; told = strange q }
 unfolding openPlaceOf callPlaceOf closePlaceOf
 stranger who h t (toOpen n) = simp (h)
 stranger who h t (toRead i c) = simp (h)
