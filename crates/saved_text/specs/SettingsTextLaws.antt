@@ -10,7 +10,6 @@ use borrow.Author.Tests.{le-leb, lt-leb}
 use lib.ListN.{length, drop, getD, length-append, length-drop, drop-of-length-le}
 use lib.Seq.{drop-cons, drop-drop}
 use Rattle.refusal.specs.Refusal.{versionNotHeld, notSavedSettings}
-use Rattle.text.specs.Text.{decimal}
 use Rattle.text.specs.TextLaws.{decimal-short}
 use Rattle.text.specs.Put.{Puts, Put}
 use Rattle.text.specs.PutLaws.{whole}

@@ -8,7 +8,6 @@ use Rattle.refusal.specs.Refusal.{notSavedSettings}
 use Rattle.text.specs.Text.{ascii}
 use Rattle.text.specs.Put.{Puts}
 use Rattle.saved_setting.specs.declared.SavedSetting.{SavedSetting}
-use Rattle.saved_setting.specs.declared.Wanted.{Wanted}
 use Rattle.saved_setting.specs.declared.Saved.{Saved}
 use Rattle.saved_setting.specs.declared.Saved.the-variants as saved
 use Rattle.saved_setting.specs.declared.Held.{Held}

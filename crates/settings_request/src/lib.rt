@@ -4,7 +4,7 @@
 // front of a lent buffer as far as there is room; whether the list is another; and whether the request is refused. A text that is no list's is
 // refused with 37, and nothing is put for it; for the others see crate saved_settings. What was clipped on saving is said. Cost: linear in the text.
 ghost use Rattle.text.specs.Put.{Puts};
-ghost use Rattle.saved_setting.specs.SavedSettings.{savedWanted, foundIn, savedAgain};
+ghost use Rattle.saved_setting.specs.SavedSettings.{foundIn};
 ghost use Rattle.settings_request.specs.declared.Request.the-variants.{Save, Find, Back, ListAll, Messages};
 ghost use Rattle.settings_request.specs.SettingsRequest.{refusingRequest, heldLine, listedText, requestEffect, Responds, service, Serves};
 use saved_setting::Held;

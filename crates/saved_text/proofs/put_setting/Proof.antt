@@ -1,6 +1,5 @@
 -- The five numbers, each after its name, and a newline, one after another.
 use borrow.Author.Needs.{needs}
-use native.Mathlib.Omega.{arith}
 use Rattle.text.specs.PutLaws.{then, puts-length}
 use Rattle.saved_text.proofs.put_setting.Statement.{statement}
 use Rattle.saved_text.proofs.put_setting.Tie as tie
