@@ -9,7 +9,7 @@ use crate::text::say_hex;
 use crate::text::say_number;
 use crate::text::until;
 use line_code::Repair;
-use mark_answer::Kept;
+use mark_text::Kept;
 use period::Nibbles;
 use period::Rate;
 use period::WholePeriods;

@@ -11,8 +11,8 @@ use Rattle.profile.specs.declared.Profile.the-variants.{VV5404, VV5300}
 use Rattle.stream.specs.declared.Before.the-variants.{NoLine, RefusedLine, HandedOut}
 use Rattle.stream.specs.declared.Mark.{Mark}
 use Rattle.stream.specs.declared.Mark.the-variants.{NoMark, Open}
-use Rattle.mark_answer.specs.declared.Kept.{Kept}
-use Rattle.mark_answer.specs.Kept.{nothingKept}
+use Rattle.mark_text.specs.declared.Kept.{Kept}
+use Rattle.mark_text.specs.MarkText.{nothingKept}
 use Rattle.reader.specs.declared.Reader.{Reader}
 use Rattle.reader.specs.Reader.{isMark, passes}
 use Rattle.explained.specs.Interchangeable.{headWith}

@@ -11,12 +11,12 @@ use lib.ListN.{length, drop, length-drop}
 use borrow.Author.Tests.{leb-true}
 use Rattle.bits.specs.Every.{and-left}
 use Rattle.profile.specs.declared.Profile.{Profile}
-use Rattle.profile.specs.Profile.{bodyLength}
+use Rattle.profile.specs.Profile.{bodyLength, gapStart}
 use Rattle.stream.specs.declared.Answer.{Answer}
 use Rattle.stream.specs.declared.Mark.{Mark}
 use Rattle.stream.specs.Answers.{answerFor, bufferAfter}
 use Rattle.stream.specs.Stream.{State, not-yet, detect, run, fresh}
-use Rattle.mark_answer.specs.Kept.{gapStart, strayAt, keptAt}
+use Rattle.mark_text.specs.MarkText.{strayAt, keptAt}
 use Rattle.reader.specs.declared.Reader.{Reader}
 use Rattle.reader.specs.Reader.{isMark, passes, freshReader}
 use Rattle.recovery.specs.Calls.{Call, feed, done, CallResult, meaningCall}

@@ -16,16 +16,16 @@ use Rattle.stream.specs.declared.Mark.{Mark}
 use Rattle.stream.specs.declared.Mark.the-variants.{NoMark, Open}
 use Rattle.stream.specs.Answers.{Outcome, nothing, isLine}
 use Rattle.stream.specs.Stream.{kindAt, beforeBy}
-use Rattle.mark_answer.specs.declared.Kept.{Kept}
-use Rattle.mark_answer.specs.Kept.{nothingKept, keptAt, bodyAt}
-use Rattle.mark_answer.specs.Judge.{judge}
+use Rattle.mark_text.specs.declared.Kept.{Kept}
+use Rattle.mark_text.specs.MarkText.{nothingKept, keptAt, bodyAt}
+use Rattle.mark_answer.specs.KeptAnswer.{keptAnswer}
 use Rattle.reader.specs.declared.Head.{Head}
 use Rattle.reader.specs.declared.Reader.{Reader}
 use Rattle.reader.specs.Reader.{Took, topPlace, isMark, slide, bump, countStop, leaveKept, leaveBody, opened, shifted, flushed, takeHead, takeOutcome, taking, freshReader, refusing, passes, feedOf, finishOf}
 use Rattle.reader_laws.specs.Passes.{finished, fresh-ok, feed-ok, passes-test}
 use Rattle.reader_laws.specs.Passing.{Ok}
 use Rattle.refinement.specs.Refine.{no-body, finish-passed}
-use Rattle.explained.specs.Used.{Store, endsLine, SameUsed, no-nibbles, used-fewer, used-commit, judge-same}
+use Rattle.explained.specs.Used.{Store, endsLine, SameUsed, no-nibbles, used-fewer, used-commit, answer-same}
 
 -- Readers.
 
@@ -92,10 +92,10 @@ same-take p n g (differ-unused m c w s s₂ h f) = go (isMark (slide w n))
     new s = record { kept = nothingKept; body = leave p m c w s .body }
 
     told : Store → Bool → Outcome
-    told s b = cond b (judge p m (c - 7) (leave p m c w s .kept) (leave p m c w s .body) (some code)) nothing
+    told s b = cond b (keptAnswer p m (c - 7) (leave p m c w s .kept) (leave p m c w s .body) (some code)) nothing
 
     same-told : told s true ≡ told s₂ true
-    same-told = judge-same p m (c - 7) (c - 7) (some code) (omega arith) l
+    same-told = answer-same p m (c - 7) (c - 7) (some code) (omega arith) l
 
     opens : Store → Outcome → Reader
     opens s o = readerWith p (Open (beforeBy (kindAt m) (isLine o)) code) 2 code (new s)
@@ -177,10 +177,10 @@ finish-same p (differ-unused m c w s s₂ h f) = go (flush-same p m 8 c w s s₂
     kept-of : Store → Kept
     kept-of s = flushed 8 (headWith p m c w (s .kept)) .kept
 
-    go : Flushed p m 8 c w (s .kept) (s₂ .kept) → judge p m c (kept-of s) [] none ≡ judge p m c (kept-of s₂) [] none
+    go : Flushed p m 8 c w (s .kept) (s₂ .kept) → keptAnswer p m c (kept-of s) [] none ≡ keptAnswer p m c (kept-of s₂) [] none
     go q =
         no-body p m c (kept-of s) [] (q .body)
-        ∙ judge-same p m c (q .count) none (let z = q .long in omega arith) (q .same-used)
+        ∙ answer-same p m c (q .count) none (let z = q .long in omega arith) (q .same-used)
         ∙ no-body p m c (kept-of s₂) (q .body-two) []
 
 used-all : (p : Profile) (e : Bool) (n : ℕ) (s : Store) → length (s .body) ≡ longest → SameUsed p e n s s

@@ -11,11 +11,11 @@ use lib.Seq.{take-all}
 use borrow.Author.Tests.{eqb-true, eqb-false, le-leb, lt-leb, leb-true, leb-false, lt-ltb, le-ltb}
 use Rattle.profile.specs.declared.Profile.{Profile}
 use Rattle.profile.specs.declared.Profile.the-variants.{VV5404, VV5300}
-use Rattle.profile.specs.Profile.{longest}
+use Rattle.profile.specs.Profile.{longest, gapStart}
 use Rattle.stream.specs.declared.Before.{Before}
 use Rattle.stream.specs.declared.Mark.{Mark}
 use Rattle.stream.specs.declared.Mark.the-variants.{NoMark, Open}
-use Rattle.mark_answer.specs.Kept.{gapStart, strayAt, keptAt}
+use Rattle.mark_text.specs.MarkText.{strayAt, keptAt}
 use Rattle.reader.specs.Reader.{aged}
 use Rattle.refinement.specs.Window.{num}
 use Rattle.reader_laws.specs.Passing.{Small, small-none, small-more, Byte, Fits}

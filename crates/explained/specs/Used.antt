@@ -21,16 +21,16 @@ use Rattle.line_code.specs.LineCode.{readingOf, endMeant, isEnd, repairOf}
 use Rattle.line_number.specs.LineNumber.{numberGood, numberFrom}
 use Rattle.profile.specs.declared.Profile.{Profile}
 use Rattle.profile.specs.declared.Profile.the-variants.{VV5404, VV5300}
-use Rattle.profile.specs.Profile.{bodyLength, longest, nullByte}
+use Rattle.profile.specs.Profile.{bodyLength, longest, nullByte, gapStart}
 use Rattle.profile.specs.Layout.{rules, fits, gapFits}
 use Rattle.stream.specs.declared.Before.{Before}
 use Rattle.stream.specs.declared.Before.the-variants.{NoLine, RefusedLine, HandedOut}
 use Rattle.stream.specs.declared.Mark.{Mark}
 use Rattle.stream.specs.declared.Mark.the-variants.{NoMark, Open}
 use Rattle.stream.specs.Answers.{facts, Outcome, line, goodGap, require}
-use Rattle.mark_answer.specs.declared.Kept.{Kept}
-use Rattle.mark_answer.specs.Kept.{bodyPlace, gapStart, strayAt, keptAt, bodyAt}
-use Rattle.mark_answer.specs.Judge.{judgeLine, judgeGap, judgeMeaning, judgeReading, judge}
+use Rattle.mark_text.specs.declared.Kept.{Kept}
+use Rattle.mark_text.specs.MarkText.{bodyPlace, strayAt, keptAt, bodyAt}
+use Rattle.mark_answer.specs.KeptAnswer.{keptLine, keptGap, keptByMeaning, keptByReading, keptAnswer}
 use Rattle.profile.specs.LayoutLaws.{body-small}
 use Rattle.refinement.specs.Stored.{byte-high, byte-low, byte-keep, body-high, body-low, refuses, wrong-length}
 use Rattle.reader_laws.specs.Bodies.{bodyBy, length-body}
@@ -248,7 +248,7 @@ same-body p {n} {s} {s₂} f e =
     ∙ sym (getD-take (bodyLength p) (s₂ .body) i 0 (omega arith))
 
 line-same : (p : Profile) (k : Kind) (r : Repair) (len n : ℕ) {s s₂ : Store} (next : Reading) → min len lineEnd ≤ n → SameUsed p false n s s₂
-    → judgeLine p k r len (s .kept) (s .body) next ≡ judgeLine p k r len (s₂ .kept) (s₂ .body) next
+    → keptLine p k r len (s .kept) (s .body) next ≡ keptLine p k r len (s₂ .kept) (s₂ .body) next
 line-same p k r len n {s} {s₂} next h f = go (eqb len (2 * bodyLength p + bodyPlace)) refl
   where
     no : {x : ℕ} → false ≡ true → x < gapStart p
@@ -261,7 +261,7 @@ line-same p k r len n {s} {s₂} next h f = go (eqb len (2 * bodyLength p + body
         (require (fits (rules p k) w) badBody (require (isEnd next) noEndOfLine (line (facts k (numberFrom x y) r (repairOf next)) w))))
 
     go : (b : Bool) → eqb len (2 * bodyLength p + bodyPlace) ≡ b
-        → judgeLine p k r len (s .kept) (s .body) next ≡ judgeLine p k r len (s₂ .kept) (s₂ .body) next
+        → keptLine p k r len (s .kept) (s .body) next ≡ keptLine p k r len (s₂ .kept) (s₂ .body) next
     go false q =
         let l = eqb-false len (2 * bodyLength p + bodyPlace) q in
         wrong-length p k r len (s .kept) (s .body) next l ∙ sym (wrong-length p k r len (s₂ .kept) (s₂ .body) next l)
@@ -274,7 +274,7 @@ line-same p k r len n {s} {s₂} next h f = go (eqb len (2 * bodyLength p + body
         ∙ ap (shape (s₂ .kept .first) (s₂ .kept .second)) (same-body p f (omega arith))
 
 gap-same : (p : Profile) (k : Kind) (m len n : ℕ) {s s₂ : Store} → min len lineEnd ≤ n → SameUsed p true n s s₂
-    → judgeGap p k m len (s .kept) ≡ judgeGap p k m len (s₂ .kept)
+    → keptGap p k m len (s .kept) ≡ keptGap p k m len (s₂ .kept)
 gap-same VV5404 k m len n h f = ap (λ x. require (not x) badGap (goodGap m nullByte nullByte)) (f .stray-same refl)
 gap-same VV5300 k m len n {s} {s₂} h f = go (leb bodyPlace len) refl
   where
@@ -286,7 +286,7 @@ gap-same VV5300 k m len n {s} {s₂} h f = go (leb bodyPlace len) refl
     short true false y q = refl
     short false false y q = refl
 
-    go : (b : Bool) → leb bodyPlace len ≡ b → judgeGap VV5300 k m len (s .kept) ≡ judgeGap VV5300 k m len (s₂ .kept)
+    go : (b : Bool) → leb bodyPlace len ≡ b → keptGap VV5300 k m len (s .kept) ≡ keptGap VV5300 k m len (s₂ .kept)
     go false q =
         refuses _ badGap _ (short (not (s .kept .stray)) (leb bodyPlace len) _ q)
         ∙ sym (refuses _ badGap _ (short (not (s₂ .kept .stray)) (leb bodyPlace len) _ q))
@@ -299,11 +299,11 @@ gap-same VV5300 k m len n {s} {s₂} h f = go (leb bodyPlace len) refl
 
 module _ (p : Profile) (before : Before) (len n : ℕ) {s s₂ : Store} (next : Option ℕ) (h : min len lineEnd ≤ n) where
   meaning-same : (d : Meaning) (r : Repair) → SameUsed p (endMeant d) n s s₂
-      → judgeMeaning p before d r len (s .kept) (s .body) next ≡ judgeMeaning p before d r len (s₂ .kept) (s₂ .body) next
+      → keptByMeaning p before d r len (s .kept) (s .body) next ≡ keptByMeaning p before d r len (s₂ .kept) (s₂ .body) next
   meaning-same d r f = go before d next f
     where
       go : (before : Before) (d : Meaning) (next : Option ℕ) → SameUsed p (endMeant d) n s s₂
-          → judgeMeaning p before d r len (s .kept) (s .body) next ≡ judgeMeaning p before d r len (s₂ .kept) (s₂ .body) next
+          → keptByMeaning p before d r len (s .kept) (s .body) next ≡ keptByMeaning p before d r len (s₂ .kept) (s₂ .body) next
       go NoLine EndOfLine next f = refl
       go (RefusedLine k) EndOfLine next f = gap-same p k _ len n h f
       go (HandedOut k) EndOfLine next f = gap-same p k _ len n h f
@@ -313,12 +313,12 @@ module _ (p : Profile) (before : Before) (len n : ℕ) {s s₂ : Store} (next : 
       go before ReservedF1 next f = refl
 
   reading-same : (d : Reading) → SameUsed p (isEnd d) n s s₂
-      → judgeReading p before d len (s .kept) (s .body) next ≡ judgeReading p before d len (s₂ .kept) (s₂ .body) next
+      → keptByReading p before d len (s .kept) (s .body) next ≡ keptByReading p before d len (s₂ .kept) (s₂ .body) next
   reading-same (Says d r) f = meaning-same d r f
   reading-same Damaged f = refl
 
-pub judge-same : (p : Profile) (m : Mark) (len n : ℕ) {s s₂ : Store} (next : Option ℕ) → min len lineEnd ≤ n
-    → SameUsed p (endsLine m) n s s₂ → judge p m len (s .kept) (s .body) next ≡ judge p m len (s₂ .kept) (s₂ .body) next
-unfolding judge
-judge-same p NoMark len n next h f = refl
-judge-same p (Open before c) len n next h f = reading-same p before len n next h (readingOf c) f
+pub answer-same : (p : Profile) (m : Mark) (len n : ℕ) {s s₂ : Store} (next : Option ℕ) → min len lineEnd ≤ n
+    → SameUsed p (endsLine m) n s s₂ → keptAnswer p m len (s .kept) (s .body) next ≡ keptAnswer p m len (s₂ .kept) (s₂ .body) next
+unfolding keptAnswer
+answer-same p NoMark len n next h f = refl
+answer-same p (Open before c) len n next h f = reading-same p before len n next h (readingOf c) f

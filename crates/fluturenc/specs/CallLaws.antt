@@ -21,7 +21,7 @@ use Rattle.stream.specs.declared.GapFacts.{GapFacts}
 use Rattle.stream.specs.declared.LineFacts.{LineFacts}
 use Rattle.stream.specs.declared.Answer.the-variants as answers
 use Rattle.stream.specs.Answers.{eitherRepaired, refused, answerFor, isAnswer}
-use Rattle.mark_answer.specs.Kept.{bodyAt}
+use Rattle.mark_text.specs.MarkText.{bodyAt}
 use Rattle.reader.specs.declared.Reader.{Reader}
 use Rattle.reader.specs.Reader.{Took, topPlace, passes, freshReader, taking, finishOf, leaveBody}
 use Rattle.run.specs.Run.{Ran, ran, runOf, onward}

@@ -35,7 +35,7 @@ use frame::Judge;
 use frame::Ruling;
 use lent_call::bit;
 use line_code::Kind;
-use mark_answer::Kept;
+use mark_text::Kept;
 use profile::Numbered;
 use profile::Profile;
 use reader::Head;

@@ -16,12 +16,12 @@ use Rattle.stream.specs.declared.Answer.{Answer}
 use Rattle.stream.specs.Answers.{Outcome, answerFor, isLine, isLineAnswer, periodOf}
 use Rattle.stream.specs.AnswersLaws.{line-said}
 use Rattle.stream.specs.Stream.{kindAt, beforeBy}
-use Rattle.mark_answer.specs.declared.Kept.{Kept}
-use Rattle.mark_answer.specs.Judge.{judge, judgeReading}
+use Rattle.mark_text.specs.declared.Kept.{Kept}
+use Rattle.mark_answer.specs.KeptAnswer.{keptAnswer, keptByReading}
 
 pub by-reading : (p : Profile) (len : ℕ) (t : Kept) (body : List ℕ) (next : Option ℕ) {m : Mark} {before : Before} {code : ℕ} {r : Reading}
-    → m ≡ Open before code → r ≡ readingOf code → judge p m len t body next ≡ judgeReading p before r len t body next
-unfolding judge
+    → m ≡ Open before code → r ≡ readingOf code → keptAnswer p m len t body next ≡ keptByReading p before r len t body next
+unfolding keptAnswer
 by-reading p len t body next e f = rw (e, f)
 
 -- what the mark is to the next one, by that reading and the answer

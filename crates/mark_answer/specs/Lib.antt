@@ -1,6 +1,4 @@
-pub mod Kept
-pub mod KeptLaws
-pub mod Judge
-pub mod JudgeLaws
+pub mod KeptAnswer
+pub mod KeptAnswerLaws
 pub mod Gives
 pub mod Sound

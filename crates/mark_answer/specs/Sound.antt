@@ -17,9 +17,9 @@ use Rattle.stream.specs.declared.LineFacts.{LineFacts}
 use Rattle.stream.specs.declared.GapFacts.{GapFacts}
 use Rattle.stream.specs.declared.Mark.{Mark}
 use Rattle.stream.specs.Answers.{Outcome, nothing, line, gap, refused, isLine, outcomeOf, answerFor, bufferAfter}
-use Rattle.mark_answer.specs.declared.Kept.{Kept}
-use Rattle.mark_answer.specs.Judge.{judge}
-use Rattle.mark_answer.specs.JudgeLaws.{judged}
+use Rattle.mark_text.specs.declared.Kept.{Kept}
+use Rattle.mark_answer.specs.KeptAnswer.{keptAnswer}
+use Rattle.mark_answer.specs.KeptAnswerLaws.{kept-answers}
 
 pub data Sound (p : Profile) : Outcome → Type 0 where
   sound-nothing : Sound p nothing
@@ -28,15 +28,15 @@ pub data Sound (p : Profile) : Outcome → Type 0 where
   sound-refused : (n : ℕ) → 1 ≤ n → n ≤ 9 → Sound p (refused n)
 
 -- whatever is kept
-pub judge-sound : (p : Profile) (m : Mark) (len : ℕ) (t : Kept) (body : List ℕ) (next : Option ℕ) → Sound p (judge p m len t body next)
-judge-sound p m len t body next =
-    judged (Sound p) p body next sound-nothing sound-refused (λ g. sound-gap {g = g}) (λ f h e. sound-line {f = f} h) m len t
+pub kept-sound : (p : Profile) (m : Mark) (len : ℕ) (t : Kept) (body : List ℕ) (next : Option ℕ) → Sound p (keptAnswer p m len t body next)
+kept-sound p m len t body next =
+    kept-answers (Sound p) p body next sound-nothing sound-refused (λ g. sound-gap {g = g}) (λ f h e. sound-line {f = f} h) m len t
 
 -- a line is handed out only where the next mark's code is end of line
 pub line-ends : (p : Profile) (m : Mark) (len : ℕ) (t : Kept) (body : List ℕ) (next : ℕ)
-    → isLine (judge p m len t body (some next)) ≡ true → isEnd (readingOf next) ≡ true
+    → isLine (keptAnswer p m len t body (some next)) ≡ true → isEnd (readingOf next) ≡ true
 line-ends p m len t body next =
-    judged (λ o. isLine o ≡ true → isEnd (readingOf next) ≡ true) p body (some next)
+    kept-answers (λ o. isLine o ≡ true → isEnd (readingOf next) ≡ true) p body (some next)
     (λ h. absurd (true≢false (sym h))) (λ n a b h. absurd (true≢false (sym h))) (λ g h. absurd (true≢false (sym h))) (λ f h e i. e)
     m len t
 
@@ -66,6 +66,6 @@ legible (sound-refused n g h) buffer = refl
 
 -- before a line is handed out the body itself has what the buffer has afterwards
 pub legible-body : (p : Profile) (m : Mark) (len : ℕ) (t : Kept) (body : List ℕ) (next : Option ℕ)
-    → outcomeOf p (answerFor (judge p m len t body next)) body ≡ judge p m len t body next
+    → outcomeOf p (answerFor (keptAnswer p m len t body next)) body ≡ keptAnswer p m len t body next
 legible-body p m len t body next =
-    judged (λ o. outcomeOf p (answerFor o) body ≡ o) p body next refl (λ n a b. refl) (λ g. refl) (λ f h e. refl) m len t
+    kept-answers (λ o. outcomeOf p (answerFor o) body ≡ o) p body next refl (λ n a b. refl) (λ g. refl) (λ f h e. refl) m len t

@@ -1,7 +1,7 @@
-// What is kept of a mark's text, and the mark's answer from that (paper 01, 'One answer for each mark').
+// A mark's answer, from what is kept of its text (paper 01, 'One answer for each mark').
 //
-// In: nibbles of a text one after another, as they leave the reader's window. Out: when the next mark is complete, or at finish, the
-// open mark's answer, 1 to 9, a good gap or a line. Cost: constant for a nibble; a body is scanned only where a line is answered.
+// In: an open mark with its text's length, what is kept of it, and the body; the next mark's code, or finish. Out: the mark's answer, 1 to 9, a good
+// gap or a line. Cost: constant, but that a body is scanned where its line is answered.
 ghost use mathlib.Core.Path.{_≡_};
 ghost use mathlib.Core.List.{[]};
 ghost use mathlib.Core.Option.{none, some};
@@ -10,14 +10,15 @@ ghost use Rattle.line_code.specs.LineCode.{readingOf};
 ghost use Rattle.line_code.specs.declared.Repair.{Repair};
 ghost use Rattle.period.specs.Period.{mostNibbles};
 ghost use Rattle.stream.specs.Answers.{answerFor, groupNibbles, lineNibbles, periodOf};
-ghost use Rattle.mark_answer.specs.Kept.{nothingKept, byteAt, gapStart, strayAt, keptAt, bodyAt};
-ghost use Rattle.mark_answer.specs.Judge.{judgeBody, judgeLine, judgeGap, judgeEnd, judgeMeaning, judgeReading, judge};
+ghost use Rattle.mark_answer.specs.KeptAnswer.{keptBody, keptLine, keptGap, keptEnd, keptByMeaning, keptByReading, keptAnswer};
 ghost use Rattle.mark_answer.specs.Gives.{MarkGives};
 use line_code::Kind;
 use line_code::Meaning;
 use line_code::Reading;
 use line_code::Repair;
 use line_number::Decoded;
+use mark_text::BODY_PLACE;
+use mark_text::Kept;
 use period::Nibbles;
 use profile::Profile;
 use stream::Answer;
@@ -26,78 +27,10 @@ use stream::GapFacts;
 use stream::LineFacts;
 use stream::Mark;
 
-// What is kept of a text besides the body: the two bytes after the code (a line's number, or a gap's bytes), and whether a nibble where
-// a gap has nothing but F was another.
-pub struct Kept {
-    pub first: u8,
-    pub second: u8,
-    pub stray: bool,
-}
-
 // An open mark that the next one closes: its answer, and what it is to that one.
 pub struct Closed {
     pub answer: Answer,
     pub before: Before,
-}
-
-impl Kept {
-    // Of an empty text.
-    pub fn nothing() -> Kept
-        ensures { λ r. ⌜ r ≡ nothingKept ⌝ }
-    {
-        Kept {
-            first: 0,
-            second: 0,
-            stray: false,
-        }
-    }
-
-    // With the text's nibble at the place: of a byte above 15 the low four bits.
-    pub fn commit(self, profile: Profile, place: u32, nibble: u8) -> Kept
-        ensures { λ r. ⌜ r ≡ keptAt profile place (nibble % 16) self ⌝ }
-    {
-        let nibble = low_four(nibble);
-        let first = byte_at(2, place, nibble, self.first);
-        let second = byte_at(4, place, nibble, self.second);
-        let stray = stray_at(profile, place, nibble, self.stray);
-        Kept {
-            first,
-            second,
-            stray,
-        }
-    }
-}
-
-// The place from which a gap holds nothing but F.
-pub fn gap_start(profile: Profile) -> u32
-    ensures { λ r. ⌜ r ≡ gapStart profile ⌝ }
-{
-    match profile {
-        Profile::VV5404 => 2,
-        Profile::VV5300 => BODY_PLACE,
-    }
-}
-
-// Puts the text's nibble at the place, of a byte above 15 the low four bits, into the body, if it belongs there and the body reaches so far.
-pub fn store(body: &mut [u8], place: u32, nibble: u8)
-    ensures { λ _. ⌜ now (body .exit) ≡ bodyAt place (nibble % 16) (now (body .entry)) ⌝ }
-{
-    if place < BODY_PLACE {
-        return;
-    }
-    let i = ((place - BODY_PLACE) / 2) as usize;
-    if Profile::LONGEST <= i {
-        return;
-    }
-    if body.len() <= i {
-        return;
-    }
-    let nibble = low_four(nibble);
-    if place % 2 == 0 {
-        body[i] = 16 * nibble;
-    } else {
-        body[i] = with_low(body[i], nibble);
-    }
 }
 
 // The open mark's answer when the next mark's code is complete, and what it is to that one. Its text has this many nibbles, the code's two
@@ -110,7 +43,7 @@ pub fn at_mark(
     body: &[u8],
     next: u8,
 ) -> Closed
-    ensures { λ r. ⌜ MarkGives mark (judge profile mark length kept (now (body .entry)) (some next)) r ⌝ }
+    ensures { λ r. ⌜ MarkGives mark (keptAnswer profile mark length kept (now (body .entry)) (some next)) r ⌝ }
 {
     match mark {
         Mark::NoMark => {
@@ -131,7 +64,7 @@ pub fn at_mark(
 
 // The open mark's answer at finish.
 pub fn at_finish(profile: Profile, mark: Mark, length: u32, kept: Kept) -> Answer
-    ensures { λ r. ⌜ r ≡ answerFor (judge profile mark length kept [] none) ⌝ }
+    ensures { λ r. ⌜ r ≡ answerFor (keptAnswer profile mark length kept [] none) ⌝ }
 {
     match mark {
         Mark::NoMark => Answer::Nothing,
@@ -145,50 +78,6 @@ pub fn at_finish(profile: Profile, mark: Mark, length: u32, kept: Kept) -> Answe
     }
 }
 
-// The place in a text of a line's first body nibble, and of a profile 1 gap's first F.
-const BODY_PLACE: u32 = 6;
-
-// The low four bits of a byte: a nibble is itself.
-fn low_four(byte: u8) -> u8
-    ensures { λ r. ⌜ (r ≡ byte % 16) × (r < 16) ⌝ }
-{
-    byte % 16
-}
-
-// A byte with another low nibble.
-fn with_low(byte: u8, nibble: u8) -> u8
-    requires { ⌜ nibble < 16 ⌝ }
-    ensures { λ r. ⌜ r ≡ byte / 16 * 16 + nibble ⌝ }
-{
-    byte / 16 * 16 + nibble
-}
-
-// The byte whose nibbles are at the place from and the one after it.
-fn byte_at(from: u32, place: u32, nibble: u8, byte: u8) -> u8
-    requires { ⌜ (nibble < 16) × (from < 16) ⌝ }
-    ensures { λ r. ⌜ r ≡ byteAt from place nibble byte ⌝ }
-{
-    if place == from {
-        return 16 * nibble;
-    }
-    if place == from + 1 {
-        return with_low(byte, nibble);
-    }
-    byte
-}
-
-fn stray_at(profile: Profile, place: u32, nibble: u8, stray: bool) -> bool
-    ensures { λ r. ⌜ r ≡ strayAt profile place nibble stray ⌝ }
-{
-    if stray {
-        return true;
-    }
-    if gap_start(profile) <= place {
-        return nibble != 15;
-    }
-    false
-}
-
 // 1, or by what the code says.
 fn reading_answer(
     profile: Profile,
@@ -199,7 +88,7 @@ fn reading_answer(
     body: &[u8],
     next: u8,
 ) -> Answer
-    ensures { λ r. ⌜ r ≡ answerFor (judgeReading profile before reading length kept (now (body .entry)) (some next)) ⌝ }
+    ensures { λ r. ⌜ r ≡ answerFor (keptByReading profile before reading length kept (now (body .entry)) (some next)) ⌝ }
 {
     match reading {
         Reading::Says(m, repair) => meaning_answer(
@@ -226,7 +115,7 @@ fn meaning_answer(
     body: &[u8],
     next: u8,
 ) -> Answer
-    ensures { λ r. ⌜ r ≡ answerFor (judgeMeaning profile before m start length kept (now (body .entry)) (some next)) ⌝ }
+    ensures { λ r. ⌜ r ≡ answerFor (keptByMeaning profile before m start length kept (now (body .entry)) (some next)) ⌝ }
 {
     match m {
         Meaning::EndOfLine => {
@@ -240,7 +129,7 @@ fn meaning_answer(
 }
 
 fn last_answer(profile: Profile, before: Before, m: Meaning, length: u32, kept: Kept) -> Answer
-    ensures { λ r. ⌜ ((start : Repair) → r ≡ answerFor (judgeMeaning profile before m start length kept [] none)) ⌝ }
+    ensures { λ r. ⌜ ((start : Repair) → r ≡ answerFor (keptByMeaning profile before m start length kept [] none)) ⌝ }
 {
     match m {
         Meaning::EndOfLine => {
@@ -282,7 +171,7 @@ fn handed_period(profile: Profile, length: u32) -> Nibbles
 
 // 8, or the gap's answer.
 fn end_answer(profile: Profile, before: Before, period: Nibbles, length: u32, kept: Kept) -> Answer
-    ensures { λ r. ⌜ r ≡ answerFor (judgeEnd profile before (period .0) length kept) ⌝ }
+    ensures { λ r. ⌜ r ≡ answerFor (keptEnd profile before (period .0) length kept) ⌝ }
 {
     match before {
         Before::NoLine => Answer::Refused(refusal::END_WITHOUT_LINE),
@@ -293,7 +182,7 @@ fn end_answer(profile: Profile, before: Before, period: Nibbles, length: u32, ke
 
 // 9, or the good gap.
 fn gap_answer(profile: Profile, kind: Kind, period: Nibbles, length: u32, kept: Kept) -> Answer
-    ensures { λ r. ⌜ r ≡ answerFor (judgeGap profile kind (period .0) length kept) ⌝ }
+    ensures { λ r. ⌜ r ≡ answerFor (keptGap profile kind (period .0) length kept) ⌝ }
 {
     if kept.stray {
         return Answer::Refused(refusal::BAD_GAP);
@@ -336,7 +225,7 @@ fn line_answer(
     body: &[u8],
     next: u8,
 ) -> Answer
-    ensures { λ r. ⌜ r ≡ answerFor (judgeLine profile kind start length kept (now (body .entry)) (readingOf next)) ⌝ }
+    ensures { λ r. ⌜ r ≡ answerFor (keptLine profile kind start length kept (now (body .entry)) (readingOf next)) ⌝ }
 {
     let wanted = 2 * profile.body_length() + BODY_PLACE as usize;
     if length as usize == wanted {
@@ -358,7 +247,7 @@ fn body_answer(
     body: &[u8],
     next: u8,
 ) -> Answer
-    ensures { λ r. ⌜ r ≡ answerFor (judgeBody profile kind start number (now (body .entry)) (readingOf next)) ⌝ }
+    ensures { λ r. ⌜ r ≡ answerFor (keptBody profile kind start number (now (body .entry)) (readingOf next)) ⌝ }
 {
     let n = profile.body_length();
     if body.len() < n {

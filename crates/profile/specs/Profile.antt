@@ -35,6 +35,11 @@ abbrev pub imageLength : Profile → ℕ
 imageLength VV5404 = width
 imageLength VV5300 = 160
 
+-- the place in a gap's text, counted in nibbles from its code's first, from which it holds nothing but F: in profile 1 its two bytes come first
+abbrev pub gapStart : Profile → ℕ
+gapStart VV5404 = 2
+gapStart VV5300 = 6
+
 -- the length of the longest body
 abbrev pub longest : ℕ
 longest = bodyLength VV5404

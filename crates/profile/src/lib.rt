@@ -5,7 +5,7 @@
 ghost use mathlib.Core.Path.{_≡_};
 ghost use Prim.Native.Nat.{_≤_};
 ghost use lib.ListN.{getD};
-ghost use Rattle.profile.specs.Profile.{profileNumbered, bodyLength, imageStart, imageLength};
+ghost use Rattle.profile.specs.Profile.{profileNumbered, bodyLength, imageStart, imageLength, gapStart};
 ghost use Rattle.profile.specs.Layout.{isPixel, allows, rules, fits, bothAre, bothPixels, gapFits};
 ghost use Rattle.profile.specs.Places.{border, averagesReach, ruleWithin, imageWithin, evenly};
 ghost use Rattle.profile.specs.declared.Rule.the-variants.{Filler};
@@ -81,6 +81,16 @@ impl Profile {
         match self {
             Profile::VV5404 => Profile::WIDTH,
             Profile::VV5300 => 160,
+        }
+    }
+
+    // The place in a gap's text, in nibbles from its code's first, from which it holds nothing but F.
+    pub fn gap_start(self) -> u32
+        ensures { λ r. ⌜ r ≡ gapStart self ⌝ }
+    {
+        match self {
+            Profile::VV5404 => 2,
+            Profile::VV5300 => 6,
         }
     }
 

@@ -5,8 +5,8 @@ use Prim.Native.Nat.{ℕ, zero, suc, _+_, _-_, _*_, _/_, _%_, _^_, _≤_, _<_}
 use native.Mathlib.Omega.{arith}
 use lib.Pow.{shr-shr}
 use Rattle.profile.specs.declared.Profile.{Profile}
-use Rattle.mark_answer.specs.declared.Kept.{Kept}
-use Rattle.mark_answer.specs.Kept.{keptAt, bodyAt}
+use Rattle.mark_text.specs.declared.Kept.{Kept}
+use Rattle.mark_text.specs.MarkText.{keptAt, bodyAt}
 use Rattle.reader.specs.declared.Head.{Head}
 use Rattle.reader.specs.Reader.{aged, shifted, flushed}
 

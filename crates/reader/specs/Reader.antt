@@ -12,16 +12,16 @@ use Rattle.profile.specs.declared.Profile.{Profile}
 use Rattle.profile.specs.declared.Profile.the-variants.{VV5404}
 use Rattle.profile.specs.declared.Numbered.{Numbered}
 use Rattle.profile.specs.declared.Numbered.the-variants as numbered
-use Rattle.profile.specs.Profile.{profileNumbered, bodyLength, longest}
+use Rattle.profile.specs.Profile.{profileNumbered, bodyLength, longest, gapStart}
 use Rattle.stream.specs.declared.Before.{Before}
 use Rattle.stream.specs.declared.Before.the-variants.{NoLine, RefusedLine, HandedOut}
 use Rattle.stream.specs.declared.Mark.{Mark}
 use Rattle.stream.specs.declared.Mark.the-variants.{NoMark, Open}
 use Rattle.stream.specs.Answers.{Outcome, nothing, refused, isLine}
 use Rattle.stream.specs.Stream.{kindAt, beforeBy}
-use Rattle.mark_answer.specs.declared.Kept.{Kept}
-use Rattle.mark_answer.specs.Kept.{gapStart, nothingKept, keptAt, bodyAt}
-use Rattle.mark_answer.specs.Judge.{judge}
+use Rattle.mark_text.specs.declared.Kept.{Kept}
+use Rattle.mark_text.specs.MarkText.{nothingKept, keptAt, bodyAt}
+use Rattle.mark_answer.specs.KeptAnswer.{keptAnswer}
 use Rattle.reader.specs.declared.Head.{Head}
 use Rattle.reader.specs.declared.Reader.{Reader}
 
@@ -127,7 +127,7 @@ newOf n = newFor (profileNumbered n)
 
 -- what the open mark is answered when a mark with this code is complete, with the body as it then is: its text has count + 1 - 8 nibbles
 abbrev pub completeOutcome : Head → List ℕ → ℕ → Outcome
-completeOutcome h body code = judge (h .profile) (h .at) (h .count - 7) (leaveKept h) body (some code)
+completeOutcome h body code = keptAnswer (h .profile) (h .at) (h .count - 7) (leaveKept h) body (some code)
 
 -- the state after a nibble that is taken, and what is answered: a mark is complete, or not
 unfoldable pub takeHead : Head → Bool → ℕ → Head
@@ -167,6 +167,6 @@ finishOf r =
     cond (passes (r .head))
     (record {
       reader = freshReader (r .head .profile);
-      outcome = judge (r .head .profile) (r .head .at) (r .head .count) (flushed 8 (r .head) .kept) [] none;
+      outcome = keptAnswer (r .head .profile) (r .head .at) (r .head .count) (flushed 8 (r .head) .kept) [] none;
     })
     (refusing r badState)

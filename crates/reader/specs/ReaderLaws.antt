@@ -10,7 +10,7 @@ use lib.Dec.{leb, ltb}
 use Rattle.refusal.specs.Refusal.{badState, notANibble, noRoom}
 use Rattle.profile.specs.Profile.{bodyLength}
 use Rattle.stream.specs.Answers.{nothing}
-use Rattle.mark_answer.specs.Sound.{Sound, sound-nothing, judge-sound, Legible, legible}
+use Rattle.mark_answer.specs.Sound.{Sound, sound-nothing, kept-sound, Legible, legible}
 use Rattle.reader.specs.declared.Head.{Head}
 use Rattle.reader.specs.declared.Reader.{Reader}
 use Rattle.reader.specs.Reader.{isMark, slide, countStop, bump, leaveKept, leaveBody, shifted, opened, passes, refusing, completeOutcome, takeHead, takeOutcome, taking, feedOf}
@@ -39,7 +39,7 @@ take-sound h body n = go (isMark w)
     w = slide (h .window) n
 
     go : (b : Bool) → Sound (h .profile) (cond b (completeOutcome h (leaveBody h body) (w % 256)) nothing)
-    go true = judge-sound (h .profile) (h .at) (h .count - 7) (leaveKept h) (leaveBody h body) (some (w % 256))
+    go true = kept-sound (h .profile) (h .at) (h .count - 7) (leaveKept h) (leaveBody h body) (some (w % 256))
     go false = sound-nothing
 
 pub legible-feed : (r : Reader) (n room : ℕ) (buffer : List ℕ) → Legible (r .head .profile) buffer (feedOf r n room .outcome)

@@ -14,7 +14,7 @@ ghost use Rattle.stream.specs.Answers.{outcomeOf, answerFor, bufferAfter, refus
 ghost use Rattle.reader.specs.Reader.{readerOf, topPlace, isMark, slide, bump, leaveKept, leaveBody, shifted, openedAfter, aged, windowFits, handedFits, passes, freshReader, newOf, taking, takeOf, feedOf, flushed, finishOf};
 ghost use Rattle.reader.specs.Gives.{CallGives, FeedGives, TakeGives};
 ghost use Rattle.reader.specs.Parts.{completing, copied};
-use mark_answer::Kept;
+use mark_text::Kept;
 use period::Nibbles;
 use profile::Numbered;
 use profile::Profile;
@@ -178,7 +178,7 @@ impl Head {
                 let kept = self.kept;
                 if kept.stray {
                     let p = self.profile;
-                    return mark_answer::gap_start(p) + WINDOW < count;
+                    return p.gap_start() + WINDOW < count;
                 }
                 return true;
             }
@@ -315,7 +315,7 @@ fn leave_body(h: Head, body: &mut [u8])
     if h.count < WINDOW {
         return;
     }
-    mark_answer::store(body, h.count - WINDOW, top(h.window));
+    mark_text::store(body, h.count - WINDOW, top(h.window));
 }
 
 // The count of a text's nibbles with one more, held at its stop.

@@ -6,7 +6,7 @@ use Prim.Native.Nat.{ℕ, _+_, _-_, _*_, _/_, _%_}
 use lib.Dec.{eqb, leb, ltb}
 use lib.ListN.{length, getD, set, length-set}
 use Rattle.profile.specs.Profile.{longest}
-use Rattle.mark_answer.specs.Kept.{bodyPlace, bodyAt}
+use Rattle.mark_text.specs.MarkText.{bodyPlace, bodyAt}
 
 -- by whether the nibble is in the body, and whether it is a high one
 abbrev pub bodyBy : Bool → Bool → ℕ → ℕ → List ℕ → List ℕ

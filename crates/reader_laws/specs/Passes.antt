@@ -13,19 +13,19 @@ use Rattle.line_code.specs.declared.LineKind.{LineKind}
 use Rattle.line_code.specs.declared.LineKind.the-variants.{NotLine, LineOf}
 use Rattle.line_code.specs.LineCode.{readingOf, isEnd}
 use Rattle.profile.specs.declared.Profile.{Profile}
-use Rattle.profile.specs.Profile.{bodyLength}
+use Rattle.profile.specs.Profile.{bodyLength, gapStart}
 use Rattle.stream.specs.declared.Mark.{Mark}
 use Rattle.stream.specs.declared.Mark.the-variants.{NoMark, Open}
 use Rattle.stream.specs.Answers.{Outcome, nothing, refused, isLine}
 use Rattle.stream.specs.Stream.{kindAt, beforeBy}
-use Rattle.mark_answer.specs.Kept.{gapStart, strayAt, keptAt}
-use Rattle.mark_answer.specs.Judge.{judge}
+use Rattle.mark_text.specs.MarkText.{strayAt, keptAt}
+use Rattle.mark_answer.specs.KeptAnswer.{keptAnswer}
 use Rattle.reader.specs.declared.Head.{Head}
 use Rattle.reader.specs.declared.Reader.{Reader}
 use Rattle.reader.specs.Reader.{Took, topPlace, groupNumber, isMark, slide, countStop, bump, leaveKept, leaveBody, shifted, opened, aged, windowFits, handedFits, passes, freshReader, refusing, takeHead, takeOutcome, taking, feedOf, flushed, finishOf}
 use Rattle.reader_laws.specs.Passing.{Fits, Passed, Byte, Ok}
-use Rattle.mark_answer.specs.KeptLaws.{gap-start-small}
-use Rattle.mark_answer.specs.Sound.{Sound, line-ends, judge-sound, refusalOf, at-most-nine}
+use Rattle.mark_text.specs.MarkTextLaws.{gap-start-small}
+use Rattle.mark_answer.specs.Sound.{Sound, line-ends, kept-sound, refusalOf, at-most-nine}
 use Rattle.reader.specs.ReaderLaws.{bump-more, take-sound}
 
 -- The test and its facts.
@@ -255,11 +255,11 @@ abbrev pub finished : Reader → Took
 finished r =
     record {
       reader = freshReader (r .head .profile);
-      outcome = judge (r .head .profile) (r .head .at) (r .head .count) (flushed 8 (r .head) .kept) [] none;
+      outcome = keptAnswer (r .head .profile) (r .head .at) (r .head .count) (flushed 8 (r .head) .kept) [] none;
     }
 
 finish-sound : (r : Reader) → Sound (r .head .profile) (finished r .outcome)
-finish-sound r = judge-sound (r .head .profile) (r .head .at) (r .head .count) (flushed 8 (r .head) .kept) [] none
+finish-sound r = kept-sound (r .head .profile) (r .head .at) (r .head .count) (flushed 8 (r .head) .kept) [] none
 
 pub data Finishing (r : Reader) : Took → Type 0 where
   finish-state : passes (r .head) ≡ false → Finishing r (refusing r badState)
@@ -330,7 +330,7 @@ take-ok r n l f = go (isMark w) refl
     w = slide (h .window) n
 
     o : Outcome
-    o = judge (h .profile) (h .at) (h .count - 7) (leaveKept h) (leaveBody h (r .body)) (some (w % 256))
+    o = keptAnswer (h .profile) (h .at) (h .count - 7) (leaveKept h) (leaveBody h (r .body)) (some (w % 256))
 
     go : (b : Bool) → isMark w ≡ b → Ok (cond b (opened h (w % 256) (isLine (cond b o nothing))) (shifted h n))
     go true e =

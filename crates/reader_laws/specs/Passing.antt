@@ -3,9 +3,9 @@ use mathlib.Core.Path.{_≡_}
 use mathlib.Core.Bool.{true, false}
 use mathlib.Core.List.{List, [], _∷_}
 use Prim.Native.Nat.{ℕ, _+_, _-_, _%_, _≤_, _<_}
+use Rattle.profile.specs.Profile.{gapStart}
 use Rattle.stream.specs.declared.Mark.{Mark}
 use Rattle.stream.specs.declared.Mark.the-variants.{NoMark, Open}
-use Rattle.mark_answer.specs.Kept.{gapStart}
 use Rattle.reader.specs.declared.Head.{Head}
 use Rattle.reader.specs.Reader.{isMark, countStop, aged, handedFits}
 

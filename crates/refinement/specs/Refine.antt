@@ -20,7 +20,7 @@ use Rattle.line_code.specs.declared.Repair.{Repair}
 use Rattle.line_code.specs.LineCode.{readingOf}
 use Rattle.profile.specs.declared.Profile.{Profile}
 use Rattle.profile.specs.declared.Profile.the-variants.{VV5404, VV5300}
-use Rattle.profile.specs.Profile.{bodyLength, longest}
+use Rattle.profile.specs.Profile.{bodyLength, longest, gapStart}
 use Rattle.profile.specs.Layout.{gapFits}
 use Rattle.stream.specs.declared.Before.{Before}
 use Rattle.stream.specs.declared.Before.the-variants.{NoLine, RefusedLine, HandedOut}
@@ -28,17 +28,17 @@ use Rattle.stream.specs.declared.Mark.{Mark}
 use Rattle.stream.specs.declared.Mark.the-variants.{NoMark, Open}
 use Rattle.stream.specs.Answers.{Outcome, nothing, isLine, require, goodGap, periodOf}
 use Rattle.stream.specs.Stream.{State, Step, Completed, not-yet, mark, detect, fresh, kindAt, beforeBy, answerAt, advance, step, finish, run, outcomes}
-use Rattle.mark_answer.specs.declared.Kept.{Kept}
-use Rattle.mark_answer.specs.Kept.{bodyPlace, gapStart, byteAt, strayAt, keptAt, bodyAt}
-use Rattle.mark_answer.specs.Judge.{judgeLine, judgeGap, judgeEnd, judgeMeaning, judgeReading, judge}
+use Rattle.mark_text.specs.declared.Kept.{Kept}
+use Rattle.mark_text.specs.MarkText.{bodyPlace, byteAt, strayAt, keptAt, bodyAt}
+use Rattle.mark_answer.specs.KeptAnswer.{keptLine, keptGap, keptEnd, keptByMeaning, keptByReading, keptAnswer}
 use Rattle.reader.specs.declared.Head.{Head}
 use Rattle.reader.specs.declared.Reader.{Reader}
 use Rattle.reader.specs.Reader.{Took, topPlace, isMark, slide, countStop, bump, leaveKept, leaveBody, shifted, opened, freshReader, refusing, takeHead, takeOutcome, taking, feedOf, flushed, finishOf}
 use Rattle.profile.specs.LayoutLaws.{body-small}
 use Rattle.refinement.specs.Window.{num, oldest, slide-num, no-mark-yet, Complete, complete}
-use Rattle.mark_answer.specs.KeptLaws.{gap-start-small}
+use Rattle.mark_text.specs.MarkTextLaws.{gap-start-small}
 use Rattle.reader_laws.specs.Passing.{Small, small-none, small-more, Ok}
-use Rattle.refinement.specs.Stored.{storedKept, storedBody, byte-keep, body-out, stored-length, wrong-length, stored-judged}
+use Rattle.refinement.specs.Stored.{storedKept, storedBody, byte-keep, body-out, stored-length, wrong-length, stored-answer}
 use Rattle.reader_laws.specs.Passes.{finished, fresh-ok, take-ok, passes-test}
 
 -- The count's stop: numbers that are equal, or both past every body and every period that is told.
@@ -83,7 +83,7 @@ body-about v b (equal e) = ap (λ (n : ℕ). bodyAt n v b) e
 body-about v b {x} {y} (past g h) = body-out x v b (omega arith) ∙ sym (body-out y v b (omega arith))
 
 module _ (p : Profile) (t : Kept) (body : List ℕ) {x y : ℕ} (hx : pastBody ≤ x) (hy : pastBody ≤ y) where
-  line-far : (k : Kind) (r : Repair) (next : Reading) → judgeLine p k r x t body next ≡ judgeLine p k r y t body next
+  line-far : (k : Kind) (r : Repair) (next : Reading) → keptLine p k r x t body next ≡ keptLine p k r y t body next
   line-far k r next =
       wrong-length p k r x t body next (λ e. omega (arith, body-small p)) ∙ sym (wrong-length p k r y t body next (λ e. omega (arith, body-small p)))
 
@@ -95,38 +95,38 @@ module _ (p : Profile) (t : Kept) (body : List ℕ) {x y : ℕ} (hx : pastBody �
   period-far (HandedOut k) none = refl
   period-far (HandedOut k) (some c) = omega arith
 
-  gap-far : (q : Profile) (k : Kind) (n : ℕ) → judgeGap q k n x t ≡ judgeGap q k n y t
+  gap-far : (q : Profile) (k : Kind) (n : ℕ) → keptGap q k n x t ≡ keptGap q k n y t
   gap-far VV5404 k n = refl
   gap-far VV5300 k n =
       ap (λ b. require (not (t .stray) && (b && gapFits VV5300 k (t .first) (t .second))) badGap (goodGap n (t .first) (t .second)))
       (le-leb bodyPlace x (omega arith) ∙ sym (le-leb bodyPlace y (omega arith)))
 
-  end-far : (before : Before) (n : ℕ) → judgeEnd p before n x t ≡ judgeEnd p before n y t
+  end-far : (before : Before) (n : ℕ) → keptEnd p before n x t ≡ keptEnd p before n y t
   end-far NoLine n = refl
   end-far (RefusedLine k) n = gap-far p k n
   end-far (HandedOut k) n = gap-far p k n
 
   meaning-far : (before : Before) (m : Meaning) (r : Repair) (next : Option ℕ)
-      → judgeMeaning p before m r x t body next ≡ judgeMeaning p before m r y t body next
-  meaning-far before EndOfLine r next = end-far before _ ∙ ap (λ (n : ℕ). judgeEnd p before n y t) (period-far before next)
+      → keptByMeaning p before m r x t body next ≡ keptByMeaning p before m r y t body next
+  meaning-far before EndOfLine r next = end-far before _ ∙ ap (λ (n : ℕ). keptEnd p before n y t) (period-far before next)
   meaning-far before (Line k) r none = refl
   meaning-far before (Line k) r (some next) = line-far k r (readingOf next)
   meaning-far before ReservedEC r next = refl
   meaning-far before ReservedF1 r next = refl
 
-  judge-far : (m : Mark) (next : Option ℕ) → judge p m x t body next ≡ judge p m y t body next
-  unfolding judge
-  judge-far NoMark next = refl
-  judge-far (Open before code) next = go (readingOf code)
+  answer-far : (m : Mark) (next : Option ℕ) → keptAnswer p m x t body next ≡ keptAnswer p m y t body next
+  unfolding keptAnswer
+  answer-far NoMark next = refl
+  answer-far (Open before code) next = go (readingOf code)
     where
-      go : (d : Reading) → judgeReading p before d x t body next ≡ judgeReading p before d y t body next
+      go : (d : Reading) → keptByReading p before d x t body next ≡ keptByReading p before d y t body next
       go (Says m r) = meaning-far before m r next
       go Damaged = refl
 
-judge-about : (p : Profile) (m : Mark) (t : Kept) (body : List ℕ) (next : Option ℕ) {x y : ℕ} → About x y
-    → judge p m x t body next ≡ judge p m y t body next
-judge-about p m t body next (equal e) = ap (λ (n : ℕ). judge p m n t body next) e
-judge-about p m t body next (past g h) = judge-far p t body g h m next
+answer-about : (p : Profile) (m : Mark) (t : Kept) (body : List ℕ) (next : Option ℕ) {x y : ℕ} → About x y
+    → keptAnswer p m x t body next ≡ keptAnswer p m y t body next
+answer-about p m t body next (equal e) = ap (λ (n : ℕ). keptAnswer p m n t body next) e
+answer-about p m t body next (past g h) = answer-far p t body g h m next
 
 -- A reader that stands for a state of the meaning.
 
@@ -238,7 +238,7 @@ module _ (p : Profile) (r : Reader) (s : State) (n : ℕ) (small-n : n < 16) (sa
 
   -- by whether a mark is complete
   abbrev told : Bool → Outcome
-  told b = cond b (judge (h .profile) (h .at) (h .count - 7) (leaveKept h) (leaveBody h (r .body)) (some (w % 256))) nothing
+  told b = cond b (keptAnswer (h .profile) (h .at) (h .count - 7) (leaveKept h) (leaveBody h (r .body)) (some (w % 256))) nothing
 
   abbrev took : Bool → Took
   took b =
@@ -270,12 +270,12 @@ module _ (p : Profile) (r : Reader) (s : State) (n : ℕ) (small-n : n < 16) (sa
       let l : length text ≡ length (s .text) - 7 =
       length-drop 8 t′ ∙ (let z : suc (length (s .text)) - 8 ≡ length (s .text) - 7 = omega arith in z) in
       let same-told : told true ≡ answerAt p (s .at) text (some (16 * x + y)) =
-      ap₂ (λ a b. judge a b (h .count - 7) (leaveKept h) (leaveBody h (r .body)) (some (w % 256))) (q .profile-same) (q .at-same)
-      ∙ ap₂ (λ a b. judge p (s .at) (h .count - 7) a b (some (w % 256))) (leave-kept q) body′
-      ∙ judge-about p (s .at) (storedKept p text) (storedBody (same .base) text) (some (w % 256))
+      ap₂ (λ a b. keptAnswer a b (h .count - 7) (leaveKept h) (leaveBody h (r .body)) (some (w % 256))) (q .profile-same) (q .at-same)
+      ∙ ap₂ (λ a b. keptAnswer p (s .at) (h .count - 7) a b (some (w % 256))) (leave-kept q) body′
+      ∙ answer-about p (s .at) (storedKept p text) (storedBody (same .base) text) (some (w % 256))
       (about-min (h .count) (length (s .text)) 7 (q .count-same) (omega arith))
-      ∙ ap₂ (λ (a b : ℕ). judge p (s .at) a (storedKept p text) (storedBody (same .base) text) (some b)) (sym l) code
-      ∙ stored-judged p (same .base) (same .base-length) text (s .at) (some (16 * x + y)) in
+      ∙ ap₂ (λ (a b : ℕ). keptAnswer p (s .at) a (storedKept p text) (storedBody (same .base) text) (some b)) (sym l) code
+      ∙ stored-answer p (same .base) (same .base-length) text (s .at) (some (16 * x + y)) in
       record {
         same =
             record {
@@ -324,18 +324,18 @@ flushed-same zero s = s
 flushed-same (suc k) s = flushed-same k (shifted-same 0 (omega arith) s)
 
 -- at finish no body is looked at
-pub no-body : (p : Profile) (m : Mark) (n : ℕ) (t : Kept) (b c : List ℕ) → judge p m n t b none ≡ judge p m n t c none
-unfolding judge
+pub no-body : (p : Profile) (m : Mark) (n : ℕ) (t : Kept) (b c : List ℕ) → keptAnswer p m n t b none ≡ keptAnswer p m n t c none
+unfolding keptAnswer
 no-body p NoMark n t b c = refl
 no-body p (Open before code) n t b c = by-reading (readingOf code)
   where
-    by-meaning : (m : Meaning) (r : Repair) → judgeMeaning p before m r n t b none ≡ judgeMeaning p before m r n t c none
+    by-meaning : (m : Meaning) (r : Repair) → keptByMeaning p before m r n t b none ≡ keptByMeaning p before m r n t c none
     by-meaning EndOfLine r = refl
     by-meaning (Line k) r = refl
     by-meaning ReservedEC r = refl
     by-meaning ReservedF1 r = refl
 
-    by-reading : (d : Reading) → judgeReading p before d n t b none ≡ judgeReading p before d n t c none
+    by-reading : (d : Reading) → keptByReading p before d n t b none ≡ keptByReading p before d n t c none
     by-reading (Says m r) = by-meaning m r
     by-reading Damaged = refl
 
@@ -347,12 +347,12 @@ finish-outcome {p} {r} {s} same =
     let q = same .head-same in
     let zero-less : h .count ≡ h .count - 0 = omega arith in
     let length-less : length t - 0 ≡ length t = omega arith in
-    ap₂ (λ a b. judge a b (h .count) (flushed 8 h .kept) [] none) (q .profile-same) (q .at-same)
-    ∙ ap₂ (λ n a. judge p (s .at) n a [] none) zero-less (flushed-same 8 q .kept-same)
-    ∙ judge-about p (s .at) (storedKept p t) [] none (about-min (h .count) (length t) 0 (q .count-same) (omega arith))
-    ∙ ap (λ (n : ℕ). judge p (s .at) n (storedKept p t) [] none) length-less
+    ap₂ (λ a b. keptAnswer a b (h .count) (flushed 8 h .kept) [] none) (q .profile-same) (q .at-same)
+    ∙ ap₂ (λ n a. keptAnswer p (s .at) n a [] none) zero-less (flushed-same 8 q .kept-same)
+    ∙ answer-about p (s .at) (storedKept p t) [] none (about-min (h .count) (length t) 0 (q .count-same) (omega arith))
+    ∙ ap (λ (n : ℕ). keptAnswer p (s .at) n (storedKept p t) [] none) length-less
     ∙ no-body p (s .at) (length t) (storedKept p t) [] (storedBody (same .base) t)
-    ∙ stored-judged p (same .base) (same .base-length) t (s .at) none
+    ∙ stored-answer p (same .base) (same .base-length) t (s .at) none
 
 -- The calls.
 

@@ -1,4 +1,4 @@
--- What is kept of a text is enough to answer for it: the answer that is stored-judged from that is the answer of the text itself.
+-- What is kept of a text is enough to answer for it: the answer that is stored-answer from that is the answer of the text itself.
 use mathlib.Core.Path.{_≡_, refl, _∙_, ap, ap₂, sym}
 use mathlib.Core.Bool.{Bool, true, false, _&&_, _||_, not, cond, true≢false}
 use mathlib.Core.List.{List, [], _∷_, _++_, append-nil, append-assoc}
@@ -21,7 +21,7 @@ use Rattle.line_code.specs.LineCode.{readingOf, isEnd, repairOf}
 use Rattle.line_number.specs.LineNumber.{numberGood, numberFrom}
 use Rattle.profile.specs.declared.Profile.{Profile}
 use Rattle.profile.specs.declared.Profile.the-variants.{VV5404, VV5300}
-use Rattle.profile.specs.Profile.{bodyLength, longest, nullByte}
+use Rattle.profile.specs.Profile.{bodyLength, longest, nullByte, gapStart}
 use Rattle.profile.specs.Layout.{rules, fits, gapFits}
 use Rattle.stream.specs.declared.Before.{Before}
 use Rattle.stream.specs.declared.Before.the-variants.{NoLine, RefusedLine, HandedOut}
@@ -29,10 +29,10 @@ use Rattle.stream.specs.declared.Mark.{Mark}
 use Rattle.stream.specs.declared.Mark.the-variants.{NoMark, Open}
 use Rattle.stream.specs.Answers.{facts, Outcome, line, refused, require, goodGap, bytesOnto, lineFrom, turned, allF, afterCode, twoBytesThenF, gapFrom, byMeaning, byReading, answerOf}
 use Rattle.stream.specs.Stream.{answerAt}
-use Rattle.mark_answer.specs.declared.Kept.{Kept}
+use Rattle.mark_text.specs.declared.Kept.{Kept}
 use Rattle.reader_laws.specs.Bodies.{bodyBy, length-body}
-use Rattle.mark_answer.specs.Kept.{bodyPlace, gapStart, nothingKept, byteAt, strayAt, keptAt, bodyAt}
-use Rattle.mark_answer.specs.Judge.{judgeLine, judgeGap, judgeMeaning, judgeReading, judge}
+use Rattle.mark_text.specs.MarkText.{bodyPlace, nothingKept, byteAt, strayAt, keptAt, bodyAt}
+use Rattle.mark_answer.specs.KeptAnswer.{keptLine, keptGap, keptByMeaning, keptByReading, keptAnswer}
 use Rattle.profile.specs.LayoutLaws.{body-small}
 
 -- What is kept of a text, newest first, that has all left the window: the number of a nibble is the count of those older.
@@ -240,10 +240,10 @@ gap-by-nibbles k m (a ∷ b ∷ c ∷ d ∷ e ∷ f ∷ w) =
     swap false true = refl
     swap false false = refl
 
-gap-judged : (p : Profile) (k : Kind) (m : ℕ) (c : List ℕ) → gapFrom p k m (afterCode (turned c [])) ≡ judgeGap p k m (length c) (storedKept p c)
-gap-judged VV5404 k m c =
+gap-stored : (p : Profile) (k : Kind) (m : ℕ) (c : List ℕ) → gapFrom p k m (afterCode (turned c [])) ≡ keptGap p k m (length c) (storedKept p c)
+gap-stored VV5404 k m c =
     ap (λ b. require b badGap (goodGap m nullByte nullByte)) (ap allF (after-code (old c)) ∙ not-stray VV5404 c)
-gap-judged VV5300 k m c =
+gap-stored VV5300 k m c =
     gap-by-nibbles k m (old c)
     ∙ ap₂ (λ n x. gapShape k m n x (byteOf (nibbleAt 2 c) (nibbleAt 3 c)) (byteOf (nibbleAt 4 c) (nibbleAt 5 c))) (length-old c) (not-stray VV5300 c)
     ∙ ap₂ (gapShape k m (length c) (not (storedKept VV5300 c .stray)))
@@ -383,7 +383,7 @@ refuses true n o h = absurd (true≢false h)
 refuses false n o h = refl
 
 pub wrong-length : (p : Profile) (k : Kind) (r : Repair) (n : ℕ) (t : Kept) (body : List ℕ) (next : Reading) → (n ≡ 2 * bodyLength p + bodyPlace → ⊥)
-    → judgeLine p k r n t body next ≡ refused wrongLength
+    → keptLine p k r n t body next ≡ refused wrongLength
 wrong-length p k r n t body next h = refuses (eqb n (2 * bodyLength p + bodyPlace)) wrongLength _ (ne-eqb n (2 * bodyLength p + bodyPlace) h)
 
 module _ (p : Profile) (k : Kind) (r : Repair) (b : List ℕ) (size : length b ≡ longest) (next : Reading) where
@@ -393,9 +393,9 @@ module _ (p : Profile) (k : Kind) (r : Repair) (b : List ℕ) (size : length b �
       require (numberGood x && numberGood y) badNumber
       (require (fits (rules p k) w) badBody (require (isEnd next) noEndOfLine (line (facts k (numberFrom x y) r (repairOf next)) w)))
 
-  whole-judged : {c : List ℕ} (m : ℕ) → Pairs c (suc (suc (suc m))) → WholeBytes p b c m
-      → lineFrom p k r (bytesOnto c []) next ≡ judgeLine p k r (length c) (storedKept p c) (storedBody b c) next
-  whole-judged {c} m q h =
+  whole-stored : {c : List ℕ} (m : ℕ) → Pairs c (suc (suc (suc m))) → WholeBytes p b c m
+      → lineFrom p k r (bytesOnto c []) next ≡ keptLine p k r (length c) (storedKept p c) (storedBody b c) next
+  whole-stored {c} m q h =
       ap (λ bs. lineFrom p k r bs next) (bytes-onto-all q [] ∙ ap {B = Option (List ℕ)} some (append-nil (bytes c) ∙ h .is-bytes))
       ∙ go (eqb (length c) (2 * bodyLength p + bodyPlace)) refl
     where
@@ -423,43 +423,43 @@ module _ (p : Profile) (k : Kind) (r : Repair) (b : List ℕ) (size : length b �
           let l = h .is-length in
           refuses _ wrongLength _ (ne-eqb (length (h .rest)) (bodyLength p) (λ z. n (omega (arith, len)))) ∙ sym (refuses _ wrongLength _ g)
 
-  short : (n : ℕ) (c : List ℕ) → (n ≡ 2 * bodyLength p + bodyPlace → ⊥) → judgeLine p k r n (storedKept p c) (storedBody b c) next ≡ refused wrongLength
+  short : (n : ℕ) (c : List ℕ) → (n ≡ 2 * bodyLength p + bodyPlace → ⊥) → keptLine p k r n (storedKept p c) (storedBody b c) next ≡ refused wrongLength
   short n c h = wrong-length p k r n (storedKept p c) (storedBody b c) next h
 
-  even-judged : (c : List ℕ) (m : ℕ) → Pairs c m
-      → lineFrom p k r (bytesOnto c []) next ≡ judgeLine p k r (length c) (storedKept p c) (storedBody b c) next
-  even-judged c zero no-pair = sym (short 0 c (λ z. omega arith))
-  even-judged c (suc zero) (one-more no-pair) = sym (short 2 c (λ z. omega arith))
-  even-judged c (suc (suc zero)) (one-more (one-more no-pair)) = sym (short 4 c (λ z. omega arith))
-  even-judged c (suc (suc (suc m))) q = whole-judged m q (whole-bytes p b size m q)
+  even-stored : (c : List ℕ) (m : ℕ) → Pairs c m
+      → lineFrom p k r (bytesOnto c []) next ≡ keptLine p k r (length c) (storedKept p c) (storedBody b c) next
+  even-stored c zero no-pair = sym (short 0 c (λ z. omega arith))
+  even-stored c (suc zero) (one-more no-pair) = sym (short 2 c (λ z. omega arith))
+  even-stored c (suc (suc zero)) (one-more (one-more no-pair)) = sym (short 4 c (λ z. omega arith))
+  even-stored c (suc (suc (suc m))) q = whole-stored m q (whole-bytes p b size m q)
 
-  line-judged : (c : List ℕ) → lineFrom p k r (bytesOnto c []) next ≡ judgeLine p k r (length c) (storedKept p c) (storedBody b c) next
-  line-judged c = go (view c)
+  line-stored : (c : List ℕ) → lineFrom p k r (bytesOnto c []) next ≡ keptLine p k r (length c) (storedKept p c) (storedBody b c) next
+  line-stored c = go (view c)
     where
-      go : View c → lineFrom p k r (bytesOnto c []) next ≡ judgeLine p k r (length c) (storedKept p c) (storedBody b c) next
-      go (even m q) = even-judged c m q
+      go : View c → lineFrom p k r (bytesOnto c []) next ≡ keptLine p k r (length c) (storedKept p c) (storedBody b c) next
+      go (even m q) = even-stored c m q
       go (odd m l f) = ap (λ bs. lineFrom p k r bs next) (f []) ∙ sym (short (length c) c (λ z. omega arith))
 
 -- Any mark's answer.
 
 module _ (p : Profile) (b : List ℕ) (size : length b ≡ longest) (c : List ℕ) where
-  meaning-judged : (before : Before) (m : Meaning) (r : Repair) (next : Option ℕ)
-      → judgeMeaning p before m r (length c) (storedKept p c) (storedBody b c) next ≡ byMeaning p before m r c next
-  meaning-judged NoLine EndOfLine r next = refl
-  meaning-judged (RefusedLine k) EndOfLine r next = sym (gap-judged p k _ c)
-  meaning-judged (HandedOut k) EndOfLine r next = sym (gap-judged p k _ c)
-  meaning-judged before (Line k) r none = refl
-  meaning-judged before (Line k) r (some next) = sym (line-judged p k r b size (readingOf next) c)
-  meaning-judged before ReservedEC r next = refl
-  meaning-judged before ReservedF1 r next = refl
+  meaning-stored : (before : Before) (m : Meaning) (r : Repair) (next : Option ℕ)
+      → keptByMeaning p before m r (length c) (storedKept p c) (storedBody b c) next ≡ byMeaning p before m r c next
+  meaning-stored NoLine EndOfLine r next = refl
+  meaning-stored (RefusedLine k) EndOfLine r next = sym (gap-stored p k _ c)
+  meaning-stored (HandedOut k) EndOfLine r next = sym (gap-stored p k _ c)
+  meaning-stored before (Line k) r none = refl
+  meaning-stored before (Line k) r (some next) = sym (line-stored p k r b size (readingOf next) c)
+  meaning-stored before ReservedEC r next = refl
+  meaning-stored before ReservedF1 r next = refl
 
-  reading-judged : (before : Before) (d : Reading) (next : Option ℕ)
-      → judgeReading p before d (length c) (storedKept p c) (storedBody b c) next ≡ byReading p before d c next
-  reading-judged before (Says m r) next = meaning-judged before m r next
-  reading-judged before Damaged next = refl
+  reading-stored : (before : Before) (d : Reading) (next : Option ℕ)
+      → keptByReading p before d (length c) (storedKept p c) (storedBody b c) next ≡ byReading p before d c next
+  reading-stored before (Says m r) next = meaning-stored before m r next
+  reading-stored before Damaged next = refl
 
   -- what is kept of a text is enough: the answer of the open mark, whatever body stood there at the mark
-  pub stored-judged : (m : Mark) (next : Option ℕ) → judge p m (length c) (storedKept p c) (storedBody b c) next ≡ answerAt p m c next
-  unfolding judge answerOf
-  stored-judged NoMark next = refl
-  stored-judged (Open before code) next = reading-judged before (readingOf code) next
+  pub stored-answer : (m : Mark) (next : Option ℕ) → keptAnswer p m (length c) (storedKept p c) (storedBody b c) next ≡ answerAt p m c next
+  unfolding keptAnswer answerOf
+  stored-answer NoMark next = refl
+  stored-answer (Open before code) next = reading-stored before (readingOf code) next

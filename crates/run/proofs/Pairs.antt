@@ -15,12 +15,12 @@ use lib.Seq.{set-set, getD-set-same}
 use Rattle.bits.specs.Every.{and-left, and-right}
 use Rattle.profile.specs.declared.Profile.{Profile}
 use Rattle.profile.specs.declared.Profile.the-variants.{VV5404, VV5300}
-use Rattle.profile.specs.Profile.{longest}
+use Rattle.profile.specs.Profile.{longest, gapStart}
 use Rattle.stream.specs.declared.Mark.{Mark}
 use Rattle.stream.specs.Answers.{nothing, answerFor, isAnswer}
-use Rattle.mark_answer.specs.declared.Kept.{Kept}
-use Rattle.mark_answer.specs.Kept.{bodyPlace, gapStart, byteAt, strayAt, keptAt, bodyAt}
-use Rattle.mark_answer.specs.KeptLaws.{gap-start-small}
+use Rattle.mark_text.specs.declared.Kept.{Kept}
+use Rattle.mark_text.specs.MarkText.{bodyPlace, byteAt, strayAt, keptAt, bodyAt}
+use Rattle.mark_text.specs.MarkTextLaws.{gap-start-small}
 use Rattle.reader.specs.declared.Head.{Head}
 use Rattle.reader.specs.declared.Reader.{Reader}
 use Rattle.reader.specs.Reader.{Took, topPlace, groupNumber, isMark, slide, countStop, bump, leaveKept, leaveBody, shifted, takeHead, takeOutcome, taking, readerOf}

@@ -18,7 +18,7 @@ ghost use Rattle.reader.specs.Gives.{TakeGives};
 ghost use Rattle.run.specs.Run.{runOf, lentRunOf};
 ghost use Rattle.run.specs.Gives.{RunGives, LentRunGives};
 ghost use Rattle.run.specs.Parts.{ranFrom, Ends, Reaches, isNear, isPair, bytePlace, slideByte, strayAfter, strayKept, byteKept};
-use mark_answer::Kept;
+use mark_text::Kept;
 use profile::Profile;
 use reader::Head;
 use reader::Reader;

@@ -4,7 +4,7 @@ use mathlib.Core.List.{List, [], _∷_}
 use Prim.Native.Nat.{ℕ}
 use Rattle.profile.specs.Profile.{profileNumbered}
 use Rattle.stream.specs.declared.Answer.the-variants as answers
-use Rattle.mark_answer.specs.Judge.{judge}
+use Rattle.mark_answer.specs.KeptAnswer.{keptAnswer}
 use Rattle.reader.specs.Reader.{isMark, passes, finishOf}
 use Rattle.recovery.specs.Calls.{feed, done}
 use Rattle.refinement.specs.Runs.{one}
@@ -47,7 +47,7 @@ morning : allTold emptyTable
     ∷ callReply (answers.Refused 34) 0 []
     ∷ openReply (at-place 0)
     ∷ []
-unfolding openPlaceOf openPlace callPlaceOf closePlaceOf heldBy placeAt withPlace isTechnician profileNumbered finishOf passes isMark judge
+unfolding openPlaceOf openPlace callPlaceOf closePlaceOf heldBy placeAt withPlace isTechnician profileNumbered finishOf passes isMark keptAnswer
 morning = refl
 
 ninth : allTold emptyTable

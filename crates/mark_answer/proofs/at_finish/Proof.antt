@@ -2,13 +2,13 @@
 use mathlib.Core.List.{[]}
 use mathlib.Core.Option.{none}
 use Rattle.mark_answer.proofs.ByReading.{by-reading}
-use Rattle.mark_answer.specs.Judge.{judge}
+use Rattle.mark_answer.specs.KeptAnswer.{keptAnswer}
 use borrow.Author.Needs.{needs}
 use Rattle.mark_answer.proofs.at_finish.Statement.{statement}
 use Rattle.mark_answer.proofs.at_finish.Tie as tie
 
 returns : tie.Need-returns
-unfolding judge
+unfolding keptAnswer
 returns c = simp (c .enum-told .given .1)
 
 returns-2 : tie.Need-returns-2

@@ -4,13 +4,13 @@ use mathlib.Core.Path.{_∙_, ap, sym}
 use mathlib.Core.Option.{some}
 use Rattle.stream.specs.Answers.{answerFor}
 use Rattle.mark_answer.proofs.ByReading.{by-reading, left-by}
-use Rattle.mark_answer.specs.Judge.{judge}
+use Rattle.mark_answer.specs.KeptAnswer.{keptAnswer}
 use borrow.Author.Needs.{needs}
 use Rattle.mark_answer.proofs.at_mark.Statement.{statement}
 use Rattle.mark_answer.proofs.at_mark.Tie as tie
 
 returns : tie.Need-returns
-unfolding judge
+unfolding keptAnswer
 returns c = record { says = simp (c .enum-told .given .1); leaves = simp (c .enum-told .given .1) }
 
 returns-2 : tie.Need-returns-2
@@ -18,9 +18,9 @@ returns-2 c =
     let answer = c .before .before .before in
     let mark = answer .before .before .before in
     let a = mark .before .before .before .args in
-    let o = judge (a .profile) (a .mark) (a .length) (a .kept) (now (a .body)) (some (a .next)) in
-    let judged = by-reading (a .profile) (a .length) (a .kept) (now (a .body)) (some (a .next)) (mark .mark .given .1) (answer .before .read .ensures) in
-    let says = answer .reading-answer .ensures ∙ ap answerFor (sym judged) in
+    let o = keptAnswer (a .profile) (a .mark) (a .length) (a .kept) (now (a .body)) (some (a .next)) in
+    let read = by-reading (a .profile) (a .length) (a .kept) (now (a .body)) (some (a .next)) (mark .mark .given .1) (answer .before .read .ensures) in
+    let says = answer .reading-answer .ensures ∙ ap answerFor (sym read) in
     record {
       says = says;
       leaves = c .of .ensures ∙ left-by o (mark .mark .given .1) (answer .before .read .ensures) (c .before .before .kind .ensures) says (c .before .is-line .ensures);

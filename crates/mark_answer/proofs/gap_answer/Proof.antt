@@ -7,15 +7,15 @@ use Rattle.line_code.specs.declared.Kind.{Kind}
 use Rattle.profile.specs.declared.Profile.{Profile}
 use Rattle.profile.specs.declared.Profile.the-variants.{VV5404, VV5300}
 use Rattle.stream.specs.Answers.{refused}
-use Rattle.mark_answer.specs.declared.Kept.{Kept}
-use Rattle.mark_answer.specs.Judge.{judgeGap}
+use Rattle.mark_text.specs.declared.Kept.{Kept}
+use Rattle.mark_answer.specs.KeptAnswer.{keptGap}
 use borrow.Author.Tests.{le-leb, lt-leb}
 use Rattle.stream.specs.Answers.{require, goodGap}
 use borrow.Author.Needs.{needs}
 use Rattle.mark_answer.proofs.gap_answer.Statement.{statement}
 use Rattle.mark_answer.proofs.gap_answer.Tie as tie
 
-stray-refused : (p : Profile) (k : Kind) (n len : ℕ) (t : Kept) → t .stray ≡ true → judgeGap p k n len t ≡ refused badGap
+stray-refused : (p : Profile) (k : Kind) (n len : ℕ) (t : Kept) → t .stray ≡ true → keptGap p k n len t ≡ refused badGap
 unfolding require
 stray-refused VV5404 k n len t h = simp h
 stray-refused VV5300 k n len t h = simp h

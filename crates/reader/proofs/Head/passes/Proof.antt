@@ -2,7 +2,7 @@
 use borrow.Author.Tests.{le-leb, lt-leb}
 use native.Mathlib.Omega.{arith}
 use Rattle.reader.specs.Reader.{passes}
-use Rattle.mark_answer.specs.KeptLaws.{gap-start-small}
+use Rattle.mark_text.specs.MarkTextLaws.{gap-start-small}
 use borrow.Author.Needs.{needs}
 use Rattle.reader.proofs.Head.passes.Statement.{statement}
 use Rattle.reader.proofs.Head.passes.Tie as tie

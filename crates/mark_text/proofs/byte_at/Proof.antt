@@ -1,9 +1,9 @@
 -- The place is the byte's high nibble, its low one, or neither: it is then begun, completed, or left as it was.
 use borrow.Author.Tests.{eq-eqb, ne-eqb}
-use Rattle.mark_answer.specs.Kept.{byteAt}
+use Rattle.mark_text.specs.MarkText.{byteAt}
 use borrow.Author.Needs.{needs}
-use Rattle.mark_answer.proofs.byte_at.Statement.{statement}
-use Rattle.mark_answer.proofs.byte_at.Tie as tie
+use Rattle.mark_text.proofs.byte_at.Statement.{statement}
+use Rattle.mark_text.proofs.byte_at.Tie as tie
 
 returns : tie.Need-returns
 unfolding byteAt

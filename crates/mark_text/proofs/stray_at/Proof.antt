@@ -1,9 +1,9 @@
 -- Once noted, a stray nibble stays noted; else the nibble is stray only from the gap's start on, and only where it is not F.
 use borrow.Author.Tests.{le-leb, lt-leb}
-use Rattle.mark_answer.specs.Kept.{strayAt}
+use Rattle.mark_text.specs.MarkText.{strayAt}
 use borrow.Author.Needs.{needs}
-use Rattle.mark_answer.proofs.stray_at.Statement.{statement}
-use Rattle.mark_answer.proofs.stray_at.Tie as tie
+use Rattle.mark_text.proofs.stray_at.Statement.{statement}
+use Rattle.mark_text.proofs.stray_at.Tie as tie
 
 returns : tie.Need-returns
 unfolding strayAt

@@ -7,10 +7,10 @@ use mathlib.Core.Bool.{Bool, true, false, cond}
 use mathlib.Core.List.{List}
 use denote.Ref.{now}
 use lib.Dec.{eqb}
-use Rattle.mark_answer.specs.Kept.{bodyAt, bodyPlace}
+use Rattle.mark_text.specs.MarkText.{bodyAt, bodyPlace}
 use borrow.Author.Needs.{needs}
-use Rattle.mark_answer.proofs.store.Statement.{statement}
-use Rattle.mark_answer.proofs.store.Tie as tie
+use Rattle.mark_text.proofs.store.Statement.{statement}
+use Rattle.mark_text.proofs.store.Tie as tie
 
 -- what is put past a list's end changes nothing
 either-out : (t : Bool) (b x y : List ℕ) → x ≡ b → y ≡ b → b ≡ cond t x y

@@ -26,8 +26,8 @@ use Rattle.stream.specs.declared.GapFacts.{GapFacts}
 use Rattle.stream.specs.declared.Mark.{Mark}
 use Rattle.stream.specs.declared.Mark.the-variants.{NoMark, Open}
 use Rattle.stream.specs.Answers.{facts, Outcome, nothing, line, gap, refused, require, goodGap, endsAt}
-use Rattle.mark_answer.specs.declared.Kept.{Kept}
-use Rattle.mark_answer.specs.Judge.{judge, judgeReading, judgeMeaning, judgeEnd, judgeGap, judgeLine}
+use Rattle.mark_text.specs.declared.Kept.{Kept}
+use Rattle.mark_answer.specs.KeptAnswer.{keptAnswer, keptByReading, keptByMeaning, keptEnd, keptGap, keptLine}
 
 module _ (P : Outcome → Type 0) (p : Profile) (body : List ℕ) (next : Option ℕ) (of-nothing : P nothing)
     (of-refused : (n : ℕ) → 1 ≤ n → n ≤ 9 → P (refused n)) (of-gap : (g : GapFacts) → P (gap g))
@@ -37,7 +37,7 @@ module _ (P : Outcome → Type 0) (p : Profile) (body : List ℕ) (next : Option
   required true n o a b h = h refl
   required false n o a b h = of-refused n a b
 
-  by-line : (k : Kind) (r : Repair) (len : ℕ) (t : Kept) (c : ℕ) → next ≡ some c → P (judgeLine p k r len t body (readingOf c))
+  by-line : (k : Kind) (r : Repair) (len : ℕ) (t : Kept) (c : ℕ) → next ≡ some c → P (keptLine p k r len t body (readingOf c))
   by-line k r len t c e =
       required _ wrongLength _ (omega arith) (omega arith) λ _.
       required _ badNumber _ (omega arith) (omega arith) λ _.
@@ -49,30 +49,30 @@ module _ (P : Outcome → Type 0) (p : Profile) (body : List ℕ) (next : Option
   unfolding goodGap
   good n a b = of-gap _
 
-  by-gap : (q : Profile) (k : Kind) (n len : ℕ) (t : Kept) → P (judgeGap q k n len t)
+  by-gap : (q : Profile) (k : Kind) (n len : ℕ) (t : Kept) → P (keptGap q k n len t)
   by-gap VV5404 k n len t = required _ badGap _ (omega arith) (omega arith) (λ _. good n nullByte nullByte)
   by-gap VV5300 k n len t = required _ badGap _ (omega arith) (omega arith) (λ _. good n (t .first) (t .second))
 
-  by-end : (before : Before) (n len : ℕ) (t : Kept) → P (judgeEnd p before n len t)
+  by-end : (before : Before) (n len : ℕ) (t : Kept) → P (keptEnd p before n len t)
   by-end NoLine n len t = of-refused endWithoutLine (omega arith) (omega arith)
   by-end (RefusedLine k) n len t = by-gap p k n len t
   by-end (HandedOut k) n len t = by-gap p k n len t
 
-  by-meaning : (before : Before) (m : Meaning) (r : Repair) (len : ℕ) (t : Kept) → P (judgeMeaning p before m r len t body next)
+  by-meaning : (before : Before) (m : Meaning) (r : Repair) (len : ℕ) (t : Kept) → P (keptByMeaning p before m r len t body next)
   by-meaning before EndOfLine r len t = by-end before _ len t
   by-meaning before (Line k) r len t = go next refl
     where
-      go : (x : Option ℕ) → next ≡ x → P (judgeMeaning p before (Line k) r len t body x)
+      go : (x : Option ℕ) → next ≡ x → P (keptByMeaning p before (Line k) r len t body x)
       go none e = of-refused unfinishedLine (omega arith) (omega arith)
       go (some c) e = by-line k r len t c e
   by-meaning before ReservedEC r len t = of-refused reservedCode (omega arith) (omega arith)
   by-meaning before ReservedF1 r len t = of-refused reservedCode (omega arith) (omega arith)
 
-  by-reading : (before : Before) (c : Reading) (len : ℕ) (t : Kept) → P (judgeReading p before c len t body next)
+  by-reading : (before : Before) (c : Reading) (len : ℕ) (t : Kept) → P (keptByReading p before c len t body next)
   by-reading before (Says m r) len t = by-meaning before m r len t
   by-reading before Damaged len t = of-refused damagedCode (omega arith) (omega arith)
 
-  pub judged : (m : Mark) (len : ℕ) (t : Kept) → P (judge p m len t body next)
-  unfolding judge
-  judged NoMark len t = of-nothing
-  judged (Open before code) len t = by-reading before (readingOf code) len t
+  pub kept-answers : (m : Mark) (len : ℕ) (t : Kept) → P (keptAnswer p m len t body next)
+  unfolding keptAnswer
+  kept-answers NoMark len t = of-nothing
+  kept-answers (Open before code) len t = by-reading before (readingOf code) len t

@@ -5,18 +5,12 @@ use Prim.Native.Nat.{ℕ, _+_, _-_, _*_, _/_, _%_}
 use lib.Dec.{eqb, leb, ltb}
 use lib.ListN.{set, getD}
 use Rattle.profile.specs.declared.Profile.{Profile}
-use Rattle.profile.specs.declared.Profile.the-variants.{VV5404, VV5300}
-use Rattle.profile.specs.Profile.{longest}
-use Rattle.mark_answer.specs.declared.Kept.{Kept}
+use Rattle.profile.specs.Profile.{longest, gapStart}
+use Rattle.mark_text.specs.declared.Kept.{Kept}
 
 -- the place of a line's first body nibble: code and number stand before it
 abbrev pub bodyPlace : ℕ
 bodyPlace = 6
-
--- the place from which a gap holds nothing but F: in profile 1 its two bytes come first
-abbrev pub gapStart : Profile → ℕ
-gapStart VV5404 = 2
-gapStart VV5300 = 6
 
 -- nothing kept yet
 abbrev pub nothingKept : Kept

@@ -3,7 +3,8 @@ use Prim.Native.Nat.{_≤_}
 use lib.Dec.{lit≤}
 use Rattle.profile.specs.declared.Profile.{Profile}
 use Rattle.profile.specs.declared.Profile.the-variants.{VV5404, VV5300}
-use Rattle.mark_answer.specs.Kept.{bodyPlace, gapStart}
+use Rattle.profile.specs.Profile.{gapStart}
+use Rattle.mark_text.specs.MarkText.{bodyPlace}
 
 pub gap-start-small : (p : Profile) → gapStart p ≤ bodyPlace
 gap-start-small VV5404 = lit≤ tt

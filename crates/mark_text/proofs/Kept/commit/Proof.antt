@@ -1,8 +1,8 @@
 -- Each of the three things kept is brought up to date by its own function, all from the one nibble.
-use Rattle.mark_answer.specs.Kept.{keptAt}
+use Rattle.mark_text.specs.MarkText.{keptAt}
 use borrow.Author.Needs.{needs}
-use Rattle.mark_answer.proofs.Kept.commit.Statement.{statement}
-use Rattle.mark_answer.proofs.Kept.commit.Tie as tie
+use Rattle.mark_text.proofs.Kept.commit.Statement.{statement}
+use Rattle.mark_text.proofs.Kept.commit.Tie as tie
 
 returns : tie.Need-returns
 unfolding keptAt
