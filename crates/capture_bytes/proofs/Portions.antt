@@ -12,7 +12,7 @@ use Rattle.stream.specs.Answers.{Outcome, outcomeOf, answerFor, bufferAfter, is
 use Rattle.stream.specs.AnswersLaws.{answer-of, no-answer}
 use Rattle.stream.specs.Written.{nibbles}
 use Rattle.stream.specs.NibblesLaws.{nibbles-length}
-use Rattle.reader.specs.declared.Head.{Head}
+use Rattle.reader_head.specs.declared.Head.{Head}
 use Rattle.run.specs.declared.RunStepped.{RunStepped}
 use Rattle.run.specs.Run.{Ran, ran, lentRunOf}
 use Rattle.run.specs.Gives.{LentRunGives}

@@ -12,9 +12,10 @@ use Rattle.refusal.specs.Refusal.{notANibble, badState, noRoom}
 use Rattle.profile.specs.declared.Profile.{Profile}
 use Rattle.profile.specs.Profile.{bodyLength, longest}
 use Rattle.stream.specs.Answers.{nothing, refused, answerFor, isAnswer}
-use Rattle.reader.specs.declared.Head.{Head}
+use Rattle.reader_head.specs.declared.Head.{Head}
 use Rattle.reader.specs.declared.Reader.{Reader}
-use Rattle.reader.specs.Reader.{passes, taking, readerOf}
+use Rattle.reader_head.specs.Head.{passes}
+use Rattle.reader.specs.Reader.{taking, readerOf}
 use Rattle.reader.specs.ReaderLaws.{take-profile}
 use Rattle.run.specs.Run.{Ran, ran, onward, runOf, lentRunOf}
 use Rattle.reader_laws.specs.Passing.{Small, Byte, Ok}

@@ -3,7 +3,7 @@ use mathlib.Core.List.{List, _++_}
 use Prim.Native.Nat.{ℕ, _*_, _/_, min}
 use lib.ListN.{take, drop}
 use Rattle.stream.specs.Written.{nibbles}
-use Rattle.reader.specs.declared.Head.{Head}
+use Rattle.reader_head.specs.declared.Head.{Head}
 use Rattle.run.specs.Run.{Ran, lentRunOf}
 
 -- how many bytes are taken apart, of so many, in a buffer with so much room: as many as it has room for

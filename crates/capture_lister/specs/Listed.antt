@@ -9,7 +9,8 @@ use Rattle.profile.specs.declared.Profile.{Profile}
 use Rattle.profile.specs.Profile.{longest}
 use Rattle.stream.specs.declared.Answer.{Answer}
 use Rattle.stream.specs.Answers.{answerFor}
-use Rattle.reader.specs.Reader.{passes, freshReader, feedOf, finishOf}
+use Rattle.reader_head.specs.Head.{passes}
+use Rattle.reader.specs.Reader.{freshReader, feedOf, finishOf}
 use Rattle.verdict.specs.declared.Findings.{Findings}
 use Rattle.verdict.specs.declared.Found.{Found}
 use Rattle.verdict.specs.Findings.{noFindings, takeOf, closeOf}

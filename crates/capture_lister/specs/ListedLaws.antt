@@ -2,7 +2,7 @@
 use mathlib.Core.List.{List}
 use Prim.Native.Nat.{ℕ, _≤_}
 use lib.ListN.{length}
-use Rattle.reader.specs.Reader.{passes}
+use Rattle.reader_head.specs.Head.{passes}
 use Rattle.stream.specs.declared.Answer.{Answer}
 use Rattle.verdict.specs.declared.Found.{Found}
 use Rattle.listers.specs.ListsLaws.{from-within, none-within}

@@ -15,7 +15,7 @@ use period::Rate;
 use period::WholePeriods;
 use profile::Profile;
 use reader::Fed;
-use reader::Head;
+use reader_head::Head;
 use reader::Reader;
 use stream::Answer;
 use stream::Mark;

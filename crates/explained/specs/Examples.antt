@@ -14,7 +14,7 @@ use Rattle.stream.specs.declared.Mark.the-variants.{NoMark, Open}
 use Rattle.mark_text.specs.declared.Kept.{Kept}
 use Rattle.mark_text.specs.MarkText.{nothingKept}
 use Rattle.reader.specs.declared.Reader.{Reader}
-use Rattle.reader.specs.Reader.{isMark, passes}
+use Rattle.reader_head.specs.Head.{isMark, passes}
 use Rattle.explained.specs.Interchangeable.{headWith}
 use Rattle.explained.specs.Explained.{Explained, explained}
 

@@ -18,7 +18,8 @@ use Rattle.stream.specs.Answers.{answerFor, bufferAfter}
 use Rattle.stream.specs.Stream.{State, not-yet, detect, run, fresh}
 use Rattle.mark_text.specs.MarkText.{strayAt, keptAt}
 use Rattle.reader.specs.declared.Reader.{Reader}
-use Rattle.reader.specs.Reader.{isMark, passes, freshReader}
+use Rattle.reader_head.specs.Head.{isMark, passes}
+use Rattle.reader.specs.Reader.{freshReader}
 use Rattle.recovery.specs.Calls.{Call, feed, done, CallResult, meaningCall}
 use Rattle.recovery.specs.Resync.{stateWith}
 use Rattle.reader_laws.specs.Passing.{Small, Byte, Passed, Ok}

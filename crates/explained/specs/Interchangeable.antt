@@ -19,9 +19,10 @@ use Rattle.stream.specs.Stream.{kindAt, beforeBy}
 use Rattle.mark_text.specs.declared.Kept.{Kept}
 use Rattle.mark_text.specs.MarkText.{nothingKept, keptAt, bodyAt}
 use Rattle.mark_answer.specs.KeptAnswer.{keptAnswer}
-use Rattle.reader.specs.declared.Head.{Head}
+use Rattle.reader_head.specs.declared.Head.{Head}
 use Rattle.reader.specs.declared.Reader.{Reader}
-use Rattle.reader.specs.Reader.{Took, topPlace, isMark, slide, bump, countStop, leaveKept, leaveBody, opened, shifted, flushed, takeHead, takeOutcome, taking, freshReader, refusing, passes, feedOf, finishOf}
+use Rattle.reader_head.specs.Head.{topPlace, isMark, slide, bump, countStop, leaveKept, leaveBody, opened, shifted, flushed, passes}
+use Rattle.reader.specs.Reader.{Took, takeHead, takeOutcome, taking, freshReader, refusing, feedOf, finishOf}
 use Rattle.reader_laws.specs.Passes.{finished, fresh-ok, feed-ok, passes-test}
 use Rattle.reader_laws.specs.Passing.{Ok}
 use Rattle.refinement.specs.Refine.{no-body, finish-passed}

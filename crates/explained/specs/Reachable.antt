@@ -27,7 +27,7 @@ use Rattle.stream.specs.declared.Mark.the-variants.{NoMark, Open}
 use Rattle.stream.specs.Answers.{turned, answerOf}
 use Rattle.stream.specs.Stream.{State, strip, group, Completed, not-yet, markIf, detect, advance, fresh, run}
 use Rattle.stream.specs.Written.{markOf, content}
-use Rattle.reader.specs.Reader.{handedFits}
+use Rattle.reader_head.specs.Head.{handedFits}
 use Rattle.recovery.specs.Resync.{stateWith}
 use Rattle.recovery.specs.Marks.{strip-none}
 use Rattle.recovery.specs.MarkFree.{strip-wrong}

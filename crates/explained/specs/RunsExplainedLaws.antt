@@ -14,7 +14,8 @@ use Rattle.stream.specs.declared.Answer.the-variants as answers
 use Rattle.stream.specs.Answers.{Outcome, nothing, line, gap, refused, answerFor, bufferAfter, isAnswer}
 use Rattle.stream.specs.Stream.{fresh}
 use Rattle.reader.specs.declared.Reader.{Reader}
-use Rattle.reader.specs.Reader.{Took, passes, freshReader, taking, feedOf, finishOf}
+use Rattle.reader_head.specs.Head.{passes}
+use Rattle.reader.specs.Reader.{Took, freshReader, taking, feedOf, finishOf}
 use Rattle.reader.specs.ReaderLaws.{take-profile}
 use Rattle.run.specs.Run.{Ran, ran, onward, runOf}
 use Rattle.recovery.specs.Calls.{Call, feed, done, CallResult}

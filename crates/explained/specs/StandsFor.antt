@@ -16,7 +16,7 @@ use Rattle.stream.specs.declared.Before.{Before}
 use Rattle.stream.specs.declared.Mark.{Mark}
 use Rattle.stream.specs.declared.Mark.the-variants.{NoMark, Open}
 use Rattle.mark_text.specs.MarkText.{strayAt, keptAt}
-use Rattle.reader.specs.Reader.{aged}
+use Rattle.reader_head.specs.Head.{aged}
 use Rattle.refinement.specs.Window.{num}
 use Rattle.reader_laws.specs.Passing.{Small, small-none, small-more, Byte, Fits}
 use Rattle.reader_laws.specs.SmallLaws.{small-append}

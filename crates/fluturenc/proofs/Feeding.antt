@@ -10,9 +10,9 @@ use lib.Seq.{length-take-le, drop-at, drop-drop}
 use Rattle.refusal.specs.Refusal.{badState}
 use Rattle.profile.specs.Profile.{longest}
 use Rattle.stream.specs.Answers.{refused}
-use Rattle.reader.specs.declared.Head.{Head}
+use Rattle.reader_head.specs.declared.Head.{Head}
 use Rattle.reader.specs.declared.Reader.{Reader}
-use Rattle.reader.specs.Reader.{passes}
+use Rattle.reader_head.specs.Head.{passes}
 use Rattle.run.specs.Run.{Ran, ran, runOf, lentRunOf}
 use Rattle.run.specs.RunLaws.{none-taken}
 use Rattle.fluturenc.specs.State.{headLength, stateLength, headBytes, stored, headIn, bodyIn, readerIn, tagged, holdsReader}

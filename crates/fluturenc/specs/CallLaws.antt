@@ -23,7 +23,8 @@ use Rattle.stream.specs.declared.Answer.the-variants as answers
 use Rattle.stream.specs.Answers.{eitherRepaired, refused, answerFor, isAnswer}
 use Rattle.mark_text.specs.MarkText.{bodyAt}
 use Rattle.reader.specs.declared.Reader.{Reader}
-use Rattle.reader.specs.Reader.{Took, topPlace, passes, freshReader, taking, finishOf, leaveBody}
+use Rattle.reader_head.specs.Head.{topPlace, passes, leaveBody}
+use Rattle.reader.specs.Reader.{Took, freshReader, taking, finishOf}
 use Rattle.run.specs.Run.{Ran, ran, runOf, onward}
 use Rattle.run.specs.RunLaws.{none-taken}
 use Rattle.reader_laws.specs.Passes.{passes-test, Finishing, finish-state, finish-taken, finishing, fresh-ok, take-ok, finish-ok}

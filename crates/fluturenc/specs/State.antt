@@ -16,9 +16,9 @@ use Rattle.stream.specs.declared.Before.the-variants.{NoLine, RefusedLine, Hand
 use Rattle.stream.specs.declared.Mark.{Mark}
 use Rattle.stream.specs.declared.Mark.the-variants.{NoMark, Open}
 use Rattle.stream.specs.Stream.{beforeBy}
-use Rattle.reader.specs.declared.Head.{Head}
+use Rattle.reader_head.specs.declared.Head.{Head}
 use Rattle.reader.specs.declared.Reader.{Reader}
-use Rattle.reader.specs.Reader.{passes}
+use Rattle.reader_head.specs.Head.{passes}
 
 -- the bytes of all but the body, and of a whole state
 abbrev pub headLength : ℕ

@@ -38,7 +38,7 @@ use line_code::Kind;
 use mark_text::Kept;
 use profile::Numbered;
 use profile::Profile;
-use reader::Head;
+use reader_head::Head;
 use reader::Reader;
 use stream::Answer;
 use stream::Before;

@@ -9,7 +9,8 @@ use lib.ListN.{length, take, length-append, length-take}
 use lib.Seq.{take-at}
 use Rattle.profile.specs.Profile.{longest}
 use Rattle.reader.specs.declared.Reader.{Reader}
-use Rattle.reader.specs.Reader.{passes, feedOf}
+use Rattle.reader_head.specs.Head.{passes}
+use Rattle.reader.specs.Reader.{feedOf}
 use Rattle.reader_laws.specs.Passes.{passes-test, feed-ok}
 use Rattle.reader_laws.specs.Passing.{Ok}
 use Rattle.frame_rows.specs.declared.Progress.{Progress}

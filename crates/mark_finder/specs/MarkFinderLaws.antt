@@ -14,7 +14,7 @@ use Rattle.stream.specs.Answers.{answerFor, isAnswer}
 use Rattle.stream.specs.AnswersLaws.{answer-of}
 use Rattle.stream.specs.Written.{nibbles}
 use Rattle.stream.specs.NibblesLaws.{nibbles-length}
-use Rattle.reader.specs.declared.Head.{Head}
+use Rattle.reader_head.specs.declared.Head.{Head}
 use Rattle.reader.specs.declared.Reader.{Reader}
 use Rattle.reader.specs.Reader.{readerOf}
 use Rattle.run.specs.declared.RunStepped.{RunStepped}

@@ -9,9 +9,10 @@ use Rattle.profile.specs.Profile.{longest}
 use Rattle.stream.specs.declared.Answer.the-variants as answers
 use Rattle.stream.specs.Answers.{nothing}
 use Rattle.stream.specs.Written.{nibbles}
-use Rattle.reader.specs.declared.Head.{Head}
+use Rattle.reader_head.specs.declared.Head.{Head}
 use Rattle.reader.specs.declared.Reader.{Reader}
-use Rattle.reader.specs.Reader.{passes, feedOf}
+use Rattle.reader_head.specs.Head.{passes}
+use Rattle.reader.specs.Reader.{feedOf}
 use Rattle.run.specs.declared.RunStepped.{RunStepped}
 use Rattle.run.specs.Run.{lentRunOf}
 use Rattle.run.specs.Gives.{LentRunGives}

@@ -15,7 +15,8 @@ use Rattle.stream.specs.declared.GapFacts.{GapFacts}
 use Rattle.stream.specs.declared.Answer.{Answer}
 use Rattle.stream.specs.declared.Answer.the-variants as answer
 use Rattle.stream.specs.Answers.{Outcome, answerFor, bufferAfter}
-use Rattle.reader.specs.Reader.{Took, passes, freshReader, feedOf, finishOf}
+use Rattle.reader_head.specs.Head.{passes}
+use Rattle.reader.specs.Reader.{Took, freshReader, feedOf, finishOf}
 use Rattle.text.specs.Put.{onFront}
 use Rattle.listers.specs.Lists.{Lists, takenFrom, ListedText, listedUpTo}
 use Rattle.half_means.specs.HalfMeans.{halvesOf}

@@ -4,7 +4,7 @@ use mathlib.Core.List.{List}
 use Prim.Native.Nat.{ℕ, _≤_}
 use lib.ListN.{length}
 use Rattle.stream.specs.Written.{nibbles}
-use Rattle.reader.specs.Reader.{passes}
+use Rattle.reader_head.specs.Head.{passes}
 use Rattle.listers.specs.Lists.{listerAfter, textAfter, listedUpTo, endToEnd, PieceCalls}
 use Rattle.listers.specs.ListsLaws.{from-within, none-within, pieces-listed}
 use Rattle.mean_lister.specs.declared.MeanLister.{MeanLister}

@@ -12,7 +12,8 @@ use Rattle.stream.specs.Answers.{outcomeOf, answerFor, bufferAfter, refused}
 use Rattle.mark_answer.specs.Sound.{Legible}
 use Rattle.reader.specs.declared.Reader.{Reader}
 use Rattle.reader.specs.declared.Stepped.{Stepped}
-use Rattle.reader.specs.Reader.{Took, passes, refusing, taking, takeOf, feedOf, readerOf}
+use Rattle.reader_head.specs.Head.{passes}
+use Rattle.reader.specs.Reader.{Took, refusing, taking, takeOf, feedOf, readerOf}
 use Rattle.reader.specs.Gives.{FeedGives, TakeGives}
 
 module _ (r : Reader) (n room : ℕ) where

@@ -11,9 +11,10 @@ use Rattle.refusal.specs.Refusal.{badState, notANibble, noRoom}
 use Rattle.profile.specs.Profile.{bodyLength}
 use Rattle.stream.specs.Answers.{nothing}
 use Rattle.mark_answer.specs.Sound.{Sound, sound-nothing, kept-sound, Legible, legible}
-use Rattle.reader.specs.declared.Head.{Head}
+use Rattle.reader_head.specs.declared.Head.{Head}
 use Rattle.reader.specs.declared.Reader.{Reader}
-use Rattle.reader.specs.Reader.{isMark, slide, countStop, bump, leaveKept, leaveBody, shifted, opened, passes, refusing, completeOutcome, takeHead, takeOutcome, taking, feedOf}
+use Rattle.reader_head.specs.Head.{isMark, slide, countStop, bump, leaveKept, leaveBody, shifted, opened, passes}
+use Rattle.reader.specs.Reader.{refusing, completeOutcome, takeHead, takeOutcome, taking, feedOf}
 
 pub take-profile : (h : Head) (handed : Bool) (n : ℕ) → takeHead h handed n .profile ≡ h .profile
 unfolding takeHead

@@ -13,7 +13,7 @@ use Rattle.profile.specs.Profile.{bodyLength, longest}
 use Rattle.profile.specs.LayoutLaws.{body-small}
 use Rattle.stream.specs.AnswersLaws.{no-answer}
 use Rattle.stream.specs.Answers.{Outcome, nothing, refused, answerFor, isAnswer}
-use Rattle.reader.specs.declared.Head.{Head}
+use Rattle.reader_head.specs.declared.Head.{Head}
 use Rattle.reader.specs.declared.Reader.{Reader}
 use Rattle.reader.specs.Reader.{Took, taking, feedOf}
 use Rattle.run.specs.Run.{Ran, ran, lentRunOf, onward}

@@ -20,9 +20,10 @@ use Rattle.stream.specs.Answers.{Outcome, nothing, refused, isLine}
 use Rattle.stream.specs.Stream.{kindAt, beforeBy}
 use Rattle.mark_text.specs.MarkText.{strayAt, keptAt}
 use Rattle.mark_answer.specs.KeptAnswer.{keptAnswer}
-use Rattle.reader.specs.declared.Head.{Head}
+use Rattle.reader_head.specs.declared.Head.{Head}
 use Rattle.reader.specs.declared.Reader.{Reader}
-use Rattle.reader.specs.Reader.{Took, topPlace, groupNumber, isMark, slide, countStop, bump, leaveKept, leaveBody, shifted, opened, aged, windowFits, handedFits, passes, freshReader, refusing, takeHead, takeOutcome, taking, feedOf, flushed, finishOf}
+use Rattle.reader_head.specs.Head.{topPlace, groupNumber, isMark, slide, countStop, bump, leaveKept, leaveBody, shifted, opened, aged, windowFits, handedFits, passes, flushed}
+use Rattle.reader.specs.Reader.{Took, freshReader, refusing, takeHead, takeOutcome, taking, feedOf, finishOf}
 use Rattle.reader_laws.specs.Passing.{Fits, Passed, Byte, Ok}
 use Rattle.mark_text.specs.MarkTextLaws.{gap-start-small}
 use Rattle.mark_answer.specs.Sound.{Sound, line-ends, kept-sound, refusalOf, at-most-nine}

@@ -6,8 +6,8 @@ use Prim.Native.Nat.{ℕ, _+_, _-_, _%_, _≤_, _<_}
 use Rattle.profile.specs.Profile.{gapStart}
 use Rattle.stream.specs.declared.Mark.{Mark}
 use Rattle.stream.specs.declared.Mark.the-variants.{NoMark, Open}
-use Rattle.reader.specs.declared.Head.{Head}
-use Rattle.reader.specs.Reader.{isMark, countStop, aged, handedFits}
+use Rattle.reader_head.specs.declared.Head.{Head}
+use Rattle.reader_head.specs.Head.{isMark, countStop, aged, handedFits}
 
 -- each number is a nibble
 pub data Small : List ℕ → Type 0 where

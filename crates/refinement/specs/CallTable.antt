@@ -5,7 +5,8 @@ use Prim.Native.Nat.{ℕ, _≤_, _<_}
 use Rattle.refusal.specs.Refusal.{notANibble, badState, noRoom}
 use Rattle.profile.specs.Profile.{bodyLength}
 use Rattle.reader.specs.declared.Reader.{Reader}
-use Rattle.reader.specs.Reader.{Took, passes, refusing, taking}
+use Rattle.reader_head.specs.Head.{passes}
+use Rattle.reader.specs.Reader.{Took, refusing, taking}
 use Rattle.reader_laws.specs.Passes.{finished}
 
 -- feeding the input n, with a buffer of so many bytes

@@ -8,7 +8,8 @@ use borrow.Author.Tests.{leb-true, leb-false, le-leb, lt-leb}
 use Rattle.refusal.specs.Refusal.{notANibble, badState, noRoom}
 use Rattle.profile.specs.Profile.{bodyLength}
 use Rattle.reader.specs.declared.Reader.{Reader}
-use Rattle.reader.specs.Reader.{Took, passes, refusing, taking, feedOf, finishOf}
+use Rattle.reader_head.specs.Head.{passes}
+use Rattle.reader.specs.Reader.{Took, refusing, taking, feedOf, finishOf}
 use Rattle.reader_laws.specs.Passes.{finished}
 use Rattle.refinement.specs.CallTable.{FeedTable, bad-state, not-a-nibble, no-room, taken, FinishTable, finish-bad, finish-good}
 

@@ -15,7 +15,8 @@ use Rattle.stream.specs.declared.Answer.the-variants as answers
 use Rattle.stream.specs.Answers.{Outcome, nothing, line, gap, refused, outcomeOf, answerFor, bufferAfter}
 use Rattle.stream.specs.Stream.{State}
 use Rattle.reader.specs.declared.Reader.{Reader}
-use Rattle.reader.specs.Reader.{Took, passes, freshReader, refusing, newOf, taking, feedOf, finishOf}
+use Rattle.reader_head.specs.Head.{passes}
+use Rattle.reader.specs.Reader.{Took, freshReader, refusing, newOf, taking, feedOf, finishOf}
 use Rattle.recovery.specs.Calls.{Call, feed, done, CallResult, onRun, MeetsDemandThree, turnedAway, fed, meaningCall}
 use Rattle.recovery.specs.DemandThree.{carried}
 use Rattle.reader.specs.ReaderLaws.{legible-feed}

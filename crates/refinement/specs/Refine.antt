@@ -31,9 +31,10 @@ use Rattle.stream.specs.Stream.{State, Step, Completed, not-yet, mark, detect, 
 use Rattle.mark_text.specs.declared.Kept.{Kept}
 use Rattle.mark_text.specs.MarkText.{bodyPlace, byteAt, strayAt, keptAt, bodyAt}
 use Rattle.mark_answer.specs.KeptAnswer.{keptLine, keptGap, keptEnd, keptByMeaning, keptByReading, keptAnswer}
-use Rattle.reader.specs.declared.Head.{Head}
+use Rattle.reader_head.specs.declared.Head.{Head}
 use Rattle.reader.specs.declared.Reader.{Reader}
-use Rattle.reader.specs.Reader.{Took, topPlace, isMark, slide, countStop, bump, leaveKept, leaveBody, shifted, opened, freshReader, refusing, takeHead, takeOutcome, taking, feedOf, flushed, finishOf}
+use Rattle.reader_head.specs.Head.{topPlace, isMark, slide, countStop, bump, leaveKept, leaveBody, shifted, opened, flushed}
+use Rattle.reader.specs.Reader.{Took, freshReader, refusing, takeHead, takeOutcome, taking, feedOf, finishOf}
 use Rattle.profile.specs.LayoutLaws.{body-small}
 use Rattle.refinement.specs.Window.{num, oldest, slide-num, no-mark-yet, Complete, complete}
 use Rattle.mark_text.specs.MarkTextLaws.{gap-start-small}

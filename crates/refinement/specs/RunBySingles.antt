@@ -10,7 +10,7 @@ use Rattle.profile.specs.Profile.{bodyLength}
 use Rattle.stream.specs.declared.Answer.{Answer}
 use Rattle.stream.specs.declared.Answer.the-variants as answers
 use Rattle.reader.specs.declared.Reader.{Reader}
-use Rattle.reader.specs.Reader.{passes}
+use Rattle.reader_head.specs.Head.{passes}
 use Rattle.recovery.specs.Calls.{feed, CallResult}
 use Rattle.refinement.specs.ReaderCalls.{readerCall}
 

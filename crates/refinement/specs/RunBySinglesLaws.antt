@@ -15,7 +15,8 @@ use Rattle.profile.specs.Profile.{bodyLength}
 use Rattle.stream.specs.declared.Answer.the-variants as answers
 use Rattle.stream.specs.Answers.{Outcome, nothing, line, gap, refused, answerFor, bufferAfter, isAnswer}
 use Rattle.reader.specs.declared.Reader.{Reader}
-use Rattle.reader.specs.Reader.{Took, passes, taking}
+use Rattle.reader_head.specs.Head.{passes}
+use Rattle.reader.specs.Reader.{Took, taking}
 use Rattle.reader.specs.ReaderLaws.{take-profile}
 use Rattle.run.specs.Run.{Ran, ran, onward, runOf}
 use Rattle.stream.specs.AnswersLaws.{no-answer}

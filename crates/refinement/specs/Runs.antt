@@ -12,7 +12,7 @@ use Rattle.profile.specs.Profile.{bodyLength}
 use Rattle.stream.specs.Answers.{Outcome, nothing, line, gap, refused, outcomeOf, answerFor, bufferAfter}
 use Rattle.stream.specs.Written.{Sent, AllWritable, stream}
 use Rattle.reader.specs.declared.Reader.{Reader}
-use Rattle.reader.specs.Reader.{passes}
+use Rattle.reader_head.specs.Head.{passes}
 use Rattle.run.specs.Run.{stopPlace, runOf}
 use Rattle.recovery.specs.Calls.{Call, feed, done, CallResult, takenBy, changed, Collector, collects, lineCollector, gapCollector, onRun, onTaken, onCollected, onLines, onGaps, DemandThree}
 use Rattle.refinement.specs.ReaderCalls.{readerCall}

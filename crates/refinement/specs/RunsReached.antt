@@ -13,7 +13,8 @@ use Rattle.profile.specs.Profile.{bodyLength}
 use Rattle.stream.specs.declared.Answer.the-variants as answers
 use Rattle.stream.specs.Answers.{refused, answerFor, isAnswer}
 use Rattle.reader.specs.declared.Reader.{Reader}
-use Rattle.reader.specs.Reader.{passes, freshReader, taking}
+use Rattle.reader_head.specs.Head.{passes}
+use Rattle.reader.specs.Reader.{freshReader, taking}
 use Rattle.run.specs.Run.{ran, onward, runOf}
 use Rattle.mark_answer.specs.Sound.{refusalOf, at-most-nine}
 use Rattle.reader.specs.ReaderLaws.{take-sound}

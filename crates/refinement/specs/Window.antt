@@ -9,7 +9,7 @@ use lib.Dec.{eqb}
 use lib.ListN.{length, take, drop, getD}
 use borrow.Author.Tests.{eqb-true, eqb-false, ne-eqb, eq-eqb}
 use Rattle.stream.specs.Stream.{group, strip, not-yet, mark, markIf, detect}
-use Rattle.reader.specs.Reader.{topPlace, groupNumber, isMark, slide}
+use Rattle.reader_head.specs.Head.{topPlace, groupNumber, isMark, slide}
 use Rattle.reader_laws.specs.Passing.{Small, small-more}
 
 -- nibbles as a number, the newest in its lowest digit

@@ -21,9 +21,10 @@ use Rattle.stream.specs.Answers.{nothing, answerFor, isAnswer}
 use Rattle.mark_text.specs.declared.Kept.{Kept}
 use Rattle.mark_text.specs.MarkText.{bodyPlace, byteAt, strayAt, keptAt, bodyAt}
 use Rattle.mark_text.specs.MarkTextLaws.{gap-start-small}
-use Rattle.reader.specs.declared.Head.{Head}
+use Rattle.reader_head.specs.declared.Head.{Head}
 use Rattle.reader.specs.declared.Reader.{Reader}
-use Rattle.reader.specs.Reader.{Took, topPlace, groupNumber, isMark, slide, countStop, bump, leaveKept, leaveBody, shifted, takeHead, takeOutcome, taking, readerOf}
+use Rattle.reader_head.specs.Head.{topPlace, groupNumber, isMark, slide, countStop, bump, leaveKept, leaveBody, shifted}
+use Rattle.reader.specs.Reader.{Took, takeHead, takeOutcome, taking, readerOf}
 use Rattle.reader.specs.ReaderLaws.{bump-more}
 use Rattle.run.specs.declared.Reached.{Reached}
 use Rattle.run.specs.Run.{onward}

@@ -11,8 +11,9 @@ use Rattle.profile.specs.Profile.{bodyLength, longest}
 use Rattle.stream.specs.declared.Answer.{Answer}
 use Rattle.stream.specs.Answers.{Outcome, nothing, refused, outcomeOf, answerFor, bufferAfter, isLine, isAnswer}
 use Rattle.mark_answer.specs.Sound.{Legible}
-use Rattle.reader.specs.declared.Head.{Head}
-use Rattle.reader.specs.Reader.{passes, leaveBody, takeHead, takeOutcome, readerOf}
+use Rattle.reader_head.specs.declared.Head.{Head}
+use Rattle.reader_head.specs.Head.{passes, leaveBody}
+use Rattle.reader.specs.Reader.{takeHead, takeOutcome, readerOf}
 use Rattle.run.specs.Run.{Ran, ran, runOf, lentRunOf, onward}
 use Rattle.run.specs.RunLaws.{onward-end, onward-above, onward-answered, onward-on}
 use Rattle.run.specs.declared.RunStepped.{RunStepped}

@@ -10,7 +10,7 @@ use Rattle.profile.specs.declared.Profile.the-variants.{VV5404, VV5300}
 use Rattle.stream.specs.declared.Answer.{Answer}
 use Rattle.stream.specs.Answers.{answerFor, bufferAfter}
 use Rattle.mark_text.specs.declared.Kept.{Kept}
-use Rattle.reader.specs.declared.Head.{Head}
+use Rattle.reader_head.specs.declared.Head.{Head}
 use Rattle.reader.specs.Reader.{readerOf}
 use Rattle.run.specs.declared.Reached.{Reached}
 use Rattle.run.specs.Run.{Ran, onward}

@@ -7,9 +7,10 @@ use lib.ListN.{length}
 use Rattle.refusal.specs.Refusal.{notANibble, badState, noRoom}
 use Rattle.profile.specs.Profile.{bodyLength, longest}
 use Rattle.stream.specs.Answers.{Outcome, nothing, refused, answerFor, isAnswer}
-use Rattle.reader.specs.declared.Head.{Head}
+use Rattle.reader_head.specs.declared.Head.{Head}
 use Rattle.reader.specs.declared.Reader.{Reader}
-use Rattle.reader.specs.Reader.{passes, taking}
+use Rattle.reader_head.specs.Head.{passes}
+use Rattle.reader.specs.Reader.{taking}
 
 -- a reader after a run, what the run answered, and how many nibbles it took
 pub record Ran : Type 0 where

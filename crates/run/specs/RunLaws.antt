@@ -14,7 +14,8 @@ use Rattle.refusal.specs.Refusal.{notANibble, badState, noRoom}
 use Rattle.profile.specs.Profile.{bodyLength}
 use Rattle.stream.specs.Answers.{nothing, refused, answerFor, isAnswer}
 use Rattle.reader.specs.declared.Reader.{Reader}
-use Rattle.reader.specs.Reader.{Took, passes, taking}
+use Rattle.reader_head.specs.Head.{passes}
+use Rattle.reader.specs.Reader.{Took, taking}
 use Rattle.run.specs.Run.{Ran, ran, onward, stops, stopPlace, runOf}
 
 -- By the place of its stop.

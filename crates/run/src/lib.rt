@@ -20,7 +20,7 @@ ghost use Rattle.run.specs.Gives.{RunGives, LentRunGives};
 ghost use Rattle.run.specs.Parts.{ranFrom, Ends, Reaches, isNear, isPair, bytePlace, slideByte, strayAfter, strayKept, byteKept};
 use mark_text::Kept;
 use profile::Profile;
-use reader::Head;
+use reader_head::Head;
 use reader::Reader;
 use reader::Stepped;
 use stream::Answer;
@@ -134,7 +134,7 @@ fn take(h: Head, body: &mut [u8], nibble: u8, buffer: &mut [u8]) -> Stepped
     requires { ⌜ (nibble < 16) × (bodyLength (h .profile) ≤ length (now buffer)) × (length (now body) ≡ longest) ⌝ }
     ensures { λ r. ⌜ TakeGives (taking (readerOf h (now (body .entry))) nibble) r (now (body .exit)) (now (buffer .entry)) (now (buffer .exit)) ⌝ }
 {
-    h.take(body, nibble, buffer)
+    reader::take(h, body, nibble, buffer)
 }
 
 // Takes nibbles two a turn, as far as no mark can end in them.
@@ -251,7 +251,7 @@ fn past_body(h: Head, s: &[u8], from: usize) -> Reached
     while is_pair(window, s, i, end) {
         stray = stray_after(stray, top_byte(window));
         window = slide_byte(window, s, i);
-        count = reader::next_count(reader::next_count(count));
+        count = reader_head::next_count(reader_head::next_count(count));
         i += 2;
     }
     let kept = Kept {

@@ -5,7 +5,8 @@ use Prim.Native.Nat.{ℕ}
 use Rattle.profile.specs.Profile.{profileNumbered}
 use Rattle.stream.specs.declared.Answer.the-variants as answers
 use Rattle.mark_answer.specs.KeptAnswer.{keptAnswer}
-use Rattle.reader.specs.Reader.{isMark, passes, finishOf}
+use Rattle.reader_head.specs.Head.{isMark, passes}
+use Rattle.reader.specs.Reader.{finishOf}
 use Rattle.recovery.specs.Calls.{feed, done}
 use Rattle.refinement.specs.Runs.{one}
 use Rattle.reader_table.specs.declared.ReaderTable.{ReaderTable}

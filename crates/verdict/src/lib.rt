@@ -11,7 +11,7 @@ ghost use Rattle.verdict.specs.Verdict.{isLost, inOrder, byFrames, verdi
 use counts::one_more;
 use frame::Judge;
 use profile::Profile;
-use reader::Head;
+use reader_head::Head;
 use signal::First;
 use signal::Signal;
 use stream::Answer;

@@ -20,7 +20,8 @@ use Rattle.stream.specs.Answers.{Outcome, answerFor}
 use Rattle.stream.specs.Stream.{State, fresh, finish, run, step, outcomes}
 use Rattle.stream.specs.Written.{Sent, mostText, AllWritable}
 use Rattle.reader.specs.declared.Reader.{Reader}
-use Rattle.reader.specs.Reader.{countStop, freshReader, feedOf}
+use Rattle.reader_head.specs.Head.{countStop}
+use Rattle.reader.specs.Reader.{freshReader, feedOf}
 use Rattle.reader_laws.specs.Passing.{Small, small-none, small-more}
 use Rattle.reader_laws.specs.SmallLaws.{small-take, small-drop}
 use Rattle.recovery.specs.CutStream.{cutOut}

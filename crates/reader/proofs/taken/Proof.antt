@@ -7,11 +7,13 @@ use Rattle.reader.proofs.taken.Tie as tie
 returns : tie.Need-returns
 unfolding takeHead takeOutcome
 returns c =
-    let s = c .before .before .before .before .before .before .before .slide .ensures in
-    let m = c .before .before .before .before .before .before .is-mark .ensures in
+    let marked = c .before .before .before .before .before .before in
+    let sliding = marked .before in
+    let s = sliding .slide .ensures in
+    let m = marked .is-mark .ensures in
     let t = c .before .before .before .before .before .if1 .taken in
     let e = c .before .before .complete .ensures in
-    let b = c .before .before .before .before .before .before .before .before .before .before .leave-body .ensures in
+    let b = sliding .before .before .before .leave-body .ensures in
     record {
       next = simp (← s, ← m, t, e .next, b);
       keeps = b;
@@ -22,12 +24,14 @@ returns c =
 returns-2 : tie.Need-returns-2
 unfolding takeHead takeOutcome
 returns-2 c =
-    let s = c .before .before .before .slide .ensures in
-    let m = c .before .before .is-mark .ensures in
+    let unmarked = c .before .before in
+    let slid = unmarked .before in
+    let s = slid .slide .ensures in
+    let m = unmarked .is-mark .ensures in
     let t = c .before .if1 .left in
     record {
       next = simp (← s, ← m, t, c .shift .ensures);
-      keeps = c .before .before .before .before .before .before .leave-body .ensures;
+      keeps = slid .before .before .before .leave-body .ensures;
       says = simp (← s, ← m, t);
       leaves = simp (← s, ← m, t);
     }

@@ -8,7 +8,7 @@ use borrow.Author.Needs.{needs}
 use Rattle.profile.specs.Profile.{longest, bodyLength}
 use Rattle.stream.specs.Answers.{Outcome, bufferAfter, isAnswer}
 use Rattle.stream.specs.AnswersLaws.{no-answer}
-use Rattle.reader.specs.declared.Head.{Head}
+use Rattle.reader_head.specs.declared.Head.{Head}
 use Rattle.reader.specs.Reader.{takeOutcome}
 use Rattle.run.specs.Parts.{Leads}
 use Rattle.reader.specs.ReaderLaws.{take-profile}
