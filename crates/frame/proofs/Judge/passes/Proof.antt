@@ -1,6 +1,6 @@
 -- By the judge and its borders: up to the settling place while unsettled, past it up to the last place once settled, each range tested by within.
 use native.Mathlib.Omega.{arith}
-use Rattle.frame.proofs.PlaceLaws.{settling-small}
+use Rattle.frame.specs.PlaceLaws.{settling-small}
 use borrow.Author.Needs.{needs}
 use Rattle.frame.proofs.Judge.passes.Statement.{statement}
 use Rattle.frame.proofs.Judge.passes.Tie as tie
