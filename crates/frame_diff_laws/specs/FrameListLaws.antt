@@ -15,8 +15,8 @@ use Rattle.line_code.specs.LineCode.{kindNumber}
 use Rattle.line_number.specs.LineNumber.{greatest}
 use Rattle.profile.specs.declared.Profile.the-variants.{VV5404}
 use Rattle.lent_buffer.specs.Filled.{Output, fitted, require}
-use Rattle.frame.specs.declared.Borders.{Borders}
-use Rattle.frame.specs.Frame.{kindAt}
+use Rattle.frame_layout.specs.declared.Borders.{Borders}
+use Rattle.frame_layout.specs.FrameLayout.{kindAt}
 use Rattle.frame.specs.Calls.{fits, laidFrom}
 use Rattle.line_list.specs.Lines.{FullLine, lineSize, fullLines, noneCut, asLent, risesFrom, rises, numbersSmall, kindsKnown}
 use Rattle.line_list.specs.LinesLaws.{FullBodies, unsized, sized, lines-lent}

@@ -19,9 +19,9 @@ use Rattle.reader.specs.Reader.{Took, freshReader, taking, feedOf}
 use Rattle.mark_answer.specs.Sound.{Sound, sound-nothing, sound-line, sound-gap, sound-refused}
 use Rattle.reader.specs.ReaderLaws.{take-profile, take-sound}
 use Rattle.reader_laws.specs.Passes.{passes-test, fresh-ok, Feeding, feed-state, feed-nibble, feed-room, feed-taken, feeding}
-use Rattle.frame.specs.declared.Handed.the-variants as hand
+use Rattle.frame_handing.specs.declared.Handed.the-variants as hand
 use Rattle.frame.specs.Frame.{brokenKind}
-use Rattle.frame.specs.Handing.{isBrokenLine, asLines, handedLines}
+use Rattle.frame_handing.specs.Handing.{isBrokenLine, asLines, handedLines}
 use Rattle.frame_rows.specs.declared.Order.{Order}
 use Rattle.frame_rows.specs.declared.Keeping.{Keeping}
 use Rattle.frame_rows.specs.declared.Keeping.the-variants.{VisiblePixels}

@@ -17,7 +17,7 @@ use Rattle.frame.specs.declared.Ruling.{Ruling}
 use Rattle.frame.specs.declared.Ruling.the-variants as ruling
 use Rattle.frame.specs.Calls.{called}
 use Rattle.frame.specs.Frame.{breaksFrame}
-use Rattle.frame.specs.Handing.{handedLines}
+use Rattle.frame_handing.specs.Handing.{handedLines}
 use Rattle.frame_rows.specs.declared.Gatherer.{Gatherer}
 use Rattle.frame_rows.specs.FrameRows.{Output, Shown, nothing, complete, refused, quiet}
 use Rattle.frame_rows.specs.FrameRows as rows

@@ -18,17 +18,18 @@ use Rattle.line_code.specs.LineCode.{kindNumber}
 use Rattle.line_number.specs.LineNumber.{greatest}
 use Rattle.profile.specs.declared.Profile.{Profile}
 use Rattle.profile.specs.declared.Profile.the-variants.{VV5404, VV5300}
-use Rattle.frame.specs.declared.Borders.{Borders}
-use Rattle.frame.specs.declared.Borders.the-variants.{Unsettled, On, Off}
+use Rattle.frame_layout.specs.declared.Borders.{Borders}
+use Rattle.frame_layout.specs.declared.Borders.the-variants.{Unsettled, On, Off}
 use Rattle.frame.specs.declared.Judge.{Judge}
 use Rattle.frame.specs.declared.Judge.the-variants.{Waiting, Due}
 use Rattle.frame.specs.declared.Ruling.{Ruling}
 use Rattle.frame.specs.declared.Ruling.the-variants as ruling
 use Rattle.frame.specs.declared.Judged.{Judged}
-use Rattle.frame.specs.Frame.{layout, kindsOf, lastPlace, endPlace, settlingPlace, kindAt, standsAt, kindDue, numberDue, lineDue, settled, within, passes, gives, refuses, opens, begun, brokenKind, broken, onward, astray, whole, judgeOf}
-use Rattle.frame.specs.Places.{kindWithin}
-use Rattle.frame.specs.PlaceLaws.{kind-by-range, blank-after}
-use Rattle.frame.specs.FrameLength.{frame-length}
+use Rattle.frame_layout.specs.FrameLayout.{layout, kindsOf, lastPlace, endPlace, settlingPlace, kindAt, standsAt, kindDue, numberDue, lineDue, settled}
+use Rattle.frame.specs.Frame.{within, passes, gives, refuses, opens, begun, brokenKind, broken, onward, astray, whole, judgeOf}
+use Rattle.frame_layout.specs.Places.{kindWithin}
+use Rattle.frame_layout.specs.PlaceLaws.{kind-by-range, blank-after}
+use Rattle.frame_layout.specs.FrameLength.{frame-length}
 use Rattle.frame.specs.Calls.{Line, line, called, after, rulings, isComplete, accepts, acceptedOne, accepted, fits, laidFrom, FirstLines, IsFrame, numberedFrom, frameLines}
 use Rattle.bits.specs.Agree.{agree}
 

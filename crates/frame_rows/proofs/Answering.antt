@@ -8,7 +8,7 @@ use lib.ListN.{length, take, drop, length-drop, drop-of-length-le, take-append-d
 use lib.Seq.{take-all, take-length, drop-drop, sets-eq}
 use Rattle.lent_buffer.specs.Filled.{Output, used, bufferAfter}
 use Rattle.text.specs.Put.{Puts}
-use Rattle.frame.specs.declared.Borders.{Borders}
+use Rattle.frame_layout.specs.declared.Borders.{Borders}
 use Rattle.frame.specs.declared.Judge.{Judge}
 use Rattle.frame.specs.declared.Judge.the-variants.{Due}
 use Rattle.profile.specs.Profile.{width}

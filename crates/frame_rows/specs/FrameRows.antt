@@ -12,15 +12,15 @@ use Rattle.line_code.specs.LineCode.{kindNumber}
 use Rattle.profile.specs.declared.Profile.the-variants.{VV5404}
 use Rattle.profile.specs.Profile.{width}
 use Rattle.stream.specs.declared.Answer.{Answer}
-use Rattle.frame.specs.declared.Handed.{Handed}
-use Rattle.frame.specs.declared.Handed.the-variants as hand
+use Rattle.frame_handing.specs.declared.Handed.{Handed}
+use Rattle.frame_handing.specs.declared.Handed.the-variants as hand
 use Rattle.frame.specs.declared.Judge.{Judge}
 use Rattle.frame.specs.declared.Judge.the-variants.{Waiting, Due}
 use Rattle.frame.specs.declared.Ruling.{Ruling}
 use Rattle.frame.specs.declared.Ruling.the-variants as ruling
 use Rattle.frame.specs.Frame.{breaksFrame}
 use Rattle.frame.specs.Calls.{Line, line, called}
-use Rattle.frame.specs.Handing.{handedOver}
+use Rattle.frame_handing.specs.Handing.{handedOver}
 use Rattle.pixel_order.specs.declared.Way.the-variants.{ToPixels}
 use Rattle.pixel_order.specs.PixelOrder.{reordered}
 use Rattle.line_list.specs.Lines.{lineSize, inTwo}

@@ -17,21 +17,22 @@ use Rattle.line_code.specs.declared.Kind.the-variants.{BL, SOF}
 use Rattle.line_code.specs.LineCode.{kindNumber}
 use Rattle.profile.specs.declared.Profile.the-variants.{VV5404}
 use Rattle.profile.specs.Profile.{width}
-use Rattle.frame.specs.declared.Borders.{Borders}
-use Rattle.frame.specs.declared.Borders.the-variants.{Unsettled, On, Off}
-use Rattle.frame.specs.declared.Handed.{Handed}
-use Rattle.frame.specs.declared.Handed.the-variants as hand
+use Rattle.frame_layout.specs.declared.Borders.{Borders}
+use Rattle.frame_layout.specs.declared.Borders.the-variants.{Unsettled, On, Off}
+use Rattle.frame_handing.specs.declared.Handed.{Handed}
+use Rattle.frame_handing.specs.declared.Handed.the-variants as hand
 use Rattle.frame.specs.declared.Judge.{Judge}
 use Rattle.frame.specs.declared.Judge.the-variants.{Waiting, Due}
 use Rattle.frame.specs.declared.Judged.{Judged}
 use Rattle.frame.specs.declared.Ruling.{Ruling}
 use Rattle.frame.specs.declared.Ruling.the-variants as ruling
-use Rattle.frame.specs.Frame.{layout, kindsOf, lastPlace, kindAt, standsAt, kindDue, opens, begun, passes, gives}
+use Rattle.frame_layout.specs.FrameLayout.{layout, kindsOf, lastPlace, kindAt, standsAt, kindDue}
+use Rattle.frame.specs.Frame.{opens, begun, passes, gives}
 use Rattle.frame.specs.Calls.{Line, called, after, isBreak, accepts, accepted, fits, laidFrom, IsFrame}
 use Rattle.bits.specs.Agree.{agree}
-use Rattle.frame.specs.FrameLength.{frame-length}
+use Rattle.frame_layout.specs.FrameLength.{frame-length}
 use Rattle.frame_laws.specs.FrameLaws.{passes-high, after-snoc, accepted-snoc, opens-is, first-is, sof-within, IsDue, Effect, wrongKind, wrongNumber, waits, breaks, strays, starts, restarts, goes, ends, effect, reached-passes, complete-frame}
-use Rattle.frame.specs.Handing.{handedOver, asLines, handedLines}
+use Rattle.frame_handing.specs.Handing.{handedOver, asLines, handedLines}
 use Rattle.pixel_order.specs.declared.Way.the-variants.{ToPixels}
 use Rattle.pixel_order.specs.PixelOrderLaws.{reordered-length}
 use Rattle.pgm.specs.Pgm.{size}

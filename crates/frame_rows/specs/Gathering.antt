@@ -9,11 +9,11 @@ use Rattle.profile.specs.declared.Profile.the-variants.{VV5404}
 use Rattle.profile.specs.Profile.{width}
 use Rattle.profile.specs.Layout.{rules, fits}
 use Rattle.stream.specs.declared.Answer.{Answer}
-use Rattle.frame.specs.declared.Borders.{Borders}
-use Rattle.frame.specs.declared.Borders.the-variants.{Unsettled, On, Off}
-use Rattle.frame.specs.Frame.{lastPlace}
+use Rattle.frame_layout.specs.declared.Borders.{Borders}
+use Rattle.frame_layout.specs.declared.Borders.the-variants.{Unsettled, On, Off}
+use Rattle.frame_layout.specs.FrameLayout.{lastPlace}
 use Rattle.frame.specs.Calls.{Line, IsFrame}
-use Rattle.frame.specs.Handing.{handedLines}
+use Rattle.frame_handing.specs.Handing.{handedLines}
 use Rattle.pgm.specs.Pgm.{size}
 use Rattle.pgm.specs.declared.Format.{Format}
 use Rattle.pgm.specs.declared.Format.the-variants.{Bordered, Plain}

@@ -11,16 +11,17 @@ use Rattle.line_code.specs.declared.Kind.the-variants.{SOF}
 use Rattle.line_code.specs.LineCode.{kindNumber}
 use Rattle.profile.specs.declared.Profile.the-variants.{VV5404}
 use Rattle.profile.specs.Profile.{width}
-use Rattle.frame.specs.declared.Borders.{Borders}
+use Rattle.frame_layout.specs.declared.Borders.{Borders}
 use Rattle.frame.specs.declared.Judge.{Judge}
 use Rattle.frame.specs.declared.Judge.the-variants.{Waiting, Due}
 use Rattle.frame.specs.declared.Judged.{Judged}
 use Rattle.frame.specs.declared.Ruling.{Ruling}
 use Rattle.frame.specs.declared.Ruling.the-variants as ruling
-use Rattle.frame.specs.Frame.{lastPlace, begun, passes, judgeOf}
+use Rattle.frame_layout.specs.FrameLayout.{lastPlace}
+use Rattle.frame.specs.Frame.{begun, passes, judgeOf}
 use Rattle.frame.specs.Calls.{Line, line, called, rulings, IsFrame}
 use Rattle.frame_laws.specs.FrameLaws.{first-is, sof-within, Effect, wrongKind, wrongNumber, waits, breaks, strays, starts, restarts, goes, ends, effect, passes-after, reached-passes, toComplete, frame-complete}
-use Rattle.frame.specs.Handing.{handedLines}
+use Rattle.frame_handing.specs.Handing.{handedLines}
 use Rattle.frame_rows.specs.declared.Keeping.{Keeping}
 use Rattle.frame_rows.specs.declared.Gatherer.{Gatherer}
 use Rattle.frame_rows.specs.FrameRows.{Shown, rowOf, rowSize, rowsFrom, rowsOf, complete, AfterCall, moved, quiet, placeDue, rowFits, withRow, onward, completed, afterBreak, refusedBy, byRuling, handed}

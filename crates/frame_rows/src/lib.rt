@@ -3,7 +3,7 @@
 // comparison every line whole, as crate line_list has it, with its place in the frame for its number.
 //
 // In: the answer of each call to the reader, in order, with the line buffer as it is then, and a lent buffer for rows. What
-// frame::handed_over has of an answer goes to the judge. A line that is due puts its row after the rows kept; a frame that breaks leaves none.
+// frame_handing::handed_over has of an answer goes to the judge. A line that is due puts its row after the rows kept; a frame that breaks leaves none.
 // Out: beside the next gatherer, nothing yet, or at a frame's last line the length of its rows, which stand at the front of the buffer;
 // `pgm::write` takes a picture's, `line_diff::compare` the lines. Refused, and then nothing changes: 11 and 14 as the judge refuses them; 12
 // where a line is due and the line buffer is shorter than 356, or the rows' buffer than the rows with its own. A buffer of pgm::MOST_PIXELS has
@@ -16,9 +16,9 @@ ghost use lib.ListN.{length, take, drop};
 ghost use Rattle.profile.specs.Profile.{width};
 ghost use Rattle.line_list.specs.Lines.{lineSize, inTwo};
 ghost use Rattle.frame_rows.specs.FrameRows.{pixelsOf, rowSize, fresh, moved, saying, placeDue, withRow, Keeps, shownAs, onward, completed, afterBreak, handed, takeOf, Gathers};
-use frame::Handed;
 use frame::Judge;
 use frame::Ruling;
+use frame_handing::Handed;
 use line_code::Kind;
 use line_list::LINE;
 use profile::Profile;
@@ -78,7 +78,7 @@ impl Gatherer {
     pub fn take(self, answer: Answer, line: &[u8], rows: &mut [u8]) -> Gathered
         ensures { λ r. ⌜ Gathers (takeOf self answer (now (line .entry)) (now (rows .entry))) r (now (rows .exit)) ⌝ }
     {
-        let handed = frame::handed_over(answer);
+        let handed = frame_handing::handed_over(answer);
         match handed {
             Handed::Nothing => quiet(self),
             Handed::Line(kind, number) => self.hand(kind, number, line, rows),

@@ -11,7 +11,7 @@ use Rattle.profile.specs.declared.Profile.the-variants.{VV5404}
 use Rattle.stream.specs.Written.{Sent, AllWritable}
 use Rattle.recovery.specs.Calls.{LineOut}
 use Rattle.lent_buffer.specs.Filled.{used}
-use Rattle.frame.specs.declared.Borders.{Borders}
+use Rattle.frame_layout.specs.declared.Borders.{Borders}
 use Rattle.frame.specs.Frame.{opens}
 use Rattle.frame.specs.Calls.{line, IsFrame}
 use Rattle.pgm.specs.Pgm.{imageOf, writeOf}

@@ -31,8 +31,8 @@ use Rattle.recovery.specs.Resync.{lines}
 use Rattle.recovery.specs.ReadBack.{seven, outcomes-append, restTold}
 use Rattle.recovery.specs.Gaps.{after, back, sentGap, next-told}
 use Rattle.refinement.specs.Refine.{Follows, fresh-follows, feed-steps}
-use Rattle.frame.specs.declared.Borders.{Borders}
-use Rattle.frame.specs.declared.Handed.the-variants as hand
+use Rattle.frame_layout.specs.declared.Borders.{Borders}
+use Rattle.frame_handing.specs.declared.Handed.the-variants as hand
 use Rattle.frame.specs.declared.Judge.{Judge}
 use Rattle.frame.specs.declared.Judge.the-variants.{Waiting, Due}
 use Rattle.frame.specs.declared.Judged.{Judged}
@@ -40,7 +40,7 @@ use Rattle.frame.specs.Frame.{passes, refuses, brokenKind, judgeOf}
 use Rattle.frame.specs.Calls.{called, IsFrame}
 use Rattle.frame.specs.Calls as calls
 use Rattle.frame_laws.specs.FrameLaws.{reached-passes}
-use Rattle.frame.specs.Handing.{isBrokenLine, handedLines}
+use Rattle.frame_handing.specs.Handing.{isBrokenLine, handedLines}
 use Rattle.pgm.specs.Pgm.{size}
 use Rattle.frame_rows.specs.declared.Order.{Order}
 use Rattle.frame_rows.specs.declared.Keeping.{Keeping}

@@ -16,7 +16,7 @@ use Rattle.frame.specs.declared.Ruling.{Ruling}
 use Rattle.frame.specs.declared.Ruling.the-variants as ruling
 use Rattle.frame.specs.Calls.{called}
 use Rattle.frame.specs.Frame.{breaksFrame}
-use Rattle.frame.specs.Handing.{handedLines}
+use Rattle.frame_handing.specs.Handing.{handedLines}
 use Rattle.frame_rows.specs.declared.Gatherer.{Gatherer}
 use Rattle.frame_rows.specs.FrameRows.{Shown, Output, nothing, AfterCall, rowSize, moved, quiet, refuses, placeDue, rowFits, withRow, onward, completing, completed, afterBreak, refusedBy, byRuling, handed}
 use Rattle.frame_rows.specs.Gathering.{Given, call, calls, shown}
