@@ -42,7 +42,7 @@ use Rattle.frame_handing.specs.Handing.{isBrokenLine}
 use Rattle.frame_rows.specs.declared.Gatherer.{Gatherer}
 use Rattle.frame_rows.specs.FrameRows.{Shown, AfterCall, byRuling, handed, shownAs, handing, takeOf}
 use Rattle.frame_rows.specs.FrameRows as rows
-use Rattle.frame_rows.specs.Gathering.{call}
+use Rattle.frame_rows_laws.specs.Gathering.{call}
 use Rattle.frame_grabber.specs.FrameGrabber.{blank, isSaid}
 use Rattle.picture_laws.specs.FrameSent.{opensNone}
 use Rattle.picture_laws.specs.UntilSaidLaws.{givenOf, untilSaid}

@@ -20,11 +20,12 @@ use Rattle.pixel_order.specs.PixelOrder.{sourceOf, reordered}
 use Rattle.pixel_order.specs.PixelOrderLaws.{source-inside}
 use Rattle.pgm.specs.Pgm.{imageOf, pixels, Picture, writeAs, writeOf}
 use Rattle.pgm.specs.PgmLaws.{size-tells, picture-written}
-use Rattle.frame_rows.specs.declared.Order.{Order}
-use Rattle.frame_rows.specs.declared.Order.the-variants.{AsSent, OddFirst}
-use Rattle.frame_rows.specs.declared.Keeping.the-variants.{VisiblePixels}
-use Rattle.frame_rows.specs.FrameRows.{Shown, pixelsOf, isVisible, rowOf, rowsFrom}
-use Rattle.frame_rows.specs.Gathering.{pictureOf, CompletesRows, Laid, Every}
+use Rattle.frame_row.specs.declared.Order.{Order}
+use Rattle.frame_row.specs.declared.Order.the-variants.{AsSent, OddFirst}
+use Rattle.frame_row.specs.declared.Keeping.the-variants.{VisiblePixels}
+use Rattle.frame_row.specs.FrameRow.{pixelsOf, isVisible, rowOf}
+use Rattle.frame_rows.specs.FrameRows.{Shown}
+use Rattle.frame_rows_laws.specs.Gathering.{rowsFrom, pictureOf, CompletesRows, Laid, Every}
 
 -- Pixels.
 

@@ -7,10 +7,10 @@ use Rattle.line_code.specs.declared.Kind.the-variants.{VL}
 use Rattle.line_code.specs.LineCode.{kindNumber}
 use Rattle.profile.specs.Profile.{width}
 use Rattle.line_list.specs.Lines.{lineSize}
-use Rattle.frame_rows.specs.FrameRows.{rowSize}
-use Rattle.frame_rows.proofs.Answering.{with-pixels, with-nothing, with-line}
-use Rattle.frame_rows.proofs.put_row.Statement.{statement}
-use Rattle.frame_rows.proofs.put_row.Tie as tie
+use Rattle.frame_row.specs.FrameRow.{rowSize}
+use Rattle.frame_row.proofs.Putting.{with-pixels, with-nothing, with-line}
+use Rattle.frame_row.proofs.put_row.Statement.{statement}
+use Rattle.frame_row.proofs.put_row.Tie as tie
 
 put-pixels-requires : tie.Need-put-pixels-requires
 put-pixels-requires c κs =

@@ -22,11 +22,12 @@ use Rattle.frame.specs.Frame.{begun, passes, judgeOf}
 use Rattle.frame.specs.Calls.{Line, line, called, rulings, IsFrame}
 use Rattle.frame_laws.specs.FrameLaws.{first-is, sof-within, Effect, wrongKind, wrongNumber, waits, breaks, strays, starts, restarts, goes, ends, effect, passes-after, reached-passes, toComplete, frame-complete}
 use Rattle.frame_handing.specs.Handing.{handedLines}
-use Rattle.frame_rows.specs.declared.Keeping.{Keeping}
+use Rattle.frame_row.specs.declared.Keeping.{Keeping}
 use Rattle.frame_rows.specs.declared.Gatherer.{Gatherer}
-use Rattle.frame_rows.specs.FrameRows.{Shown, rowOf, rowSize, rowsFrom, rowsOf, complete, AfterCall, moved, quiet, placeDue, rowFits, withRow, onward, completed, afterBreak, refusedBy, byRuling, handed}
-use Rattle.frame_rows.specs.Gathering.{Given, call, calls, start, shown, taken, linesOf, frameSize, Every, shownAll, WholeBody}
-use Rattle.frame_rows.specs.FrameRowsLaws.{row-length, frame-size, put-rows, put-length, Rows, HoldsRows, Hands, none, one, hands, holds-calls, holds-start}
+use Rattle.frame_row.specs.FrameRow.{rowOf, rowSize, rowFits, withRow}
+use Rattle.frame_rows.specs.FrameRows.{Shown, complete, AfterCall, moved, quiet, placeDue, onward, completed, afterBreak, refusedBy, byRuling, handed}
+use Rattle.frame_rows_laws.specs.Gathering.{rowsFrom, rowsOf, Given, call, calls, start, shown, taken, linesOf, frameSize, Every, shownAll, WholeBody}
+use Rattle.frame_rows_laws.specs.FrameRowsLaws.{row-length, frame-size, put-rows, put-length, Rows, HoldsRows, Hands, none, one, hands, holds-calls, holds-start}
 
 -- The call that brings a line.
 

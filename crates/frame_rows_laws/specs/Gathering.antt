@@ -2,7 +2,7 @@
 use mathlib.Core.Path.{_≡_}
 use mathlib.Core.Bool.{Bool, true, false, cond}
 use mathlib.Core.List.{List, [], _∷_, _++_}
-use Prim.Native.Nat.{ℕ, _+_, _*_}
+use Prim.Native.Nat.{ℕ, suc, _+_, _*_}
 use lib.ListN.{length}
 use Rattle.line_code.specs.declared.Kind.the-variants.{VL}
 use Rattle.profile.specs.declared.Profile.the-variants.{VV5404}
@@ -18,9 +18,22 @@ use Rattle.pgm.specs.Pgm.{size}
 use Rattle.pgm.specs.declared.Format.{Format}
 use Rattle.pgm.specs.declared.Format.the-variants.{Bordered, Plain}
 use Rattle.line_list.specs.Lines.{lineSize}
-use Rattle.frame_rows.specs.declared.Keeping.{Keeping}
-use Rattle.frame_rows.specs.declared.Keeping.the-variants.{VisiblePixels, WholeLines}
-use Rattle.frame_rows.specs.FrameRows.{Shown, isVisible, rowsOf, Output, nothing, complete, refused, AfterCall, fresh, quiet, shownAs, takeOf}
+use Rattle.frame_row.specs.declared.Keeping.{Keeping}
+use Rattle.frame_row.specs.declared.Keeping.the-variants.{VisiblePixels, WholeLines}
+use Rattle.frame_row.specs.FrameRow.{isVisible, rowOf}
+use Rattle.frame_rows.specs.FrameRows.{Shown, Output, nothing, complete, refused, AfterCall, fresh, quiet, shownAs, takeOf}
+
+-- The rows of lines.
+
+-- the rows of lines from a place of the frame on, top to bottom and end to end
+abbrev pub rowsFrom : Keeping → ℕ → List Shown → List ℕ
+rowsFrom k place [] = []
+rowsFrom k place (l ∷ ls) = rowOf k place (l .given .kind) (l .body) ++ rowsFrom k (suc place) ls
+
+abbrev pub rowsOf : Keeping → List Shown → List ℕ
+rowsOf k ls = rowsFrom k 0 ls
+
+-- Calls.
 
 -- what a call is given: the reader's answer, and the line buffer as it is then
 pub record Given : Type 0 where

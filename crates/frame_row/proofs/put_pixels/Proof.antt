@@ -7,9 +7,9 @@ use Rattle.profile.specs.Profile.{width}
 use Rattle.pixel_order.specs.declared.Way.the-variants.{ToPixels}
 use Rattle.pixel_order.specs.PixelOrder.{reordered}
 use Rattle.pixel_order.specs.PixelOrderLaws.{in-order}
-use Rattle.frame_rows.proofs.Answering.{put-copied, put-used}
-use Rattle.frame_rows.proofs.put_pixels.Statement.{statement}
-use Rattle.frame_rows.proofs.put_pixels.Tie as tie
+use Rattle.frame_row.proofs.Putting.{put-copied, put-used}
+use Rattle.frame_row.proofs.put_pixels.Statement.{statement}
+use Rattle.frame_row.proofs.put_pixels.Tie as tie
 
 returns : tie.Need-returns
 returns c =

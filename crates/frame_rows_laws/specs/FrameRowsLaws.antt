@@ -37,13 +37,14 @@ use Rattle.pixel_order.specs.declared.Way.the-variants.{ToPixels}
 use Rattle.pixel_order.specs.PixelOrderLaws.{reordered-length}
 use Rattle.pgm.specs.Pgm.{size}
 use Rattle.line_list.specs.Lines.{lineSize}
-use Rattle.frame_rows.specs.declared.Order.{Order}
-use Rattle.frame_rows.specs.declared.Order.the-variants.{AsSent, OddFirst}
-use Rattle.frame_rows.specs.declared.Keeping.{Keeping}
-use Rattle.frame_rows.specs.declared.Keeping.the-variants.{VisiblePixels, WholeLines}
+use Rattle.frame_row.specs.declared.Order.{Order}
+use Rattle.frame_row.specs.declared.Order.the-variants.{AsSent, OddFirst}
+use Rattle.frame_row.specs.declared.Keeping.{Keeping}
+use Rattle.frame_row.specs.declared.Keeping.the-variants.{VisiblePixels, WholeLines}
 use Rattle.frame_rows.specs.declared.Gatherer.{Gatherer}
-use Rattle.frame_rows.specs.FrameRows.{Shown, pixelsOf, isVisible, rowOf, rowSize, rowsFrom, rowsOf, Output, nothing, complete, refused, AfterCall, moved, quiet, refuses, placeDue, rowFits, withRow, onward, completing, completed, afterBreak, refusedBy, byRuling, handed, shownAs, handing, takeOf}
-use Rattle.frame_rows.specs.Gathering.{Given, call, calls, start, unlessRefused, shown, taken, linesOf, pictureOf, frameSize, CompletesRows, Every, WholeBody}
+use Rattle.frame_row.specs.FrameRow.{pixelsOf, isVisible, rowOf, rowSize, rowFits, withRow}
+use Rattle.frame_rows.specs.FrameRows.{Shown, Output, nothing, complete, refused, AfterCall, moved, quiet, refuses, placeDue, onward, completing, completed, afterBreak, refusedBy, byRuling, handed, shownAs, handing, takeOf}
+use Rattle.frame_rows_laws.specs.Gathering.{rowsFrom, rowsOf, Given, call, calls, start, unlessRefused, shown, taken, linesOf, pictureOf, frameSize, CompletesRows, Every, WholeBody}
 
 -- Lists of lines.
 

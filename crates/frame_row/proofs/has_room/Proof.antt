@@ -3,8 +3,8 @@ use mathlib.Core.Path.{sym}
 use Prim.Native.Nat.{_+_}
 use native.Mathlib.Omega.{arith}
 use borrow.Author.Tests.{lt-leb, le-leb}
-use Rattle.frame_rows.proofs.has_room.Statement.{statement}
-use Rattle.frame_rows.proofs.has_room.Tie as tie
+use Rattle.frame_row.proofs.has_room.Statement.{statement}
+use Rattle.frame_row.proofs.has_room.Tie as tie
 
 returns : tie.Need-returns
 returns c = sym (lt-leb (c .before .args .kept + c .before .args .size) (c .before .args .room) (omega arith))

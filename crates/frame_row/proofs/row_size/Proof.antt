@@ -4,8 +4,8 @@ use borrow.Author.Tests.{eq-eqb, ne-eqb}
 use borrow.Author.Needs.{needs}
 use Rattle.line_code.specs.declared.Kind.the-variants.{VL}
 use Rattle.line_code.specs.LineCode.{kindNumber}
-use Rattle.frame_rows.proofs.row_size.Statement.{statement}
-use Rattle.frame_rows.proofs.row_size.Tie as tie
+use Rattle.frame_row.proofs.row_size.Statement.{statement}
+use Rattle.frame_row.proofs.row_size.Tie as tie
 
 returns : tie.Need-returns
 returns c = simp (c .before .before .enum-told .given .1, eq-eqb _ (kindNumber VL) (c .if1 .taken ∙ c .before .number .ensures))

@@ -1,6 +1,5 @@
 -- A row fits where the line buffer holds a whole body and there is room after the bytes kept; then it is put there.
 use mathlib.Core.Path.{refl, sym, subst, _∙_}
-use mathlib.Core.Bool.{true≢false}
 use Prim.Native.Nat.{ℕ, _+_, _≤_}
 use native.Mathlib.Omega.{arith}
 use borrow.Author.Tests.{leb-true, eq-eqb, ne-eqb}
@@ -8,9 +7,9 @@ use borrow.Author.Needs.{needs}
 use lib.Seq.{length-take-le}
 use lib.ListN.{length, take, length-take}
 use Rattle.profile.specs.Profile.{width}
-use Rattle.frame_rows.specs.FrameRows.{rowFits}
-use Rattle.frame_rows.proofs.keep.Statement.{statement}
-use Rattle.frame_rows.proofs.keep.Tie as tie
+use Rattle.frame_row.specs.FrameRow.{rowFits}
+use Rattle.frame_row.proofs.keep.Statement.{statement}
+use Rattle.frame_row.proofs.keep.Tie as tie
 
 returns : tie.Need-returns
 unfolding rowFits
@@ -18,7 +17,7 @@ returns c =
     let l = c .before .before .before .args .line .now in
     record {
       fitting = simp (ne-eqb (length (take width l)) width (λ e. omega (arith, e, length-take width l)));
-      ending = λ e. absurd (true≢false (sym e));
+      ending = refl;
       leaves = refl;
     }
 
@@ -49,7 +48,7 @@ returns-2 c =
     let l = size .before .before .before .before .args .line .now in
     record {
       fitting = simp (eq-eqb (length (take width l)) width (length-take-le width l (size .before .if1 .left)), ← size .row-size .ensures, ← test .before .has-room .ensures, test .if2 .taken);
-      ending = λ e. simp (size .row-size .ensures);
+      ending = simp (size .row-size .ensures);
       leaves = c .before .before .put-row .ensures;
     }
 
@@ -60,7 +59,7 @@ returns-3 c =
     let l = size .before .before .before .before .args .line .now in
     record {
       fitting = simp (eq-eqb (length (take width l)) width (length-take-le width l (size .before .if1 .left)), ← size .row-size .ensures, ← c .before .has-room .ensures, c .if2 .left);
-      ending = λ e. absurd (true≢false (sym e));
+      ending = refl;
       leaves = refl;
     }
 

@@ -4,9 +4,9 @@ use native.Mathlib.Omega.{arith}
 use borrow.Author.Needs.{needs}
 use Rattle.text.specs.PutLaws.{then}
 use Rattle.line_list.specs.Lines.{lineSize, inTwo}
-use Rattle.frame_rows.proofs.Answering.{put-whole}
-use Rattle.frame_rows.proofs.put_line.Statement.{statement}
-use Rattle.frame_rows.proofs.put_line.Tie as tie
+use Rattle.frame_row.proofs.Putting.{put-whole}
+use Rattle.frame_row.proofs.put_line.Statement.{statement}
+use Rattle.frame_row.proofs.put_line.Tie as tie
 
 returns : tie.Need-returns
 returns c =
