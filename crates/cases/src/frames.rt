@@ -1,9 +1,9 @@
 // The judge of frames (paper 01, 'Frames of profile 0').
 use crate::text::say;
 use crate::text::say_number;
-use frame::Borders;
 use frame::Judge;
 use frame::Ruling;
+use frame_layout::Borders;
 use profile::Profile;
 
 // A judge, and how many lines it answered Going since its last other answer.

@@ -4,7 +4,7 @@
 // its name, and nothing is compared. The lines of two frames are kept, and no more of the captures.
 use diff_summary::Summary;
 use frame_file::Asked;
-use frame_rows::Keeping;
+use frame_row::Keeping;
 use lent_buffer::Filled;
 use libc::STDOUT_FILENO;
 

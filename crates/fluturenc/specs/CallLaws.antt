@@ -30,7 +30,7 @@ use Rattle.run.specs.RunLaws.{none-taken}
 use Rattle.reader_laws.specs.Passes.{passes-test, Finishing, finish-state, finish-taken, finishing, fresh-ok, take-ok, finish-ok}
 use Rattle.reader_laws.specs.Passing.{Ok}
 use Rattle.reader_laws.specs.Bodies.{length-body}
-use Rattle.frame.specs.declared.Borders.the-variants.{Unsettled, On, Off}
+use Rattle.frame_layout.specs.declared.Borders.the-variants.{Unsettled, On, Off}
 use Rattle.frame.specs.declared.Judge.{Judge}
 use Rattle.frame.specs.declared.Judge.the-variants.{Waiting, Due}
 use Rattle.frame.specs.Frame.{judgeOf}

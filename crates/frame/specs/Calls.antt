@@ -10,12 +10,13 @@ use Rattle.line_code.specs.declared.Kind.{Kind}
 use Rattle.line_code.specs.LineCode.{kindNumber}
 use Rattle.line_number.specs.LineNumber.{greatest}
 use Rattle.profile.specs.declared.Profile.{Profile}
-use Rattle.frame.specs.declared.Borders.{Borders}
+use Rattle.frame_layout.specs.declared.Borders.{Borders}
 use Rattle.frame.specs.declared.Judge.{Judge}
 use Rattle.frame.specs.declared.Ruling.{Ruling}
 use Rattle.frame.specs.declared.Ruling.the-variants as ruling
 use Rattle.frame.specs.declared.Judged.{Judged}
-use Rattle.frame.specs.Frame.{layout, kindsOf, lastPlace, standsAt, numberDue, judgeOf, breaksFrame}
+use Rattle.frame_layout.specs.FrameLayout.{layout, kindsOf, lastPlace, standsAt, numberDue}
+use Rattle.frame.specs.Frame.{judgeOf, breaksFrame}
 
 -- what is handed to the judge
 pub record Line : Type 0 where

@@ -3,21 +3,13 @@
 // In: the profile; the kind number and number of each line given out, or kind 0 for a broken line (answers 1 to 7), in order. Out: beside
 // the next judge, Waiting, Going, Complete or a refusal: 18 the line is not the one due, 19 a broken line; and, changing nothing: 11 a
 // judge state that no calls can reach with this profile, 13 a kind above 5, 14 a number above 4095. After the EOF line a line's number is
-// not compared (paper 02, A3). A capture is judged by handing over what `handed_over` has of each answer. Cost: constant.
+// not compared (paper 02, A3). Cost: constant.
 ghost use mathlib.Core.Path.{_≡_};
-ghost use Rattle.frame.specs.Frame.{laidOut, bordersOn, bordersOff, layout, lastPlace, kindAt, standsAt, kindDue, numberDue, lineDue, settled, within, passes, refuses, opens, broken, onward, astray, first, whole, judgeOf, breaksFrame};
-ghost use Rattle.frame.specs.Handing.{isBrokenLine, handedOver};
-ghost use Rattle.frame.specs.Places.{kindWithin};
+ghost use Rattle.frame.specs.Frame.{within, passes, refuses, opens, broken, onward, astray, first, whole, judgeOf, breaksFrame};
+use frame_layout::Borders;
+use frame_layout::FIRST_BLACK;
 use line_code::Kind;
 use profile::Profile;
-use stream::Answer;
-
-// Whether a frame shows its borders: settled by the line at the place of the first visible line with borders on.
-pub enum Borders {
-    Unsettled,
-    On,
-    Off,
-}
 
 // Waiting for a frame; or within one, with the place that is due and the borders.
 pub enum Judge {
@@ -77,11 +69,12 @@ impl Judge {
         match self {
             Judge::Waiting => true,
             Judge::Due(place, borders) => {
-                let on = borders_on(profile);
+                let settling = frame_layout::settling_place(profile);
+                let last = frame_layout::last_place(profile);
                 match borders {
-                    Borders::Unsettled => within(FIRST_BLACK, on.from, place),
-                    Borders::On => within(on.from + 1, on.last, place),
-                    Borders::Off => within(on.from + 1, on.last, place),
+                    Borders::Unsettled => within(FIRST_BLACK, settling, place),
+                    Borders::On => within(settling + 1, last, place),
+                    Borders::Off => within(settling + 1, last, place),
                 }
             }
         }
@@ -106,36 +99,10 @@ impl Judge {
             Judge::Waiting => first(kind, number),
             Judge::Due(place, borders) => {
                 if borders.line_due(profile, place, kind, number) {
-                    return borders.onward(profile, place, kind);
+                    return onward(profile, place, borders, kind);
                 }
                 astray(kind, number)
             }
-        }
-    }
-}
-
-// What of an answer is handed to the judge: nothing, or a kind number and a number.
-pub enum Handed {
-    Nothing,
-    Line(u8, u16),
-}
-
-// Each line given out is handed over, and kind 0 for each answer 1 to 7.
-pub fn handed_over(answer: Answer) -> Handed
-    ensures { λ r. ⌜ r ≡ handedOver answer ⌝ }
-{
-    match answer {
-        Answer::Nothing => Handed::Nothing,
-        Answer::Line(facts) => {
-            let kind = facts.kind;
-            Handed::Line(kind.number(), facts.number)
-        }
-        Answer::Gap(_) => Handed::Nothing,
-        Answer::Refused(number) => {
-            if is_broken_line(number) {
-                return Handed::Line(Judge::BROKEN, 0);
-            }
-            Handed::Nothing
         }
     }
 }
@@ -150,192 +117,23 @@ pub fn breaks_frame(number: u8) -> bool
     number == refusal::BROKEN_LINE
 }
 
-// Whether an answer's refusal number, 1 to 7, is that of a broken line.
-fn is_broken_line(number: u8) -> bool
-    ensures { λ r. ⌜ r ≡ isBrokenLine number ⌝ }
-{
-    if number < refusal::DAMAGED_CODE {
-        return false;
-    }
-    number <= refusal::NO_END_OF_LINE
-}
-
-// The places of a frame's first line, and of its first BK and BL line.
+// The place of a frame's first line.
 const FIRST_PLACE: u16 = 0;
 
-const FIRST_BLACK: u16 = 1;
-
-const FIRST_BLANK: u16 = 3;
-
-// A frame's layout: the places of its first and last visible line, of its EOF line and of its last line.
-struct Layout {
-    from: u16,
-    to: u16,
-    end: u16,
-    last: u16,
-}
-
-// The place of a frame's last line.
-pub fn last_place(profile: Profile) -> u16
-    ensures { λ r. ⌜ r ≡ lastPlace profile ⌝ }
+// A line that is due.
+fn onward(profile: Profile, place: u16, borders: Borders, kind: u8) -> Judged
+    ensures { λ r. ⌜ r ≡ onward profile place borders kind ⌝ }
 {
-    let on = borders_on(profile);
-    on.last
-}
-
-// The layout of each profile, borders on and off.
-fn borders_on(profile: Profile) -> Layout
-    ensures { λ r. ⌜ r ≡ bordersOn profile ⌝ }
-{
-    match profile {
-        Profile::VV5404 => laid_out(10, 301, 302, 303),
-        Profile::VV5300 => laid_out(11, 134, 145, 146),
+    if place < frame_layout::last_place(profile) {
+        let next = borders.settled(profile, place, kind);
+        return Judged {
+            judge: Judge::Due(place + 1, next),
+            ruling: Ruling::Going,
+        };
     }
-}
-
-fn borders_off(profile: Profile) -> Layout
-    ensures { λ r. ⌜ r ≡ bordersOff profile ⌝ }
-{
-    match profile {
-        Profile::VV5404 => laid_out(12, 299, 300, 303),
-        Profile::VV5300 => laid_out(13, 132, 145, 146),
-    }
-}
-
-fn laid_out(from: u16, to: u16, end: u16, last: u16) -> Layout
-    ensures { λ r. ⌜ r ≡ laidOut from to end last ⌝ }
-{
-    Layout {
-        from,
-        to,
-        end,
-        last,
-    }
-}
-
-impl Layout {
-    // The kind at a place.
-    fn kind_within(self, place: u16) -> Kind
-        ensures { λ r. ⌜ r ≡ kindWithin self place ⌝ }
-    {
-        if place < FIRST_BLACK {
-            return Kind::SOF;
-        }
-        if place < FIRST_BLANK {
-            return Kind::BK;
-        }
-        if place < self.from {
-            return Kind::BL;
-        }
-        if place <= self.to {
-            return Kind::VL;
-        }
-        if place == self.end {
-            return Kind::EOF;
-        }
-        Kind::BL
-    }
-}
-
-impl Borders {
-    // The layout of a frame; until the borders are settled, that with borders on.
-    fn layout(self, profile: Profile) -> Layout
-        ensures { λ r. ⌜ r ≡ layout profile self ⌝ }
-    {
-        match self {
-            Borders::Unsettled => borders_on(profile),
-            Borders::On => borders_on(profile),
-            Borders::Off => borders_off(profile),
-        }
-    }
-
-    // Whether a line of this kind stands at a place.
-    fn stands_at(self, profile: Profile, place: u16, kind: u8) -> bool
-        ensures { λ r. ⌜ r ≡ standsAt profile self place kind ⌝ }
-    {
-        kind == self.kind_at(profile, place).number()
-    }
-
-    // The kind of the line at a place.
-    fn kind_at(self, profile: Profile, place: u16) -> Kind
-        ensures { λ r. ⌜ r ≡ kindAt profile self place ⌝ }
-    {
-        self.layout(profile).kind_within(place)
-    }
-
-    // Whether a line of this kind is due at a place.
-    fn kind_due(self, profile: Profile, place: u16, kind: u8) -> bool
-        ensures { λ r. ⌜ r ≡ kindDue profile self place kind ⌝ }
-    {
-        match self {
-            Borders::Unsettled => {
-                if Borders::On.stands_at(profile, place, kind) {
-                    return true;
-                }
-                Borders::Off.stands_at(profile, place, kind)
-            }
-            Borders::On => self.stands_at(profile, place, kind),
-            Borders::Off => self.stands_at(profile, place, kind),
-        }
-    }
-
-    // Whether this number is due at a place: the place's own, or, after the EOF line, any.
-    fn number_due(self, profile: Profile, place: u16, number: u16) -> bool
-        ensures { λ r. ⌜ r ≡ numberDue profile self place number ⌝ }
-    {
-        if number == place {
-            return true;
-        }
-        let layout = self.layout(profile);
-        place > layout.end
-    }
-
-    // Whether this is the line due at a place.
-    fn line_due(self, profile: Profile, place: u16, kind: u8, number: u16) -> bool
-        ensures { λ r. ⌜ r ≡ lineDue profile self place kind number ⌝ }
-    {
-        if self.kind_due(profile, place, kind) {
-            return self.number_due(profile, place, number);
-        }
-        false
-    }
-
-    // The borders after a line that was due.
-    fn settled(self, profile: Profile, place: u16, kind: u8) -> Borders
-        ensures { λ r. ⌜ r ≡ settled profile self place kind ⌝ }
-    {
-        match self {
-            Borders::Unsettled => {
-                let on = borders_on(profile);
-                if place < on.from {
-                    return Borders::Unsettled;
-                }
-                if kind == Kind::VL.number() {
-                    return Borders::On;
-                }
-                Borders::Off
-            }
-            Borders::On => Borders::On,
-            Borders::Off => Borders::Off,
-        }
-    }
-
-    // A line that is due.
-    fn onward(self, profile: Profile, place: u16, kind: u8) -> Judged
-        ensures { λ r. ⌜ r ≡ onward profile place self kind ⌝ }
-    {
-        let on = borders_on(profile);
-        if place < on.last {
-            let borders = self.settled(profile, place, kind);
-            return Judged {
-                judge: Judge::Due(place + 1, borders),
-                ruling: Ruling::Going,
-            };
-        }
-        Judged {
-            judge: Judge::Waiting,
-            ruling: Ruling::Complete,
-        }
+    Judged {
+        judge: Judge::Waiting,
+        ruling: Ruling::Complete,
     }
 }
 

@@ -15,17 +15,18 @@ use Rattle.line_code.specs.LineCode.{kindNumber}
 use Rattle.line_number.specs.LineNumber.{greatest}
 use Rattle.profile.specs.declared.Profile.the-variants.{VV5404}
 use Rattle.lent_buffer.specs.Filled.{Output, fitted, require}
-use Rattle.frame.specs.declared.Borders.{Borders}
-use Rattle.frame.specs.Frame.{kindAt}
+use Rattle.frame_layout.specs.declared.Borders.{Borders}
+use Rattle.frame_layout.specs.FrameLayout.{kindAt}
 use Rattle.frame.specs.Calls.{fits, laidFrom}
 use Rattle.line_list.specs.Lines.{FullLine, lineSize, fullLines, noneCut, asLent, risesFrom, rises, numbersSmall, kindsKnown}
 use Rattle.line_list.specs.LinesLaws.{FullBodies, unsized, sized, lines-lent}
 use Rattle.difference.specs.Difference.{differences, encodedAll}
 use Rattle.line_diff.specs.Compare.{compareOf}
-use Rattle.frame_rows.specs.declared.Keeping.the-variants.{WholeLines}
-use Rattle.frame_rows.specs.FrameRows.{Shown, rowOf, rowsFrom}
-use Rattle.frame_rows.specs.Gathering.{linesOf, CompletesRows, Every, WholeBody}
-use Rattle.frame_rows.specs.FrameRowsLaws.{stands}
+use Rattle.frame_row.specs.declared.Keeping.the-variants.{WholeLines}
+use Rattle.frame_row.specs.FrameRow.{rowOf}
+use Rattle.frame_rows.specs.FrameRows.{Shown}
+use Rattle.frame_rows_laws.specs.Gathering.{rowsFrom, linesOf, CompletesRows, Every, WholeBody}
+use Rattle.frame_rows_laws.specs.FrameRowsLaws.{stands}
 use Rattle.frame_diff_laws.specs.FrameList.{placedFrom, placedLines}
 
 -- The list of some lines.

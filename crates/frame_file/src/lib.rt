@@ -7,7 +7,7 @@ ghost use Prim.Native.Nat.{_≤_};
 ghost use lib.ListN.{length};
 use command::Word;
 use frame_grabber::Grabber;
-use frame_rows::Keeping;
+use frame_row::Keeping;
 use frame_rows::Progress;
 use libc::SEEK_END;
 use profile::Profile;

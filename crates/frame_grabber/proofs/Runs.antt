@@ -34,7 +34,7 @@ use Rattle.frame_rows.specs.declared.Progress.{Progress}
 use Rattle.frame_rows.specs.declared.Progress.the-variants as progress
 use Rattle.frame_rows.specs.FrameRows.{AfterCall, Output, outputOf, quiet, takeOf}
 use Rattle.frame_rows.specs.FrameRows as rows
-use Rattle.frame_rows.specs.Gathering.{call}
+use Rattle.frame_rows_laws.specs.Gathering.{call}
 use Rattle.frame_grabber.specs.declared.Grabber.{Grabber}
 use Rattle.frame_grabber.specs.FrameGrabber.{blank, given, isSaid, Sought, sought, seek, After, leaving, grabOf, Grabs}
 use Rattle.frame_grabber.specs.SeekLaws.{not-said}

@@ -11,10 +11,10 @@ use Rattle.stream.specs.Answers.{answerFor, bufferAfter}
 use Rattle.reader.specs.declared.Reader.{Reader}
 use Rattle.reader_head.specs.Head.{passes}
 use Rattle.reader.specs.Reader.{Took, freshReader, feedOf}
-use Rattle.frame_rows.specs.declared.Keeping.{Keeping}
+use Rattle.frame_row.specs.declared.Keeping.{Keeping}
 use Rattle.frame_rows.specs.declared.Gatherer.{Gatherer}
 use Rattle.frame_rows.specs.FrameRows.{Output, nothing, complete, refused, outputOf, AfterCall, fresh, quiet}
-use Rattle.frame_rows.specs.Gathering.{Given, call}
+use Rattle.frame_rows_laws.specs.Gathering.{Given, call}
 use Rattle.frame_grabber.specs.declared.Grabber.{Grabber}
 use Rattle.frame_grabber.specs.declared.Grabbed.{Grabbed}
 

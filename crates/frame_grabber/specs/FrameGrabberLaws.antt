@@ -19,17 +19,18 @@ use Rattle.reader.specs.Reader.{Took, freshReader, taking, feedOf}
 use Rattle.mark_answer.specs.Sound.{Sound, sound-nothing, sound-line, sound-gap, sound-refused}
 use Rattle.reader.specs.ReaderLaws.{take-profile, take-sound}
 use Rattle.reader_laws.specs.Passes.{passes-test, fresh-ok, Feeding, feed-state, feed-nibble, feed-room, feed-taken, feeding}
-use Rattle.frame.specs.declared.Handed.the-variants as hand
+use Rattle.frame_handing.specs.declared.Handed.the-variants as hand
 use Rattle.frame.specs.Frame.{brokenKind}
-use Rattle.frame.specs.Handing.{isBrokenLine, asLines, handedLines}
-use Rattle.frame_rows.specs.declared.Order.{Order}
-use Rattle.frame_rows.specs.declared.Keeping.{Keeping}
-use Rattle.frame_rows.specs.declared.Keeping.the-variants.{VisiblePixels}
-use Rattle.frame_rows.specs.FrameRows.{Shown, complete, isVisible}
+use Rattle.frame_handing.specs.Handing.{isBrokenLine, asLines, handedLines}
+use Rattle.frame_row.specs.declared.Order.{Order}
+use Rattle.frame_row.specs.declared.Keeping.{Keeping}
+use Rattle.frame_row.specs.declared.Keeping.the-variants.{VisiblePixels}
+use Rattle.frame_row.specs.FrameRow.{isVisible}
+use Rattle.frame_rows.specs.FrameRows.{Shown, complete}
 use Rattle.frame_rows.specs.FrameRows as rows
-use Rattle.frame_rows.specs.Gathering.{call, start, isRefused, unlessRefused, shown, taken, Laid, Every}
-use Rattle.frame_rows.specs.FrameRowsLaws.{complete-rows}
-use Rattle.frame_rows.specs.PictureLaws.{rows-written}
+use Rattle.frame_rows_laws.specs.Gathering.{call, start, isRefused, unlessRefused, shown, taken, Laid, Every}
+use Rattle.frame_rows_laws.specs.FrameRowsLaws.{complete-rows}
+use Rattle.frame_rows_laws.specs.PictureLaws.{rows-written}
 use Rattle.frame_grabber.specs.FrameGrabber.{freshGrabber, blank, given, seek, After, grabOf}
 use Rattle.frame_grabber.specs.Pieces.{joined, grabPieces, givens, linesIn, FrameFound, Pictured}
 use Rattle.frame_grabber.specs.SeekLaws.{seeks}

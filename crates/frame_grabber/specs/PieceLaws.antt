@@ -17,7 +17,7 @@ use Rattle.frame_rows.specs.declared.Progress.{Progress}
 use Rattle.frame_rows.specs.declared.Progress.the-variants as progress
 use Rattle.frame_rows.specs.FrameRows.{outputOf, quiet}
 use Rattle.frame_rows.specs.FrameRows as rows
-use Rattle.frame_rows.specs.Gathering.{calls}
+use Rattle.frame_rows_laws.specs.Gathering.{calls}
 use Rattle.frame_grabber.specs.declared.Grabber.{Grabber}
 use Rattle.frame_grabber.specs.declared.Grabbed.{Grabbed}
 use Rattle.frame_grabber.specs.FrameGrabber.{isSaid, Sought, sought, seek, After, leaving, failing, grabOf, Grabs}

@@ -10,11 +10,11 @@ use Rattle.lent_buffer.specs.Filled.{used}
 use Rattle.reader.specs.declared.Reader.{Reader}
 use Rattle.reader.specs.Reader.{freshReader, feedOf}
 use Rattle.pgm.specs.Pgm.{imageOf, writeOf}
-use Rattle.frame_rows.specs.declared.Order.{Order}
-use Rattle.frame_rows.specs.declared.Keeping.{Keeping}
-use Rattle.frame_rows.specs.declared.Keeping.the-variants.{VisiblePixels}
+use Rattle.frame_row.specs.declared.Order.{Order}
+use Rattle.frame_row.specs.declared.Keeping.{Keeping}
+use Rattle.frame_row.specs.declared.Keeping.the-variants.{VisiblePixels}
 use Rattle.frame_rows.specs.FrameRows.{Shown, nothing, quiet}
-use Rattle.frame_rows.specs.Gathering.{Given, calls, start, taken, pictureOf, CompletesRows, Laid, Every}
+use Rattle.frame_rows_laws.specs.Gathering.{Given, calls, start, taken, pictureOf, CompletesRows, Laid, Every}
 use Rattle.frame_grabber.specs.declared.Grabber.{Grabber}
 use Rattle.frame_grabber.specs.FrameGrabber.{given, isSaid, After, grabOf}
 

@@ -17,12 +17,13 @@ use Rattle.frame.specs.declared.Ruling.{Ruling}
 use Rattle.frame.specs.declared.Ruling.the-variants as ruling
 use Rattle.frame.specs.Calls.{called}
 use Rattle.frame.specs.Frame.{breaksFrame}
-use Rattle.frame.specs.Handing.{handedLines}
+use Rattle.frame_handing.specs.Handing.{handedLines}
 use Rattle.frame_rows.specs.declared.Gatherer.{Gatherer}
 use Rattle.frame_rows.specs.FrameRows.{Output, Shown, nothing, complete, refused, quiet}
 use Rattle.frame_rows.specs.FrameRows as rows
-use Rattle.frame_rows.specs.Gathering.{Given, call, calls, shown}
-use Rattle.frame_rows.specs.FrameRowsLaws.{row-fits, with-row-length, Hands, none, one, hands}
+use Rattle.frame_row.specs.FrameRow.{rowSize, rowFits, withRow}
+use Rattle.frame_rows_laws.specs.Gathering.{Given, call, calls, shown}
+use Rattle.frame_rows_laws.specs.FrameRowsLaws.{row-fits, with-row-length, Hands, none, one, hands}
 use Rattle.frame_grabber.specs.FrameGrabber.{given, isSaid, Sought, sought, seek}
 use Rattle.frame_grabber.specs.Pieces.{fedAll, givens}
 
@@ -134,7 +135,7 @@ either-sized false x y h g = g
 
 row-sized : (g : Gatherer) (j : Judge) (kept place kind : ℕ) (body held : List ℕ) → Sized (rows.onward g j kept place kind body held .output)
 unfolding rows.onward
-row-sized g j kept place kind body held = either-sized (rows.rowFits (g .keeping) kept kind body held) _ (rows.refuses g noRoom held) (λ _. tt) tt
+row-sized g j kept place kind body held = either-sized (rowFits (g .keeping) kept kind body held) _ (rows.refuses g noRoom held) (λ _. tt) tt
 
 handed-sized : (g : Gatherer) (l : Shown) (held : List ℕ) → Sized (rows.handed g l held .output)
 unfolding rows.handed rows.completed rows.refusedBy rows.afterBreak
@@ -144,10 +145,10 @@ handed-sized g l held = by (called VV5404 (g .judge) (l .given) .ruling)
     j = called VV5404 (g .judge) (l .given) .judge
 
     n : ℕ
-    n = g .kept + rows.rowSize (g .keeping) (l .given .kind)
+    n = g .kept + rowSize (g .keeping) (l .given .kind)
 
     last : List ℕ
-    last = rows.withRow (g .keeping) (g .kept) (rows.placeDue (g .judge)) (l .given .kind) (l .body) held
+    last = withRow (g .keeping) (g .kept) (rows.placeDue (g .judge)) (l .given .kind) (l .body) held
 
     broken : (i : Judge) → Sized (rows.afterBreak g i (l .given .kind) (l .body) held .output)
     broken Waiting = tt
@@ -157,7 +158,7 @@ handed-sized g l held = by (called VV5404 (g .judge) (l .given) .ruling)
     by ruling.Waiting = tt
     by ruling.Going = row-sized g j (g .kept) (rows.placeDue (g .judge)) (l .given .kind) (l .body) held
     by ruling.Complete =
-        either-sized (rows.rowFits (g .keeping) (g .kept) (l .given .kind) (l .body) held) (rows.completing g j n last) (rows.refuses g noRoom held)
+        either-sized (rowFits (g .keeping) (g .kept) (l .given .kind) (l .body) held) (rows.completing g j n last) (rows.refuses g noRoom held)
         (λ e. length-take-le n last (omega (arith, row-fits (g .keeping) (g .kept) (l .given .kind) (l .body) held e .1, with-row-length (g .keeping) (g .kept) (rows.placeDue (g .judge)) (l .given .kind) (l .body) held e))) tt
     by (ruling.Refused m) = either-sized (breaksFrame m) (rows.afterBreak g j (l .given .kind) (l .body) held) (rows.refuses g m held) (λ _. broken j) tt
 

@@ -1,29 +1,35 @@
 -- Laws of frames: the judge's test is true of exactly the states that calls reach, a whole frame is Complete, and nothing else is.
--- The number of a line is taken as a variable, and the judge's answer to it computed at each place (`Answers`).
+-- Of a frame's line at a place, any one, the judge's answer is known for every number (`Answers`).
 use mathlib.Core.Path.{_≡_, refl, sym, ap, ap₂, subst, _∙_}
 use mathlib.Core.Bool.{Bool, true, false, _&&_, _||_, cond, true≢false}
 use mathlib.Core.List.{List, [], _∷_, _++_, append-nil, append-assoc}
 use Prim.Native.Nat.{ℕ, zero, suc, _+_, _-_, _≤_, _<_}
+use native.Mathlib.Nat.{not-suc-le-zero, le-of-suc-le-suc}
 use native.Mathlib.Omega.{arith}
 use native.Mathlib.Numerals.{add-one}
-use borrow.Author.Tests.{eqb-true, leb-true, ltb-true, ltb-false, le-leb, lt-leb}
+use borrow.Author.Tests.{eqb-true, leb-true, leb-false, ltb-true, ltb-false, le-leb, lt-leb, lt-ltb, le-ltb, eq-eqb}
 use lib.Dec.{eqb, leb, ltb, lit≤}
-use lib.ListN.{length, length-append, replicate, take}
+use lib.ListN.{length, getD, length-append, length-take, length-replicate, replicate, take}
 use Rattle.bits.specs.Every.{and-left, and-right, and-both}
 use Rattle.refusal.specs.Refusal.{badKind, numberTooLarge, notTheLineDue, brokenLine}
-use Rattle.line_code.specs.declared.Kind.the-variants.{BL, VL, SOF, EOF}
+use Rattle.line_code.specs.declared.Kind.{Kind}
+use Rattle.line_code.specs.declared.Kind.the-variants.{BL, BK, VL, SOF, EOF}
 use Rattle.line_code.specs.LineCode.{kindNumber}
 use Rattle.line_number.specs.LineNumber.{greatest}
 use Rattle.profile.specs.declared.Profile.{Profile}
 use Rattle.profile.specs.declared.Profile.the-variants.{VV5404, VV5300}
-use Rattle.frame.specs.declared.Borders.{Borders}
-use Rattle.frame.specs.declared.Borders.the-variants.{Unsettled, On, Off}
+use Rattle.frame_layout.specs.declared.Borders.{Borders}
+use Rattle.frame_layout.specs.declared.Borders.the-variants.{Unsettled, On, Off}
 use Rattle.frame.specs.declared.Judge.{Judge}
 use Rattle.frame.specs.declared.Judge.the-variants.{Waiting, Due}
 use Rattle.frame.specs.declared.Ruling.{Ruling}
 use Rattle.frame.specs.declared.Ruling.the-variants as ruling
 use Rattle.frame.specs.declared.Judged.{Judged}
-use Rattle.frame.specs.Frame.{layout, kindsOf, lastPlace, endPlace, settlingPlace, kindAt, standsAt, kindDue, numberDue, lineDue, settled, within, passes, gives, refuses, opens, begun, brokenKind, broken, astray, whole, judgeOf}
+use Rattle.frame_layout.specs.FrameLayout.{layout, kindsOf, lastPlace, endPlace, settlingPlace, kindAt, standsAt, kindDue, numberDue, lineDue, settled}
+use Rattle.frame.specs.Frame.{within, passes, gives, refuses, opens, begun, brokenKind, broken, onward, astray, whole, judgeOf}
+use Rattle.frame_layout.specs.Places.{kindWithin}
+use Rattle.frame_layout.specs.PlaceLaws.{kind-by-range, blank-after}
+use Rattle.frame_layout.specs.FrameLength.{frame-length}
 use Rattle.frame.specs.Calls.{Line, line, called, after, rulings, isComplete, accepts, acceptedOne, accepted, fits, laidFrom, FirstLines, IsFrame, numberedFrom, frameLines}
 use Rattle.bits.specs.Agree.{agree}
 
@@ -37,6 +43,28 @@ settling-late VV5300 = lit≤ tt
 pub settling-early : (p : Profile) → settlingPlace p < lastPlace p
 settling-early VV5404 = lit≤ tt
 settling-early VV5300 = lit≤ tt
+
+-- the borders are settled before the EOF line, which is not after the last
+settling-before-end : (p : Profile) (b : Borders) → settlingPlace p < endPlace p b
+settling-before-end VV5404 Unsettled = lit≤ tt
+settling-before-end VV5404 On = lit≤ tt
+settling-before-end VV5404 Off = lit≤ tt
+settling-before-end VV5300 Unsettled = lit≤ tt
+settling-before-end VV5300 On = lit≤ tt
+settling-before-end VV5300 Off = lit≤ tt
+
+end-before : (p : Profile) (b : Borders) → endPlace p b ≤ lastPlace p
+end-before VV5404 Unsettled = lit≤ tt
+end-before VV5404 On = lit≤ tt
+end-before VV5404 Off = lit≤ tt
+end-before VV5300 Unsettled = lit≤ tt
+end-before VV5300 On = lit≤ tt
+end-before VV5300 Off = lit≤ tt
+
+-- each place is a number of a line
+last-small : (p : Profile) → lastPlace p ≤ greatest
+last-small VV5404 = lit≤ tt
+last-small VV5300 = lit≤ tt
 
 -- below the settling place the two layouts agree, and at it they are VL and BL
 pub alike : (p : Profile) → ((place : ℕ) → place < settlingPlace p → kindAt p On place ≡ kindAt p Off place) × (kindAt p On (settlingPlace p) ≡ VL) × (kindAt p Off (settlingPlace p) ≡ BL)
@@ -62,40 +90,116 @@ end-place VV5300 Unsettled = refl
 end-place VV5300 On = refl
 end-place VV5300 Off = refl
 
+-- an SOF stands at no place but the first, in either layout
+abbrev isSof : Kind → Bool
+isSof k = eqb (kindNumber SOF) (kindNumber k)
+
+sof-apart : (p : Profile) (b : Borders) (place : ℕ) → isSof (kindAt p b (suc place)) ≡ false
+unfolding kindWithin
+sof-apart p b place =
+    ap isSof (kind-by-range p b (suc place))
+    ∙ simp (le-ltb (suc place) 1 (omega arith))
+    (by (ltb (suc place) 3) (ltb (suc place) (layout p b .from)) (leb (suc place) (layout p b .to)) (eqb (suc place) (layout p b .end)))
+  where
+    by : (black blank visible end : Bool) → isSof (cond black BK (cond blank BL (cond visible VL (cond end EOF BL)))) ≡ false
+    by true blank visible end = refl
+    by false true visible end = refl
+    by false false true end = refl
+    by false false false true = refl
+    by false false false false = refl
+
 -- an SOF is due at no place but the first
 pub sof-not-due : (p : Profile) (b : Borders) (place : ℕ) → place < lastPlace p → kindDue p b (suc place) (kindNumber SOF) ≡ false
+sof-not-due p Unsettled place h = ap₂ _||_ (sof-apart p On place) (sof-apart p Off place)
+sof-not-due p On place h = sof-apart p On place
+sof-not-due p Off place h = sof-apart p Off place
+
+-- Lines as laid out.
+
+-- a line of the kind at a place, with a number that is due there
+kind-fits : (p : Profile) (b : Borders) (place : ℕ) (k : Kind) (n : ℕ) → kindAt p b place ≡ k → numberDue p b place n ≡ true → n ≤ greatest
+    → fits p b place (line (kindNumber k) n) ≡ true
+kind-fits p b place k n e d h = and-both _ _ (eq-eqb _ _ (ap kindNumber (sym e))) (and-both _ _ d (le-leb n greatest h))
+
+-- a place's own number is due there
+own-number : (p : Profile) (b : Borders) (place : ℕ) → numberDue p b place place ≡ true
+own-number p b place = ap (λ (t : Bool). t || ltb (endPlace p b) place) (eq-eqb place place refl)
+
+-- lines of the kinds at the places from one on, each numbered with its place
+laid-counted : (p : Profile) (b : Borders) (place : ℕ) (ks : List Kind)
+    → ((i at : ℕ) → at ≡ place + i → i < length ks → kindAt p b at ≡ getD ks i BL) → place + length ks ≤ greatest + 1 → laidFrom p b place (numberedFrom place ks) ≡ true
+laid-counted p b place [] e h = refl
+laid-counted p b place (k ∷ ks) e h =
+    and-both _ _ (kind-fits p b place k place (e 0 place (omega arith) (omega arith)) (own-number p b place) (omega arith))
+    (subst (λ (i : ℕ). laidFrom p b (suc place) (numberedFrom i ks) ≡ true) (sym (add-one place))
+    (laid-counted p b (suc place) ks (λ i at q l. e (suc i) at (omega arith) (omega arith)) (omega arith)))
+
+-- lines after the EOF line, with its number
+laid-held : (p : Profile) (b : Borders) (place n : ℕ) → endPlace p b < place → laidFrom p b place (replicate n (line (kindNumber BL) (endPlace p b))) ≡ true
+laid-held p b place zero h = refl
+laid-held p b place (suc n) h =
+    and-both _ _ (kind-fits p b place BL (endPlace p b) (blank-after p b place h) (or-right (eqb (endPlace p b) place) _ (lt-ltb (endPlace p b) place h)) (end-small p b))
+    (laid-held p b (suc place) n (omega arith))
+  where
+    or-right : (a t : Bool) → t ≡ true → (a || t) ≡ true
+    or-right true t e = refl
+    or-right false t e = e
+
+    end-small : (p : Profile) (b : Borders) → endPlace p b ≤ greatest
+    end-small p b = omega (arith, end-before p b, last-small p)
+
+laid-append : (p : Profile) (b : Borders) (place end : ℕ) (ls ms : List Line) → place + length ls ≡ end → laidFrom p b place ls ≡ true → laidFrom p b end ms ≡ true
+    → laidFrom p b place (ls ++ ms) ≡ true
+laid-append p b place end [] ms e h g = subst (λ (i : ℕ). laidFrom p b i ms ≡ true) (omega arith) g
+laid-append p b place end (l ∷ ls) ms e h g =
+    and-both (fits p b place l) _ (and-left (fits p b place l) _ h) (laid-append p b (suc place) end ls ms (omega arith) (and-right (fits p b place l) _ h) g)
+
+length-numbered : (n : ℕ) (ks : List Kind) → length (numberedFrom n ks) ≡ length ks
+length-numbered n [] = refl
+length-numbered n (k ∷ ks) = ap suc (length-numbered (n + 1) ks)
+
+getD-take : (n i : ℕ) (ks : List Kind) → i < n → getD (take n ks) i BL ≡ getD ks i BL
+getD-take zero i ks h = absurd (not-suc-le-zero h)
+getD-take (suc n) i [] h = refl
+getD-take (suc n) zero (k ∷ ks) h = refl
+getD-take (suc n) (suc i) (k ∷ ks) h = getD-take n i ks (le-of-suc-le-suc h)
+
+kind-listed : (p : Profile) (b : Borders) (i at : ℕ) → at ≡ 0 + i → kindAt p b at ≡ getD (kindsOf (layout p b)) i BL
 unfolding kindAt
-sof-not-due VV5404 Unsettled = agree (λ (n : ℕ). kindDue VV5404 Unsettled (suc n) (kindNumber SOF)) (λ (n : ℕ). false) (lastPlace VV5404) refl
-sof-not-due VV5404 On = agree (λ (n : ℕ). kindDue VV5404 On (suc n) (kindNumber SOF)) (λ (n : ℕ). false) (lastPlace VV5404) refl
-sof-not-due VV5404 Off = agree (λ (n : ℕ). kindDue VV5404 Off (suc n) (kindNumber SOF)) (λ (n : ℕ). false) (lastPlace VV5404) refl
-sof-not-due VV5300 Unsettled = agree (λ (n : ℕ). kindDue VV5300 Unsettled (suc n) (kindNumber SOF)) (λ (n : ℕ). false) (lastPlace VV5300) refl
-sof-not-due VV5300 On = agree (λ (n : ℕ). kindDue VV5300 On (suc n) (kindNumber SOF)) (λ (n : ℕ). false) (lastPlace VV5300) refl
-sof-not-due VV5300 Off = agree (λ (n : ℕ). kindDue VV5300 Off (suc n) (kindNumber SOF)) (λ (n : ℕ). false) (lastPlace VV5300) refl
+kind-listed p b i at e =
+    let q : at ≡ i = omega (arith, e) in
+    ap (λ (j : ℕ). getD (kindsOf (layout p b)) j BL) q
 
 -- a frame may count on to its last line
 pub frame-counted : (p : Profile) (b : Borders) → IsFrame p b (frameLines p b)
-unfolding kindAt
-frame-counted VV5404 Unsettled = (refl, refl)
-frame-counted VV5404 On = (refl, refl)
-frame-counted VV5404 Off = (refl, refl)
-frame-counted VV5300 Unsettled = (refl, refl)
-frame-counted VV5300 On = (refl, refl)
-frame-counted VV5300 Off = (refl, refl)
+frame-counted p b = (
+  length-numbered 0 (kindsOf (layout p b)) ∙ frame-length p b,
+  laid-counted p b 0 (kindsOf (layout p b)) (λ i at e h. kind-listed p b i at e) (omega (arith, frame-length p b, last-small p)),
+)
 
 -- or hold the EOF line's number
 pub frame-held : (p : Profile) (b : Borders)
     → IsFrame p b (numberedFrom 0 (take (endPlace p b + 1) (kindsOf (layout p b))) ++ replicate (lastPlace p - endPlace p b) (line (kindNumber BL) (endPlace p b)))
-unfolding kindAt
-frame-held VV5404 Unsettled = (refl, refl)
-frame-held VV5404 On = (refl, refl)
-frame-held VV5404 Off = (refl, refl)
-frame-held VV5300 Unsettled = (refl, refl)
-frame-held VV5300 On = (refl, refl)
-frame-held VV5300 Off = (refl, refl)
+frame-held p b =
+    let ks : List Kind = take (endPlace p b + 1) (kindsOf (layout p b)) in
+    let ms : List Line = replicate (lastPlace p - endPlace p b) (line (kindNumber BL) (endPlace p b)) in
+    let e : length ks ≡ endPlace p b + 1 = length-take (endPlace p b + 1) (kindsOf (layout p b)) ∙ omega (arith, frame-length p b, end-before p b) in
+    let l : length (numberedFrom 0 ks) ≡ endPlace p b + 1 = length-numbered 0 ks ∙ e in
+    let m : length ms ≡ lastPlace p - endPlace p b = length-replicate (lastPlace p - endPlace p b) (line (kindNumber BL) (endPlace p b)) in (
+      length-append (numberedFrom 0 ks) ms ∙ omega (arith, l, m, end-before p b),
+      laid-append p b 0 (endPlace p b + 1) (numberedFrom 0 ks) ms (omega (arith, l))
+          (laid-counted p b 0 ks
+          (λ i at q h. kind-listed p b i at q ∙ sym (getD-take (endPlace p b + 1) i (kindsOf (layout p b)) (omega (arith, e))))
+          (omega (arith, e, end-before p b, last-small p)))
+          (laid-held p b (endPlace p b + 1) (lastPlace p - endPlace p b) (omega arith)),
+    )
 
 -- the line at a place, and the lines before it
 abbrev lineAt : Profile → Borders → ℕ → Line
 lineAt p b place = line (kindNumber (kindAt p b place)) place
+
+own-fits : (p : Profile) (b : Borders) (place : ℕ) → place ≤ greatest → fits p b place (lineAt p b place) ≡ true
+own-fits p b place h = kind-fits p b place (kindAt p b place) place refl (own-number p b place) h
 
 abbrev linesBefore : Profile → Borders → ℕ → List Line
 linesBefore p b zero = []
@@ -142,7 +246,7 @@ accepted-snoc p j (a ∷ ls) l =
     ap (λ (t : List Line). acceptedOne p j a ++ t) (accepted-snoc p (called p j a .judge) ls l)
     ∙ sym (append-assoc (acceptedOne p j a) (accepted p (called p j a .judge) ls) (acceptedOne p (after p (called p j a .judge) ls) l))
 
--- The states that calls reach.
+-- The judge at each place of a frame.
 
 -- the borders that a frame settles
 abbrev shown : Borders → Borders
@@ -150,47 +254,18 @@ shown Unsettled = On
 shown On = On
 shown Off = Off
 
+-- the borders as the judge has them at a place: unsettled up to the settling place
+abbrev bordersAt : Profile → Borders → ℕ → Borders
+bordersAt p b place = cond (leb place (settlingPlace p)) Unsettled (shown b)
+
 -- the judge at a place of a frame
 abbrev judgeAt : Profile → Borders → ℕ → Judge
 judgeAt p b zero = Waiting
-judgeAt p b (suc n) = Due (suc n) (cond (leb (suc n) (settlingPlace p)) Unsettled (shown b))
+judgeAt p b (suc n) = Due (suc n) (bordersAt p b (suc n))
 
 judge-begun : (p : Profile) (b : Borders) → judgeAt p b 1 ≡ begun
 judge-begun VV5404 b = refl
 judge-begun VV5300 b = refl
-
--- the judge after the line at a place
-abbrev judgeAfter : Profile → Borders → ℕ → Judge
-judgeAfter p b place = called p (judgeAt p b place) (lineAt p b place) .judge
-
-going : (p : Profile) (b : Borders) (place : ℕ) → place < lastPlace p → judgeAfter p b place ≡ judgeAt p b (suc place)
-unfolding kindAt judgeOf
-going VV5404 Unsettled = agree (judgeAfter VV5404 Unsettled) (λ (n : ℕ). judgeAt VV5404 Unsettled (suc n)) (lastPlace VV5404) refl
-going VV5404 On = agree (judgeAfter VV5404 On) (λ (n : ℕ). judgeAt VV5404 On (suc n)) (lastPlace VV5404) refl
-going VV5404 Off = agree (judgeAfter VV5404 Off) (λ (n : ℕ). judgeAt VV5404 Off (suc n)) (lastPlace VV5404) refl
-going VV5300 Unsettled = agree (judgeAfter VV5300 Unsettled) (λ (n : ℕ). judgeAt VV5300 Unsettled (suc n)) (lastPlace VV5300) refl
-going VV5300 On = agree (judgeAfter VV5300 On) (λ (n : ℕ). judgeAt VV5300 On (suc n)) (lastPlace VV5300) refl
-going VV5300 Off = agree (judgeAfter VV5300 Off) (λ (n : ℕ). judgeAt VV5300 Off (suc n)) (lastPlace VV5300) refl
-
-reach : (p : Profile) (b : Borders) (place : ℕ) → place ≤ lastPlace p → after p Waiting (linesBefore p b place) ≡ judgeAt p b place
-reach p b zero h = refl
-reach p b (suc n) h =
-    after-snoc p Waiting (linesBefore p b n) (lineAt p b n)
-    ∙ ap (λ (j : Judge). called p j (lineAt p b n) .judge) (reach p b n (omega arith))
-    ∙ going p b n (omega arith)
-
--- a judge that passes is reached by the first lines of a frame
-pub passes-reached : (p : Profile) (j : Judge) → passes p j ≡ true → (ls : List Line) × (after p Waiting ls ≡ j)
-passes-reached p Waiting h = ([], refl)
-passes-reached p (Due zero b) h = absurd (let z = passes-low p zero b h in omega arith)
-passes-reached p (Due (suc n) Unsettled) h =
-    (linesBefore p On (suc n), reach p On (suc n) (passes-high p (suc n) Unsettled h) ∙ simp (le-leb (suc n) (settlingPlace p) (within-high 1 (settlingPlace p) (suc n) h)))
-passes-reached p (Due (suc n) On) h =
-    (linesBefore p On (suc n), reach p On (suc n) (passes-high p (suc n) On h) ∙ simp (lt-leb (suc n) (settlingPlace p) (omega (arith, within-low (settlingPlace p + 1) (lastPlace p) (suc n) h))))
-passes-reached p (Due (suc n) Off) h =
-    (linesBefore p Off (suc n), reach p Off (suc n) (passes-high p (suc n) Off h) ∙ simp (lt-leb (suc n) (settlingPlace p) (omega (arith, within-low (settlingPlace p + 1) (lastPlace p) (suc n) h))))
-
--- A whole frame.
 
 -- an SOF numbered 0 within a frame, after the EOF line too, is not due and opens a new frame
 pub sof-within : (p : Profile) (place : ℕ) (b : Borders) → passes p (Due place b) ≡ true → called p (Due place b) (line (kindNumber SOF) 0) ≡ refuses begun notTheLineDue
@@ -225,32 +300,118 @@ first-is p b l h =
 abbrev byNumber : Profile → Borders → ℕ → Judged → ℕ → Judged
 byNumber p b place r n = cond (leb n greatest) (cond (numberDue p b place n) r (astray (kindNumber (kindAt p b place)) n)) (refuses (judgeAt p b place) numberTooLarge)
 
-abbrev answered : Profile → Borders → ℕ → ℕ → Judged
-answered p b place n = judgeOf p (judgeAt p b place) (kindNumber (kindAt p b place)) n
-
 abbrev Answers : Profile → Borders → ℕ → Judged → Type 0
-Answers p b place r = answered p b place ≡ byNumber p b place r
+Answers p b place r = (n : ℕ) → judgeOf p (judgeAt p b place) (kindNumber (kindAt p b place)) n ≡ byNumber p b place r n
+
+kind-known : (k : Kind) → leb (kindNumber k) (kindNumber EOF) ≡ true
+kind-known BL = refl
+kind-known BK = refl
+kind-known VL = refl
+kind-known SOF = refl
+kind-known EOF = refl
+
+kind-unbroken : (k : Kind) → eqb (kindNumber k) brokenKind ≡ false
+kind-unbroken BL = refl
+kind-unbroken BK = refl
+kind-unbroken VL = refl
+kind-unbroken SOF = refl
+kind-unbroken EOF = refl
+
+-- a kind stands where it is laid out; so it is due there, whatever the borders were taken for
+stands-own : (p : Profile) (b : Borders) (place : ℕ) → standsAt p b place (kindNumber (kindAt p b place)) ≡ true
+stands-own p b place = eq-eqb (kindNumber (kindAt p b place)) (kindNumber (kindAt p b place)) refl
+
+own-due : (p : Profile) (b : Borders) (place : ℕ) → kindDue p Unsettled place (kindNumber (kindAt p b place)) ≡ true
+unfolding kindAt
+own-due p Unsettled place = ap (λ (t : Bool). t || standsAt p Off place (kindNumber (kindAt p On place))) (stands-own p On place)
+own-due p On place = ap (λ (t : Bool). t || standsAt p Off place (kindNumber (kindAt p On place))) (stands-own p On place)
+own-due p Off place = ap (λ (t : Bool). standsAt p On place (kindNumber (kindAt p Off place)) || t) (stands-own p Off place) ∙ or-true (standsAt p On place (kindNumber (kindAt p Off place)))
+  where
+    or-true : (t : Bool) → (t || true) ≡ true
+    or-true true = refl
+    or-true false = refl
+
+shown-due : (p : Profile) (b : Borders) (place : ℕ) → kindDue p (shown b) place (kindNumber (kindAt p b place)) ≡ true
+unfolding kindAt
+shown-due p Unsettled place = stands-own p On place
+shown-due p On place = stands-own p On place
+shown-due p Off place = stands-own p Off place
+
+shown-end : (p : Profile) (b : Borders) → endPlace p (shown b) ≡ endPlace p b
+shown-end p Unsettled = refl
+shown-end p On = refl
+shown-end p Off = refl
+
+-- the line laid out at a place is due there, and passes the judge's own test, while the borders are unsettled and after
+due-at : (p : Profile) (b : Borders) (place : ℕ) → 1 ≤ place → place ≤ lastPlace p
+    → (passes p (Due place (bordersAt p b place)) ≡ true)
+    × ((n : ℕ) → lineDue p (bordersAt p b place) place (kindNumber (kindAt p b place)) n ≡ numberDue p b place n)
+due-at p b place g h = by (leb place (settlingPlace p)) refl
+  where
+    by-number : (c : Borders) → kindDue p c place (kindNumber (kindAt p b place)) ≡ true → ltb (endPlace p c) place ≡ ltb (endPlace p b) place
+        → (n : ℕ) → lineDue p c place (kindNumber (kindAt p b place)) n ≡ numberDue p b place n
+    by-number c k e n = ap₂ (λ (s t : Bool). s && (eqb n place || t)) k e
+
+    passes-shown : (c : Borders) → settlingPlace p < place → passes p (Due place (shown c)) ≡ true
+    passes-shown Unsettled l = within-holds (settlingPlace p + 1) (lastPlace p) place (omega arith) h
+    passes-shown On l = within-holds (settlingPlace p + 1) (lastPlace p) place (omega arith) h
+    passes-shown Off l = within-holds (settlingPlace p + 1) (lastPlace p) place (omega arith) h
+
+    by : (t : Bool) → leb place (settlingPlace p) ≡ t
+        → (passes p (Due place (cond t Unsettled (shown b))) ≡ true)
+        × ((n : ℕ) → lineDue p (cond t Unsettled (shown b)) place (kindNumber (kindAt p b place)) n ≡ numberDue p b place n)
+    by true e =
+        let l : place ≤ settlingPlace p = leb-true place (settlingPlace p) e in (
+          within-holds 1 (settlingPlace p) place g l,
+          by-number Unsettled (own-due p b place)
+              (le-ltb (endPlace p Unsettled) place (omega (arith, settling-before-end p Unsettled)) ∙ sym (le-ltb (endPlace p b) place (omega (arith, settling-before-end p b)))),
+        )
+    by false e =
+        (passes-shown b (leb-false place (settlingPlace p) e), by-number (shown b) (shown-due p b place) (ap (λ (i : ℕ). ltb i place) (shown-end p b)))
+
+answers : (p : Profile) (b : Borders) (n : ℕ) → suc n ≤ lastPlace p
+    → Answers p b (suc n) (onward p (suc n) (bordersAt p b (suc n)) (kindNumber (kindAt p b (suc n))))
+unfolding judgeOf
+answers p b n h m =
+    let d = due-at p b (suc n) (omega arith) h in
+    simp (d .0, kind-known (kindAt p b (suc n)), kind-unbroken (kindAt p b (suc n)), d .1 m)
+
+-- the line laid out at the settling place shows the borders
+at-settling : (p : Profile) (b : Borders) → cond (eqb (kindNumber (kindAt p b (settlingPlace p))) (kindNumber VL)) On Off ≡ shown b
+unfolding kindAt
+at-settling p Unsettled = ap (λ (k : Kind). cond (eqb (kindNumber k) (kindNumber VL)) On Off) (alike p .1)
+at-settling p On = ap (λ (k : Kind). cond (eqb (kindNumber k) (kindNumber VL)) On Off) (alike p .1)
+at-settling p Off = ap (λ (k : Kind). cond (eqb (kindNumber k) (kindNumber VL)) On Off) (alike p .2)
+
+-- the line laid out at a place leaves the borders as the judge has them at the next
+settled-at : (p : Profile) (b : Borders) (place : ℕ) → settled p (bordersAt p b place) place (kindNumber (kindAt p b place)) ≡ bordersAt p b (suc place)
+settled-at p b place = by (leb place (settlingPlace p)) (ltb place (settlingPlace p)) refl refl
+  where
+    shown-stays : (c : Borders) (k : ℕ) → settled p (shown c) place k ≡ shown c
+    shown-stays Unsettled k = refl
+    shown-stays On k = refl
+    shown-stays Off k = refl
+
+    by : (t s : Bool) → leb place (settlingPlace p) ≡ t → ltb place (settlingPlace p) ≡ s
+        → settled p (cond t Unsettled (shown b)) place (kindNumber (kindAt p b place)) ≡ cond s Unsettled (shown b)
+    by true true e f = simp f
+    by true false e f =
+        let q : place ≡ settlingPlace p = omega (arith, leb-true place (settlingPlace p) e, ltb-false place (settlingPlace p) f) in
+        simp f (subst (λ (i : ℕ). cond (eqb (kindNumber (kindAt p b i)) (kindNumber VL)) On Off ≡ shown b) (sym q) (at-settling p b))
+    by false true e f = absurd (omega (arith, leb-false place (settlingPlace p) e, ltb-true place (settlingPlace p) f))
+    by false false e f = shown-stays b (kindNumber (kindAt p b place))
 
 abbrev goesOn : Profile → Borders → ℕ → Judged
 goesOn p b place = gives (judgeAt p b (suc place)) ruling.Going
 
 answers-going : (p : Profile) (b : Borders) (n : ℕ) → n < lastPlace p - 1 → Answers p b (suc n) (goesOn p b (suc n))
-unfolding kindAt judgeOf
-answers-going VV5404 Unsettled = agree (λ (n : ℕ). answered VV5404 Unsettled (suc n)) (λ (n : ℕ). byNumber VV5404 Unsettled (suc n) (goesOn VV5404 Unsettled (suc n))) (lastPlace VV5404 - 1) refl
-answers-going VV5404 On = agree (λ (n : ℕ). answered VV5404 On (suc n)) (λ (n : ℕ). byNumber VV5404 On (suc n) (goesOn VV5404 On (suc n))) (lastPlace VV5404 - 1) refl
-answers-going VV5404 Off = agree (λ (n : ℕ). answered VV5404 Off (suc n)) (λ (n : ℕ). byNumber VV5404 Off (suc n) (goesOn VV5404 Off (suc n))) (lastPlace VV5404 - 1) refl
-answers-going VV5300 Unsettled = agree (λ (n : ℕ). answered VV5300 Unsettled (suc n)) (λ (n : ℕ). byNumber VV5300 Unsettled (suc n) (goesOn VV5300 Unsettled (suc n))) (lastPlace VV5300 - 1) refl
-answers-going VV5300 On = agree (λ (n : ℕ). answered VV5300 On (suc n)) (λ (n : ℕ). byNumber VV5300 On (suc n) (goesOn VV5300 On (suc n))) (lastPlace VV5300 - 1) refl
-answers-going VV5300 Off = agree (λ (n : ℕ). answered VV5300 Off (suc n)) (λ (n : ℕ). byNumber VV5300 Off (suc n) (goesOn VV5300 Off (suc n))) (lastPlace VV5300 - 1) refl
+answers-going p b n h m =
+    answers p b n (omega arith) m
+    ∙ ap (λ (r : Judged). byNumber p b (suc n) r m) (simp (lt-ltb (suc n) (lastPlace p) (omega arith), settled-at p b (suc n), add-one (suc n)))
 
-answers-last : (p : Profile) (b : Borders) → Answers p b (lastPlace p) (gives Waiting ruling.Complete)
-unfolding kindAt judgeOf
-answers-last VV5404 Unsettled = refl
-answers-last VV5404 On = refl
-answers-last VV5404 Off = refl
-answers-last VV5300 Unsettled = refl
-answers-last VV5300 On = refl
-answers-last VV5300 Off = refl
+answers-last : (p : Profile) (b : Borders) (n : ℕ) → suc n ≡ lastPlace p → Answers p b (suc n) (gives Waiting ruling.Complete)
+answers-last p b n e m =
+    answers p b n (omega (arith, e)) m ∙ ap (λ (r : Judged). byNumber p b (suc n) r m) (simp (le-ltb (suc n) (lastPlace p) (omega (arith, e))))
 
 -- a line that fits is answered so
 fitting : (p : Profile) (b : Borders) (place : ℕ) (l : Line) (r : Judged) → fits p b place l ≡ true → Answers p b place r → called p (judgeAt p b place) l ≡ r
@@ -258,8 +419,36 @@ fitting p b place l r h a =
     let n : numberDue p b place (l .number) ≡ true = and-left _ _ (and-right (standsAt p b place (l .kind)) _ h) in
     let g : leb (l .number) greatest ≡ true = and-right (numberDue p b place (l .number)) _ (and-right (standsAt p b place (l .kind)) _ h) in
     ap (λ (k : ℕ). judgeOf p (judgeAt p b place) k (l .number)) (eqb-true (l .kind) _ (and-left _ _ h))
-    ∙ ap (λ (f : ℕ → Judged). f (l .number)) a
+    ∙ a (l .number)
     ∙ ap₂ (λ (s t : Bool). cond s (cond t r (astray (kindNumber (kindAt p b place)) (l .number))) (refuses (judgeAt p b place) numberTooLarge)) g n
+
+-- The states that calls reach.
+
+going : (p : Profile) (b : Borders) (place : ℕ) → place < lastPlace p → called p (judgeAt p b place) (lineAt p b place) .judge ≡ judgeAt p b (suc place)
+unfolding judgeOf
+going p b zero h = subst (λ (l : Line). called p Waiting l .judge ≡ judgeAt p b 1) (sym (first-is p b (lineAt p b 0) (own-fits p b 0 (omega arith)))) (sym (judge-begun p b))
+going p b (suc n) h =
+    ap (λ (r : Judged). r .judge) (fitting p b (suc n) (lineAt p b (suc n)) (goesOn p b (suc n)) (own-fits p b (suc n) (omega (arith, last-small p))) (answers-going p b n (omega arith)))
+
+reach : (p : Profile) (b : Borders) (place : ℕ) → place ≤ lastPlace p → after p Waiting (linesBefore p b place) ≡ judgeAt p b place
+reach p b zero h = refl
+reach p b (suc n) h =
+    after-snoc p Waiting (linesBefore p b n) (lineAt p b n)
+    ∙ ap (λ (j : Judge). called p j (lineAt p b n) .judge) (reach p b n (omega arith))
+    ∙ going p b n (omega arith)
+
+-- a judge that passes is reached by the first lines of a frame
+pub passes-reached : (p : Profile) (j : Judge) → passes p j ≡ true → (ls : List Line) × (after p Waiting ls ≡ j)
+passes-reached p Waiting h = ([], refl)
+passes-reached p (Due zero b) h = absurd (let z = passes-low p zero b h in omega arith)
+passes-reached p (Due (suc n) Unsettled) h =
+    (linesBefore p On (suc n), reach p On (suc n) (passes-high p (suc n) Unsettled h) ∙ simp (le-leb (suc n) (settlingPlace p) (within-high 1 (settlingPlace p) (suc n) h)))
+passes-reached p (Due (suc n) On) h =
+    (linesBefore p On (suc n), reach p On (suc n) (passes-high p (suc n) On h) ∙ simp (lt-leb (suc n) (settlingPlace p) (omega (arith, within-low (settlingPlace p + 1) (lastPlace p) (suc n) h))))
+passes-reached p (Due (suc n) Off) h =
+    (linesBefore p Off (suc n), reach p Off (suc n) (passes-high p (suc n) Off h) ∙ simp (lt-leb (suc n) (settlingPlace p) (omega (arith, within-low (settlingPlace p + 1) (lastPlace p) (suc n) h))))
+
+-- A whole frame.
 
 from-call : (p : Profile) (j : Judge) (l : Line) (r : Judged) (ls : List Line) → called p j l ≡ r
     → (rulings p j (l ∷ ls) ≡ r .ruling ∷ rulings p (r .judge) ls) × (after p j (l ∷ ls) ≡ after p (r .judge) ls)
@@ -272,8 +461,7 @@ toComplete n = replicate n ruling.Going ++ (ruling.Complete ∷ [])
 rest-complete : (p : Profile) (b : Borders) (n : ℕ) (l : Line) (ls : List Line) → suc n + length ls ≡ lastPlace p → laidFrom p b (suc n) (l ∷ ls) ≡ true
     → (rulings p (judgeAt p b (suc n)) (l ∷ ls) ≡ toComplete (length ls)) × (after p (judgeAt p b (suc n)) (l ∷ ls) ≡ Waiting)
 rest-complete p b n l [] e h =
-    let a : Answers p b (suc n) (gives Waiting ruling.Complete) = subst (λ (i : ℕ). Answers p b i (gives Waiting ruling.Complete)) (omega arith) (answers-last p b) in
-    from-call p (judgeAt p b (suc n)) l (gives Waiting ruling.Complete) [] (fitting p b (suc n) l (gives Waiting ruling.Complete) (and-left _ _ h) a)
+    from-call p (judgeAt p b (suc n)) l (gives Waiting ruling.Complete) [] (fitting p b (suc n) l (gives Waiting ruling.Complete) (and-left _ _ h) (answers-last p b n (omega arith)))
 rest-complete p b n l (m ∷ ls) e h =
     let f = from-call p (judgeAt p b (suc n)) l (goesOn p b (suc n)) (m ∷ ls) (fitting p b (suc n) l (goesOn p b (suc n)) (and-left _ _ h) (answers-going p b n (omega arith))) in
     let r = rest-complete p b (suc n) m ls (omega arith) (and-right (fits p b (suc n) l) _ h) in
@@ -448,17 +636,12 @@ laid-settled p place Unsettled k ls h f =
 laid-settled p place On k ls h f = f .1
 laid-settled p place Off k ls h f = f .1
 
-laid-snoc : (p : Profile) (b : Borders) (place end : ℕ) (ls : List Line) (l : Line) → place + length ls ≡ end → laidFrom p b place ls ≡ true → fits p b end l ≡ true → laidFrom p b place (ls ++ (l ∷ [])) ≡ true
-laid-snoc p b place end [] l e h f = and-both _ _ (subst (λ (i : ℕ). fits p b i l ≡ true) (omega arith) f) refl
-laid-snoc p b place end (a ∷ ls) l e h f =
-    and-both (fits p b place a) _ (and-left (fits p b place a) _ h) (laid-snoc p b (suc place) end ls l (omega arith) (and-right (fits p b place a) _ h) f)
-
 -- the first lines of a frame, one line longer
 first-longer : (p : Profile) (place : ℕ) (b : Borders) (ls : List Line) (l : Line) → passes p (Due place b) ≡ true → IsDue p b place l → FirstLines p b place ls
     → FirstLines p (settled p b place (l .kind)) (suc place) (ls ++ (l ∷ []))
 first-longer p place b ls l h d f = (
   simp length-append (omega (arith, f .0)),
-  laid-snoc p (settled p b place (l .kind)) 0 place ls l (omega (arith, f .0)) (laid-settled p place b (l .kind) ls h f) (due-fits p place b l h d),
+  laid-append p (settled p b place (l .kind)) 0 place ls (l ∷ []) (omega (arith, f .0)) (laid-settled p place b (l .kind) ls h f) (and-both _ _ (due-fits p place b l h d) refl),
 )
 
 -- the lines accepted so far end in those of the frame that the judge is in

@@ -1,71 +1,33 @@
--- The rows of a complete profile 0 frame, gathered from the reader's answers (02, A1, A2 and A13): a row is what is kept of a line. For a picture that
--- is a visible line's pixels, and nothing of any other; for a comparison it is the line whole, as a list of lines has it.
+-- The rows of a complete profile 0 frame, gathered from the reader's answers (02, A1, A2 and A13).
 use mathlib.Core.Path.{_≡_}
-use mathlib.Core.Bool.{Bool, true, _&&_, cond}
-use mathlib.Core.List.{List, [], _∷_, _++_}
-use Prim.Native.Nat.{ℕ, suc, _+_}
-use lib.Dec.{eqb, leb}
-use lib.ListN.{length, take, drop}
+use mathlib.Core.Bool.{cond}
+use mathlib.Core.List.{List}
+use Prim.Native.Nat.{ℕ, _+_}
+use lib.ListN.{take}
 use Rattle.refusal.specs.Refusal.{noRoom}
-use Rattle.line_code.specs.declared.Kind.the-variants.{VL}
-use Rattle.line_code.specs.LineCode.{kindNumber}
 use Rattle.profile.specs.declared.Profile.the-variants.{VV5404}
 use Rattle.profile.specs.Profile.{width}
 use Rattle.stream.specs.declared.Answer.{Answer}
-use Rattle.frame.specs.declared.Handed.{Handed}
-use Rattle.frame.specs.declared.Handed.the-variants as hand
+use Rattle.frame_handing.specs.declared.Handed.{Handed}
+use Rattle.frame_handing.specs.declared.Handed.the-variants as hand
 use Rattle.frame.specs.declared.Judge.{Judge}
 use Rattle.frame.specs.declared.Judge.the-variants.{Waiting, Due}
 use Rattle.frame.specs.declared.Ruling.{Ruling}
 use Rattle.frame.specs.declared.Ruling.the-variants as ruling
 use Rattle.frame.specs.Frame.{breaksFrame}
 use Rattle.frame.specs.Calls.{Line, line, called}
-use Rattle.frame.specs.Handing.{handedOver}
-use Rattle.pixel_order.specs.declared.Way.the-variants.{ToPixels}
-use Rattle.pixel_order.specs.PixelOrder.{reordered}
-use Rattle.line_list.specs.Lines.{lineSize, inTwo}
-use Rattle.frame_rows.specs.declared.Order.{Order}
-use Rattle.frame_rows.specs.declared.Order.the-variants.{AsSent, OddFirst}
-use Rattle.frame_rows.specs.declared.Keeping.{Keeping}
-use Rattle.frame_rows.specs.declared.Keeping.the-variants.{VisiblePixels, WholeLines}
-use Rattle.frame_rows.specs.declared.Row.{Row}
+use Rattle.frame_handing.specs.Handing.{handedOver}
+use Rattle.frame_row.specs.declared.Keeping.{Keeping}
+use Rattle.frame_row.specs.FrameRow.{rowSize, rowFits, withRow}
 use Rattle.frame_rows.specs.declared.Gatherer.{Gatherer}
 use Rattle.frame_rows.specs.declared.Gathered.{Gathered}
 use Rattle.frame_rows.specs.declared.Progress.{Progress}
 use Rattle.frame_rows.specs.declared.Progress.the-variants as progress
 
--- The rows of lines.
-
 -- what is handed to the judge, and the line's body
 pub record Shown : Type 0 where
   pub given : Line
   pub body : List ℕ
-
--- a body's pixels: as sent, or put in order where the head sends odd pixels first
-abbrev pub pixelsOf : Order → List ℕ → List ℕ
-pixelsOf AsSent body = body
-pixelsOf OddFirst body = reordered ToPixels body
-
-abbrev pub isVisible : ℕ → Bool
-isVisible k = eqb k (kindNumber VL)
-
--- the row of the line at a place of its frame, of this kind and with this body
-abbrev pub rowOf : Keeping → ℕ → ℕ → List ℕ → List ℕ
-rowOf (VisiblePixels o) place kind body = cond (isVisible kind) (pixelsOf o body) []
-rowOf WholeLines place kind body = (kind ∷ inTwo place) ++ body
-
--- how long it is, where the body has 356 bytes
-abbrev pub rowSize : Keeping → ℕ → ℕ
-rowSize (VisiblePixels o) kind = cond (isVisible kind) width 0
-rowSize WholeLines kind = lineSize
-
--- the rows of lines from a place of the frame on, top to bottom and end to end
-abbrev pub rowsFrom : Keeping → ℕ → List Shown → List ℕ
-rowsFrom k place [] = []
-rowsFrom k place (l ∷ ls) = rowOf k place (l .given .kind) (l .body) ++ rowsFrom k (suc place) ls
-
-abbrev pub rowsOf : Keeping → List Shown → List ℕ
-rowsOf k ls = rowsFrom k 0 ls
 
 -- What a call says and leaves.
 
@@ -118,19 +80,6 @@ refuses s n buffer = record { gatherer = s; output = refused n; buffer = buffer 
 abbrev pub placeDue : Judge → ℕ
 placeDue Waiting = 0
 placeDue (Due place b) = place
-
--- a row of a line that was due is put after the bytes kept, unless the line buffer is shorter than a body, or there is no room for the row
-unfoldable pub rowFits : Keeping → ℕ → ℕ → List ℕ → List ℕ → Bool
-rowFits k kept kind body buffer = eqb (length body) width && leb (kept + rowSize k kind) (length buffer)
-
-unfoldable pub withRow : Keeping → ℕ → ℕ → ℕ → List ℕ → List ℕ → List ℕ
-withRow k kept place kind body buffer = take kept buffer ++ (rowOf k place kind body ++ drop (kept + rowSize k kind) buffer)
-
--- a call that says whether a row fits, puts it where it does, and says where it then ends
-pub record Keeps (k : Keeping) (kept place kind : ℕ) (body before : List ℕ) (answer : Row) (after : List ℕ) : Type 0 where
-  pub fitting : answer .fits ≡ rowFits k kept kind body before
-  pub ending : answer .fits ≡ true → answer .end ≡ kept + rowSize k kind
-  pub leaves : after ≡ cond (answer .fits) (withRow k kept place kind body before) before
 
 -- a line that was due, and not the last; 12 where its row does not fit
 unfoldable pub onward : Gatherer → Judge → ℕ → ℕ → ℕ → List ℕ → List ℕ → AfterCall

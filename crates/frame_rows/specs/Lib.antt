@@ -1,5 +1,1 @@
 pub mod FrameRows
-pub mod Gathering
-pub mod FrameRowsLaws
-pub mod WholeFrameLaws
-pub mod PictureLaws

@@ -1,40 +1,23 @@
-// The rows of a complete profile 0 frame, gathered from the reader's answers (paper 02, A1, A2 and A13). A row is what is kept of a line: for a
-// picture a visible line's 356 pixels, as sent, or in order where the head sends odd pixels first, and nothing of any other line; for a
-// comparison every line whole, as crate line_list has it, with its place in the frame for its number.
+// The rows of a complete profile 0 frame, gathered from the reader's answers (paper 02, A1, A2 and A13): the row of each of its lines, which crate
+// frame_row puts, with its place in the frame.
 //
 // In: the answer of each call to the reader, in order, with the line buffer as it is then, and a lent buffer for rows. What
-// frame::handed_over has of an answer goes to the judge. A line that is due puts its row after the rows kept; a frame that breaks leaves none.
+// frame_handing::handed_over has of an answer goes to the judge. A line that is due puts its row after the rows kept; a frame that breaks leaves none.
 // Out: beside the next gatherer, nothing yet, or at a frame's last line the length of its rows, which stand at the front of the buffer;
 // `pgm::write` takes a picture's, `line_diff::compare` the lines. Refused, and then nothing changes: 11 and 14 as the judge refuses them; 12
 // where a line is due and the line buffer is shorter than 356, or the rows' buffer than the rows with its own. A buffer of pgm::MOST_PIXELS has
 // room for every picture, one of ALL_LINES for every frame's lines. Cost: linear in the row that is put.
 ghost use mathlib.Core.Path.{_≡_};
-ghost use mathlib.Core.List.{_∷_, _++_};
-ghost use Prim.Native.Nat.{_+_, _≤_};
-ghost use lib.Dec.{leb};
-ghost use lib.ListN.{length, take, drop};
+ghost use lib.ListN.{take};
 ghost use Rattle.profile.specs.Profile.{width};
-ghost use Rattle.line_list.specs.Lines.{lineSize, inTwo};
-ghost use Rattle.frame_rows.specs.FrameRows.{pixelsOf, rowSize, fresh, moved, saying, placeDue, withRow, Keeps, shownAs, onward, completed, afterBreak, handed, takeOf, Gathers};
-use frame::Handed;
+ghost use Rattle.frame_rows.specs.FrameRows.{fresh, moved, saying, placeDue, shownAs, onward, completed, afterBreak, handed, takeOf, Gathers};
 use frame::Judge;
 use frame::Ruling;
-use line_code::Kind;
+use frame_handing::Handed;
+use frame_row::Keeping;
 use line_list::LINE;
 use profile::Profile;
 use stream::Answer;
-
-// The order in which a head sends a line's pixels: from left to right, or the odd ones first.
-pub enum Order {
-    AsSent,
-    OddFirst,
-}
-
-// What is kept of a frame: the pixels of its visible lines, in order; or all of its lines, whole.
-pub enum Keeping {
-    VisiblePixels(Order),
-    WholeLines,
-}
 
 // The lines of a frame, and the bytes of all of them whole.
 const LINES: usize = 304;
@@ -78,7 +61,7 @@ impl Gatherer {
     pub fn take(self, answer: Answer, line: &[u8], rows: &mut [u8]) -> Gathered
         ensures { λ r. ⌜ Gathers (takeOf self answer (now (line .entry)) (now (rows .entry))) r (now (rows .exit)) ⌝ }
     {
-        let handed = frame::handed_over(answer);
+        let handed = frame_handing::handed_over(answer);
         match handed {
             Handed::Nothing => quiet(self),
             Handed::Line(kind, number) => self.hand(kind, number, line, rows),
@@ -132,7 +115,7 @@ impl Gatherer {
         ensures { λ r. ⌜ Gathers (onward self judge kept place kind (take width (now (line .entry))) (now (rows .entry))) r (now (rows .exit)) ⌝ }
     {
         let keeping = self.keeping;
-        let row = keep(keeping, kept, place, kind, line, rows);
+        let row = frame_row::keep(keeping, kept, place, kind, line, rows);
         if row.fits {
             return quiet(self.moved(judge, row.end));
         }
@@ -144,7 +127,7 @@ impl Gatherer {
         ensures { λ r. ⌜ Gathers (completed self judge place kind (take width (now (line .entry))) (now (rows .entry))) r (now (rows .exit)) ⌝ }
     {
         let keeping = self.keeping;
-        let row = keep(keeping, self.kept, place, kind, line, rows);
+        let row = frame_row::keep(keeping, self.kept, place, kind, line, rows);
         if row.fits {
             let gatherer = self.moved(judge, 0);
             let progress = Progress::Complete(row.end);
@@ -188,102 +171,4 @@ fn refused(gatherer: Gatherer, number: u8) -> Gathered
 {
     let progress = Progress::Refused(number);
     Gathered { gatherer, progress }
-}
-
-// Whether a row fits after the bytes kept, and where it then ends.
-struct Row {
-    fits: bool,
-    end: usize,
-}
-
-// Puts the row of a line after the bytes kept, where it fits.
-fn keep(keeping: Keeping, kept: usize, place: u16, kind: u8, line: &[u8], rows: &mut [u8]) -> Row
-    ensures { λ r. ⌜ Keeps keeping kept place kind (take width (now (line .entry))) (now (rows .entry)) r (now (rows .exit)) ⌝ }
-{
-    if line.len() < Profile::WIDTH {
-        return Row {
-            fits: false,
-            end: kept,
-        };
-    }
-    let size = row_size(keeping, kind);
-    if has_room(kept, size, rows.len()) {
-        put_row(keeping, place, kind, &line[..Profile::WIDTH], rows, kept);
-        return Row {
-            fits: true,
-            end: kept + size,
-        };
-    }
-    Row {
-        fits: false,
-        end: kept,
-    }
-}
-
-// The length of the row of a line of a kind.
-fn row_size(keeping: Keeping, kind: u8) -> usize
-    ensures { λ r. ⌜ r ≡ rowSize keeping kind ⌝ }
-{
-    match keeping {
-        Keeping::VisiblePixels(_) => {
-            if kind == Kind::VL.number() {
-                return Profile::WIDTH;
-            }
-            0
-        }
-        Keeping::WholeLines => LINE,
-    }
-}
-
-// Whether there is room for so many bytes after those kept.
-fn has_room(kept: usize, size: usize, room: usize) -> bool
-    ensures { λ r. ⌜ r ≡ leb (kept + size) room ⌝ }
-{
-    if room < kept {
-        return false;
-    }
-    if room - kept < size {
-        return false;
-    }
-    true
-}
-
-// Puts the row of a line at a place.
-fn put_row(keeping: Keeping, place: u16, kind: u8, body: &[u8], rows: &mut [u8], at: usize)
-    requires { ⌜ (length (now body) ≡ width) × (at + rowSize keeping kind ≤ length (now rows)) ⌝ }
-    ensures { λ r. ⌜ now (rows .exit) ≡ withRow keeping at place kind (now (body .entry)) (now (rows .entry)) ⌝ }
-{
-    match keeping {
-        Keeping::VisiblePixels(order) => {
-            if kind == Kind::VL.number() {
-                put_pixels(order, body, rows, at);
-            }
-        }
-        Keeping::WholeLines => put_line(place, kind, body, rows, at),
-    }
-}
-
-// Puts a body's pixels at a place.
-fn put_pixels(order: Order, body: &[u8], rows: &mut [u8], at: usize)
-    requires { ⌜ (length (now body) ≡ width) × (at + width ≤ length (now rows)) ⌝ }
-    ensures { λ r. ⌜ now (rows .exit) ≡ take at (now (rows .entry)) ++ (pixelsOf order (now (body .entry)) ++ drop (at + width) (now (rows .entry))) ⌝ }
-{
-    match order {
-        Order::AsSent => {
-            bytes::copy(body, &mut rows[at..]);
-        }
-        Order::OddFirst => {
-            pixel_order::to_pixels(Kind::VL.number(), body, &mut rows[at..]);
-        }
-    }
-}
-
-// Puts a line whole at a place: its kind, its place in the frame in two bytes, and its body.
-fn put_line(place: u16, kind: u8, body: &[u8], rows: &mut [u8], at: usize)
-    requires { ⌜ (length (now body) ≡ width) × (at + lineSize ≤ length (now rows)) ⌝ }
-    ensures { λ r. ⌜ now (rows .exit) ≡ take at (now (rows .entry)) ++ (((kind ∷ inTwo place) ++ now (body .entry)) ++ drop (at + lineSize) (now (rows .entry))) ⌝ }
-{
-    let head = [kind, (place / 256) as u8, (place % 256) as u8];
-    let start = text::put(&head, rows, at);
-    text::put(body, rows, start);
 }

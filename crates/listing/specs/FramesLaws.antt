@@ -8,8 +8,8 @@ use lib.ListN.{length, length-append}
 use Rattle.refusal.specs.Refusal.{notTheLineDue, brokenLine}
 use Rattle.text.specs.Text.{ascii}
 use Rattle.text.specs.TextLaws.{decimal-short}
-use Rattle.frame.specs.declared.Borders.{Borders}
-use Rattle.frame.specs.declared.Borders.the-variants.{Unsettled, On, Off}
+use Rattle.frame_layout.specs.declared.Borders.{Borders}
+use Rattle.frame_layout.specs.declared.Borders.the-variants.{Unsettled, On, Off}
 use Rattle.tally.specs.declared.News.{News}
 use Rattle.tally.specs.declared.News.the-variants.{Nothing, Complete, Broken, Cut}
 use Rattle.listing.specs.Rows.{rowRoom}

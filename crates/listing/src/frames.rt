@@ -4,7 +4,7 @@ ghost use Rattle.text.specs.Put.{Puts, AtFront};
 ghost use Rattle.listing.specs.Rows.{rowIfRoom};
 ghost use Rattle.listing.specs.Frames.{frameWords, bordersWord, brokenLineWords, reasonWords, completeLine, brokenLineOf, newsLine};
 use super::ROW;
-use frame::Borders;
+use frame_layout::Borders;
 use tally::News;
 use text::put;
 use text::put_decimal;

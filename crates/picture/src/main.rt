@@ -3,8 +3,8 @@
 // order, for heads that send odd pixels first. Where no frame is complete or the picture can't be written whole an older file stays as it was,
 // and a line on standard error says so. No picture goes to a terminal. The frame's rows are kept, and no more of the capture.
 use frame_file::Asked;
-use frame_rows::Keeping;
-use frame_rows::Order;
+use frame_row::Keeping;
+use frame_row::Order;
 use lent_buffer::Filled;
 use libc::STDOUT_FILENO;
 

@@ -10,15 +10,15 @@ use Rattle.line_code.specs.LineCode.{kindNumber}
 use Rattle.profile.specs.declared.Profile.the-variants.{VV5404}
 use Rattle.stream.specs.Written.{stream}
 use Rattle.reader_laws.specs.Passing.{Small, small-none, small-more}
-use Rattle.frame.specs.declared.Borders.{Borders}
-use Rattle.frame.specs.Frame.{layout, kindsOf}
+use Rattle.frame_layout.specs.declared.Borders.{Borders}
+use Rattle.frame_layout.specs.FrameLayout.{layout, kindsOf}
 use Rattle.frame.specs.Calls.{Line, line, IsFrame, numberedFrom}
 use Rattle.frame_laws.specs.FrameLaws.{frame-counted}
 use Rattle.slip.specs.Examples.{samplesFrom, sampleFrame, frame-writable}
 use Rattle.pgm.specs.Pgm.{size}
-use Rattle.frame_rows.specs.declared.Order.{Order}
-use Rattle.frame_rows.specs.declared.Keeping.the-variants.{VisiblePixels}
-use Rattle.frame_rows.specs.Gathering.{linesOf, pictureOf}
+use Rattle.frame_row.specs.declared.Order.{Order}
+use Rattle.frame_row.specs.declared.Keeping.the-variants.{VisiblePixels}
+use Rattle.frame_rows_laws.specs.Gathering.{linesOf, pictureOf}
 use Rattle.frame_grabber.specs.FrameGrabber.{freshGrabber}
 use Rattle.frame_grabber.specs.Pieces.{grabPieces}
 use Rattle.picture_laws.specs.FrameSent.{shownLine, FrameSent, FramePictured}

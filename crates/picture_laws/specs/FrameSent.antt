@@ -11,16 +11,17 @@ use Rattle.profile.specs.declared.Profile.the-variants.{VV5404}
 use Rattle.stream.specs.Written.{Sent, AllWritable}
 use Rattle.recovery.specs.Calls.{LineOut}
 use Rattle.lent_buffer.specs.Filled.{used}
-use Rattle.frame.specs.declared.Borders.{Borders}
+use Rattle.frame_layout.specs.declared.Borders.{Borders}
 use Rattle.frame.specs.Frame.{opens}
 use Rattle.frame.specs.Calls.{line, IsFrame}
 use Rattle.pgm.specs.Pgm.{imageOf, writeOf}
 use Rattle.line_list.specs.Lines.{inTwo}
-use Rattle.frame_rows.specs.declared.Order.{Order}
-use Rattle.frame_rows.specs.declared.Keeping.{Keeping}
-use Rattle.frame_rows.specs.declared.Keeping.the-variants.{VisiblePixels, WholeLines}
-use Rattle.frame_rows.specs.FrameRows.{Shown, pixelsOf, Output, complete}
-use Rattle.frame_rows.specs.Gathering.{linesOf, pictureOf, frameSize}
+use Rattle.frame_row.specs.declared.Order.{Order}
+use Rattle.frame_row.specs.declared.Keeping.{Keeping}
+use Rattle.frame_row.specs.declared.Keeping.the-variants.{VisiblePixels, WholeLines}
+use Rattle.frame_row.specs.FrameRow.{pixelsOf}
+use Rattle.frame_rows.specs.FrameRows.{Shown, Output, complete}
+use Rattle.frame_rows_laws.specs.Gathering.{linesOf, pictureOf, frameSize}
 
 -- a line that is sent: what is handed to the judge, and the body
 abbrev pub shownLine : Sent → Shown

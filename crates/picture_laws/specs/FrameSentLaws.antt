@@ -31,8 +31,8 @@ use Rattle.recovery.specs.Resync.{lines}
 use Rattle.recovery.specs.ReadBack.{seven, outcomes-append, restTold}
 use Rattle.recovery.specs.Gaps.{after, back, sentGap, next-told}
 use Rattle.refinement.specs.Refine.{Follows, fresh-follows, feed-steps}
-use Rattle.frame.specs.declared.Borders.{Borders}
-use Rattle.frame.specs.declared.Handed.the-variants as hand
+use Rattle.frame_layout.specs.declared.Borders.{Borders}
+use Rattle.frame_handing.specs.declared.Handed.the-variants as hand
 use Rattle.frame.specs.declared.Judge.{Judge}
 use Rattle.frame.specs.declared.Judge.the-variants.{Waiting, Due}
 use Rattle.frame.specs.declared.Judged.{Judged}
@@ -40,19 +40,20 @@ use Rattle.frame.specs.Frame.{passes, refuses, brokenKind, judgeOf}
 use Rattle.frame.specs.Calls.{called, IsFrame}
 use Rattle.frame.specs.Calls as calls
 use Rattle.frame_laws.specs.FrameLaws.{reached-passes}
-use Rattle.frame.specs.Handing.{isBrokenLine, handedLines}
+use Rattle.frame_handing.specs.Handing.{isBrokenLine, handedLines}
 use Rattle.pgm.specs.Pgm.{size}
-use Rattle.frame_rows.specs.declared.Order.{Order}
-use Rattle.frame_rows.specs.declared.Keeping.{Keeping}
-use Rattle.frame_rows.specs.declared.Keeping.the-variants.{VisiblePixels, WholeLines}
+use Rattle.frame_row.specs.declared.Order.{Order}
+use Rattle.frame_row.specs.declared.Keeping.{Keeping}
+use Rattle.frame_row.specs.declared.Keeping.the-variants.{VisiblePixels, WholeLines}
 use Rattle.frame_rows.specs.declared.Gatherer.{Gatherer}
-use Rattle.frame_rows.specs.FrameRows.{Shown, rowOf, rowsFrom, rowsOf, complete, AfterCall, quiet, afterBreak, refusedBy, byRuling, handed, handing, takeOf}
+use Rattle.frame_row.specs.FrameRow.{rowOf}
+use Rattle.frame_rows.specs.FrameRows.{Shown, complete, AfterCall, quiet, afterBreak, refusedBy, byRuling, handed, handing, takeOf}
 use Rattle.frame_rows.specs.FrameRows as rows
-use Rattle.frame_rows.specs.Gathering.{Given, call, start, shown, taken, shownAll, linesOf, pictureOf, frameSize, CompletesRows, Every, WholeBody, Laid}
-use Rattle.frame_rows.specs.Gathering as gathering
-use Rattle.frame_rows.specs.FrameRowsLaws.{frame-size, holds-calls, holds-start}
-use Rattle.frame_rows.specs.PictureLaws.{rows-written}
-use Rattle.frame_rows.specs.WholeFrameLaws.{frame-shown-on}
+use Rattle.frame_rows_laws.specs.Gathering.{rowsFrom, rowsOf, Given, call, start, shown, taken, shownAll, linesOf, pictureOf, frameSize, CompletesRows, Every, WholeBody, Laid}
+use Rattle.frame_rows_laws.specs.Gathering as gathering
+use Rattle.frame_rows_laws.specs.FrameRowsLaws.{frame-size, holds-calls, holds-start}
+use Rattle.frame_rows_laws.specs.PictureLaws.{rows-written}
+use Rattle.frame_rows_laws.specs.WholeFrameLaws.{frame-shown-on}
 use Rattle.frame_grabber.specs.FrameGrabber.{freshGrabber, blank, isSaid, After, grabOf}
 use Rattle.frame_grabber.specs.Pieces.{joined, grabPieces, givens, fedAll}
 use Rattle.frame_grabber.specs.PieceLaws.{grab-is, pieces-whole}

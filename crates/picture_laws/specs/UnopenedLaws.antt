@@ -30,7 +30,7 @@ use Rattle.stream.specs.Answers.{facts, Outcome, nothing, line, gap, refused, b
 use Rattle.stream.specs.Stream.{Completed, not-yet, mark, detect, State, answerAt, advance, step, outcomes}
 use Rattle.recovery.specs.Calls.{LineOut, lineIn}
 use Rattle.recovery.specs.Resync.{lines}
-use Rattle.frame.specs.declared.Handed.the-variants as hand
+use Rattle.frame_handing.specs.declared.Handed.the-variants as hand
 use Rattle.frame.specs.declared.Judge.{Judge}
 use Rattle.frame.specs.declared.Judge.the-variants.{Waiting}
 use Rattle.frame.specs.declared.Judged.{Judged}
@@ -38,11 +38,11 @@ use Rattle.frame.specs.declared.Ruling.the-variants as ruling
 use Rattle.frame.specs.Frame.{brokenKind, opens, gives, judgeOf}
 use Rattle.frame.specs.Calls.{called}
 use Rattle.frame.specs.Calls as judged
-use Rattle.frame.specs.Handing.{isBrokenLine}
+use Rattle.frame_handing.specs.Handing.{isBrokenLine}
 use Rattle.frame_rows.specs.declared.Gatherer.{Gatherer}
 use Rattle.frame_rows.specs.FrameRows.{Shown, AfterCall, byRuling, handed, shownAs, handing, takeOf}
 use Rattle.frame_rows.specs.FrameRows as rows
-use Rattle.frame_rows.specs.Gathering.{call}
+use Rattle.frame_rows_laws.specs.Gathering.{call}
 use Rattle.frame_grabber.specs.FrameGrabber.{blank, isSaid}
 use Rattle.picture_laws.specs.FrameSent.{opensNone}
 use Rattle.picture_laws.specs.UntilSaidLaws.{givenOf, untilSaid}

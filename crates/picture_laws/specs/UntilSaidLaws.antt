@@ -16,12 +16,13 @@ use Rattle.frame.specs.declared.Ruling.{Ruling}
 use Rattle.frame.specs.declared.Ruling.the-variants as ruling
 use Rattle.frame.specs.Calls.{called}
 use Rattle.frame.specs.Frame.{breaksFrame}
-use Rattle.frame.specs.Handing.{handedLines}
+use Rattle.frame_handing.specs.Handing.{handedLines}
 use Rattle.frame_rows.specs.declared.Gatherer.{Gatherer}
-use Rattle.frame_rows.specs.FrameRows.{Shown, Output, nothing, AfterCall, rowSize, moved, quiet, refuses, placeDue, rowFits, withRow, onward, completing, completed, afterBreak, refusedBy, byRuling, handed}
-use Rattle.frame_rows.specs.Gathering.{Given, call, calls, shown}
-use Rattle.frame_rows.specs.FrameRowsLaws.{with-row-length, Hands, none, one, hands}
-use Rattle.frame_rows.specs.WholeFrameLaws.{KeepsCalling}
+use Rattle.frame_row.specs.FrameRow.{rowSize, rowFits, withRow}
+use Rattle.frame_rows.specs.FrameRows.{Shown, Output, nothing, AfterCall, moved, quiet, refuses, placeDue, onward, completing, completed, afterBreak, refusedBy, byRuling, handed}
+use Rattle.frame_rows_laws.specs.Gathering.{Given, call, calls, shown}
+use Rattle.frame_rows_laws.specs.FrameRowsLaws.{with-row-length, Hands, none, one, hands}
+use Rattle.frame_rows_laws.specs.WholeFrameLaws.{KeepsCalling}
 use Rattle.frame_grabber.specs.FrameGrabber.{blank, given, isSaid, sought, seek}
 use Rattle.frame_grabber.specs.Pieces.{givens, fedAll}
 use Rattle.frame_grabber.specs.SeekLaws.{not-said}

@@ -21,14 +21,14 @@ use Rattle.stream.specs.Stream.{fresh}
 use Rattle.stream.specs.Written.{Sent, AllWritable, no-lines, and-line}
 use Rattle.recovery.specs.Examples.{sample, sample-writable}
 use Rattle.recovery.specs.CleanAnswers.{said, outcomesFinished, gapRead}
-use Rattle.frame.specs.declared.Borders.{Borders}
-use Rattle.frame.specs.declared.Borders.the-variants.{On, Off}
-use Rattle.frame.specs.Frame.{layout, kindsOf}
+use Rattle.frame_layout.specs.declared.Borders.{Borders}
+use Rattle.frame_layout.specs.declared.Borders.the-variants.{On, Off}
+use Rattle.frame_layout.specs.FrameLayout.{layout, kindsOf}
 use Rattle.frame.specs.Calls.{IsFrame, numberedFrom}
 use Rattle.frame.specs.Calls as judged
-use Rattle.frame.specs.FrameLength.{frame-length}
+use Rattle.frame_layout.specs.FrameLength.{frame-length}
 use Rattle.frame_laws.specs.FrameLaws.{frame-counted}
-use Rattle.frame.specs.Handing.{isBrokenLine, allHanded}
+use Rattle.frame_handing.specs.Handing.{isBrokenLine, allHanded}
 use Rattle.frame_laws.specs.SentFrames.{judgedLine, allLines, AllFrames, no-frames, and-frame}
 use Rattle.slip.specs.Slip.{slipped, Inside}
 use Rattle.slip.specs.LeftHanded.{brokenOne}

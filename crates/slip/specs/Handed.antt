@@ -23,8 +23,8 @@ use Rattle.stream.specs.Answers.{Outcome, refused, answerFor, require, goodGap,
 use Rattle.stream.specs.Stream.{State, fresh, answerAt, run, outcomes}
 use Rattle.stream.specs.Written.{Sent, Writable, AllWritable, no-lines, and-line, markOf, content, tail, written, stream}
 use Rattle.frame.specs.Calls as judged
-use Rattle.frame.specs.Handing.{isBrokenLine, handedLines, asLines}
-use Rattle.frame.specs.declared.Handed.the-variants as hand
+use Rattle.frame_handing.specs.Handing.{isBrokenLine, handedLines, asLines}
+use Rattle.frame_handing.specs.declared.Handed.the-variants as hand
 use Rattle.frame.specs.Frame.{brokenKind}
 use Rattle.frame_laws.specs.SentFrames.{judgedLine}
 use Rattle.recovery.specs.Collected.{nothings, collected, collected-append, collected-nothings}

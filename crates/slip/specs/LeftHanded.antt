@@ -27,9 +27,9 @@ use Rattle.stream.specs.Answers.{Outcome, nothing, line, gap, refused, isLine, 
 use Rattle.stream.specs.TextLengthLaws.{bytes-length}
 use Rattle.stream.specs.Stream.{State, Completed, not-yet, mark, group, strip, markIf, detect, answerAt, advance, run}
 use Rattle.stream.specs.Written.{Sent, Writable, markOf, startMark, endMark, tail}
-use Rattle.frame.specs.declared.Handed.the-variants as hand
+use Rattle.frame_handing.specs.declared.Handed.the-variants as hand
 use Rattle.frame.specs.Calls as judged
-use Rattle.frame.specs.Handing.{isBrokenLine, asLines}
+use Rattle.frame_handing.specs.Handing.{isBrokenLine, asLines}
 use Rattle.frame.specs.Frame.{brokenKind}
 use Rattle.recovery.specs.Calls.{markNibbles}
 use Rattle.recovery.specs.Collected.{collected, collected-nothings}

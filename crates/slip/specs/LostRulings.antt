@@ -18,14 +18,15 @@ use Rattle.line_code.specs.LineCode.{kindNumber}
 use Rattle.line_number.specs.LineNumber.{greatest}
 use Rattle.profile.specs.declared.Profile.the-variants.{VV5404}
 use Rattle.stream.specs.Written.{Sent}
-use Rattle.frame.specs.declared.Borders.{Borders}
-use Rattle.frame.specs.declared.Borders.the-variants.{Unsettled, On, Off}
+use Rattle.frame_layout.specs.declared.Borders.{Borders}
+use Rattle.frame_layout.specs.declared.Borders.the-variants.{Unsettled, On, Off}
 use Rattle.frame.specs.declared.Judge.{Judge}
 use Rattle.frame.specs.declared.Judge.the-variants.{Waiting, Due}
 use Rattle.frame.specs.declared.Ruling.{Ruling}
 use Rattle.frame.specs.declared.Ruling.the-variants as ruling
 use Rattle.frame.specs.declared.Judged.{Judged}
-use Rattle.frame.specs.Frame.{lastPlace, kindAt, standsAt, numberDue, passes, gives, refuses, judgeOf}
+use Rattle.frame_layout.specs.FrameLayout.{lastPlace, kindAt, standsAt, numberDue}
+use Rattle.frame.specs.Frame.{passes, gives, refuses, judgeOf}
 use Rattle.frame.specs.Calls.{Line, line, called, after, rulings, isComplete, fits, laidFrom, IsFrame}
 use Rattle.frame_laws.specs.FrameLaws.{after-append, rulings-append, sof-not-due, frame-complete, toComplete, Effect, wrongKind, wrongNumber, waits, breaks, strays, starts, restarts, goes, ends, effect, passes-after}
 use Rattle.frame_laws.specs.SentFrames.{judgedLine, allLines, AllFrames, no-frames, and-frame}

@@ -16,9 +16,9 @@ use Rattle.refinement.specs.Runs.{RunCall, runResult, FinishLastRun, runsTaken}
 use Rattle.frame.specs.declared.Judge.the-variants as judge
 use Rattle.frame.specs.declared.Ruling.{Ruling}
 use Rattle.frame.specs.declared.Ruling.the-variants.{Waiting, Going, Refused}
-use Rattle.frame.specs.Frame.{lastPlace}
+use Rattle.frame_layout.specs.FrameLayout.{lastPlace}
 use Rattle.frame.specs.Calls.{rulings, isComplete}
-use Rattle.frame.specs.Handing.{allHanded}
+use Rattle.frame_handing.specs.Handing.{allHanded}
 use Rattle.frame_laws.specs.FrameLaws.{toComplete}
 use Rattle.frame_laws.specs.SentFrames.{allLines, AllFrames}
 use Rattle.tally.specs.declared.Tally.{Tally}

@@ -22,7 +22,7 @@ use Rattle.refinement.specs.RunAnswers.{runsFinish}
 use Rattle.refinement.specs.Brought.{ofEach, of-each, calls-bring}
 use Rattle.frame.specs.declared.Judge.the-variants.{Waiting}
 use Rattle.frame.specs.Calls.{Line, rulings}
-use Rattle.frame.specs.Handing.{handedLines, allHanded}
+use Rattle.frame_handing.specs.Handing.{handedLines, allHanded}
 use Rattle.frame_laws.specs.SentFrames.{judgedLine, allLines}
 use Rattle.slip.specs.Slip.{slipped, Inside}
 use Rattle.slip.specs.SlipLaws.{parted, withContent, leftOf, left-short, slipped-is}

@@ -13,9 +13,9 @@ use Rattle.stream.specs.Written.{Sent}
 use Rattle.frame.specs.declared.Judge.the-variants.{Waiting}
 use Rattle.frame.specs.declared.Ruling.{Ruling}
 use Rattle.frame.specs.declared.Ruling.the-variants as ruling
-use Rattle.frame.specs.Frame.{lastPlace}
+use Rattle.frame_layout.specs.FrameLayout.{lastPlace}
 use Rattle.frame.specs.Calls.{rulings, isComplete, isBreak}
-use Rattle.frame.specs.Handing.{allHanded}
+use Rattle.frame_handing.specs.Handing.{allHanded}
 use Rattle.frame_laws.specs.FrameLaws.{toComplete}
 use Rattle.tally.specs.declared.Tally.{Tally}
 use Rattle.tally.specs.Tally.{freshTally}

@@ -6,8 +6,8 @@ use Rattle.line_code.specs.declared.Kind.the-variants.{BK, SOF}
 use Rattle.profile.specs.declared.Profile.the-variants.{VV5404}
 use Rattle.recovery.specs.Examples.{sample}
 use Rattle.stream.specs.Written.{Sent}
-use Rattle.frame.specs.declared.Borders.the-variants.{On, Off}
-use Rattle.frame.specs.Frame.{layout, kindsOf}
+use Rattle.frame_layout.specs.declared.Borders.the-variants.{On, Off}
+use Rattle.frame_layout.specs.FrameLayout.{layout, kindsOf}
 use Rattle.frame_laws.specs.SentFrames.{allLines}
 use Rattle.slip.specs.Slip.{slipped}
 use Rattle.slip.specs.Examples.{samplesFrom, sampleFrame, frames-slip}

@@ -21,9 +21,9 @@ use Rattle.signal.specs.Signal.{isCut}
 use Rattle.frame.specs.declared.Judge.the-variants.{Waiting}
 use Rattle.frame.specs.declared.Ruling.{Ruling}
 use Rattle.frame.specs.declared.Ruling.the-variants.{Going, Complete}
-use Rattle.frame.specs.Frame.{lastPlace}
+use Rattle.frame_layout.specs.FrameLayout.{lastPlace}
 use Rattle.frame.specs.Calls.{Line, rulings, isComplete}
-use Rattle.frame.specs.Handing.{allHanded}
+use Rattle.frame_handing.specs.Handing.{allHanded}
 use Rattle.frame_laws.specs.FrameLaws.{toComplete}
 use Rattle.frame_laws.specs.SentFrames.{judgedLine, allLines, AllFrames}
 use Rattle.tally.specs.Tally.{isUnfinished}

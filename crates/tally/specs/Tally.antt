@@ -6,16 +6,16 @@ use Rattle.refusal.specs.Refusal.{unfinishedLine}
 use Rattle.profile.specs.declared.Profile.{Profile}
 use Rattle.stream.specs.declared.Answer.{Answer}
 use Rattle.stream.specs.declared.Answer.the-variants as answer
-use Rattle.frame.specs.declared.Borders.{Borders}
-use Rattle.frame.specs.declared.Borders.the-variants.{Unsettled}
-use Rattle.frame.specs.declared.Handed.{Handed}
-use Rattle.frame.specs.declared.Handed.the-variants as hand
+use Rattle.frame_layout.specs.declared.Borders.{Borders}
+use Rattle.frame_layout.specs.declared.Borders.the-variants.{Unsettled}
+use Rattle.frame_handing.specs.declared.Handed.{Handed}
+use Rattle.frame_handing.specs.declared.Handed.the-variants as hand
 use Rattle.frame.specs.declared.Judge.{Judge}
 use Rattle.frame.specs.declared.Judge.the-variants.{Waiting, Due}
 use Rattle.frame.specs.declared.Ruling.{Ruling}
 use Rattle.frame.specs.declared.Ruling.the-variants as ruling
 use Rattle.frame.specs.Frame.{judgeOf, breaksFrame}
-use Rattle.frame.specs.Handing.{handedOver}
+use Rattle.frame_handing.specs.Handing.{handedOver}
 use Rattle.counts.specs.Counts.{oneMore}
 use Rattle.tally.specs.declared.Tally.{Tally}
 use Rattle.tally.specs.declared.News.{News}

@@ -11,16 +11,17 @@ use Rattle.profile.specs.declared.Profile.{Profile}
 use Rattle.profile.specs.declared.Profile.the-variants.{VV5404, VV5300}
 use Rattle.stream.specs.declared.Answer.{Answer}
 use Rattle.stream.specs.declared.Answer.the-variants as answer
-use Rattle.frame.specs.declared.Borders.{Borders}
-use Rattle.frame.specs.declared.Handed.{Handed}
-use Rattle.frame.specs.declared.Handed.the-variants as hand
+use Rattle.frame_layout.specs.declared.Borders.{Borders}
+use Rattle.frame_handing.specs.declared.Handed.{Handed}
+use Rattle.frame_handing.specs.declared.Handed.the-variants as hand
 use Rattle.frame.specs.declared.Judge.{Judge}
 use Rattle.frame.specs.declared.Judge.the-variants.{Waiting, Due}
 use Rattle.frame.specs.declared.Ruling.{Ruling}
 use Rattle.frame.specs.declared.Ruling.the-variants as ruling
-use Rattle.frame.specs.Frame.{lastPlace, passes, refuses, broken, judgeOf, breaksFrame}
+use Rattle.frame_layout.specs.FrameLayout.{lastPlace}
+use Rattle.frame.specs.Frame.{passes, refuses, broken, judgeOf, breaksFrame}
 use Rattle.frame.specs.Calls.{Line, line, called, after, rulings, isComplete, isBreak, IsFrame}
-use Rattle.frame.specs.Handing.{isBrokenLine, handedOver, asLines, handedLines, allHanded}
+use Rattle.frame_handing.specs.Handing.{isBrokenLine, handedOver, asLines, handedLines, allHanded}
 use Rattle.frame_laws.specs.FrameLaws.{after-append, toComplete, frame-complete}
 use Rattle.counts.specs.Counts.{oneMore, counting}
 use Rattle.counts.specs.CountsLaws.{counted, some}

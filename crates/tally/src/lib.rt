@@ -1,15 +1,15 @@
 // The frames of a capture (paper 01, 'Frames of profile 0'): how many are complete, how many are broken, and why.
 //
 // In: the answer of each call to the reader, in order; at the end, finish's. Out: beside the next tally, news of a frame that is complete,
-// broken, or cut off by the capture's end. What frame::handed_over has of an answer is handed to the judge. Nothing is refused; where the
+// broken, or cut off by the capture's end. What frame_handing::handed_over has of an answer is handed to the judge. Nothing is refused; where the
 // judge refuses 11, 13 or 14, which leave it as it was, the mark is counted. Cost: constant.
 ghost use mathlib.Core.Path.{_≡_};
 ghost use Rattle.tally.specs.Tally.{freshTally, quiet, marked, markedBy, ownAnswer, bordersOf, opening, moved, completed, brokenBy, refusedBy, handed, takeOf, isUnfinished, cutOf, closeOf};
 use counts::one_more;
-use frame::Borders;
-use frame::Handed;
 use frame::Judge;
 use frame::Ruling;
+use frame_handing::Handed;
+use frame_layout::Borders;
 use profile::Profile;
 use stream::Answer;
 
@@ -61,7 +61,7 @@ impl Tally {
         ensures { λ r. ⌜ r ≡ takeOf self answer ⌝ }
     {
         let tally = self.marked_by(answer);
-        let handed = frame::handed_over(answer);
+        let handed = frame_handing::handed_over(answer);
         match handed {
             Handed::Nothing => quiet(tally),
             Handed::Line(kind, number) => { tally.hand(kind, number, own_answer(answer)) }

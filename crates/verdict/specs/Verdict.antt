@@ -7,7 +7,7 @@ use Rattle.profile.specs.declared.Profile.{Profile}
 use Rattle.stream.specs.declared.Mark.{Mark}
 use Rattle.stream.specs.declared.Mark.the-variants.{NoMark, Open}
 use Rattle.stream.specs.Written.{mostText}
-use Rattle.frame.specs.Frame.{lastPlace}
+use Rattle.frame_layout.specs.FrameLayout.{lastPlace}
 use Rattle.signal.specs.declared.First.{First}
 use Rattle.signal.specs.declared.First.the-variants.{Unseen, InsideLine, Other}
 use Rattle.verdict.specs.declared.Findings.{Findings}

@@ -146,7 +146,7 @@ impl Findings {
             return false;
         }
         let profile = tally.profile;
-        let most = frame::last_place(profile) as u64;
+        let most = frame_layout::last_place(profile) as u64;
         if most < outside.early {
             return false;
         }

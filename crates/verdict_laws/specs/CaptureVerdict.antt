@@ -15,9 +15,10 @@ use Rattle.signal.specs.Seen.{answersOf, fromStart}
 use Rattle.frame.specs.declared.Judge.{Judge}
 use Rattle.frame.specs.declared.Judge.the-variants.{Waiting, Due}
 use Rattle.frame.specs.declared.Ruling.{Ruling}
-use Rattle.frame.specs.Frame.{lastPlace, opens, brokenKind}
+use Rattle.frame_layout.specs.FrameLayout.{lastPlace}
+use Rattle.frame.specs.Frame.{opens, brokenKind}
 use Rattle.frame.specs.Calls.{Line, called, rulings, isComplete, isBreak}
-use Rattle.frame.specs.Handing.{allHanded}
+use Rattle.frame_handing.specs.Handing.{allHanded}
 use Rattle.tally.specs.Tally.{isUnfinished}
 use Rattle.verdict.specs.declared.Findings.{Findings}
 use Rattle.verdict.specs.declared.Verdict.{Verdict}

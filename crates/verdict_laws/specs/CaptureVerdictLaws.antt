@@ -30,16 +30,17 @@ use Rattle.signal.specs.Signal.{refusals, freshSignal, isStart, isCut, withFirs
 use Rattle.signal.specs.Signal as signal
 use Rattle.signal.specs.Seen.{signalled, captureSignal, answersOf, fromStart, isRefusal, firstOf}
 use Rattle.signal.specs.SignalLaws.{counts-answers}
-use Rattle.frame.specs.declared.Handed.{Handed}
-use Rattle.frame.specs.declared.Handed.the-variants as hand
+use Rattle.frame_handing.specs.declared.Handed.{Handed}
+use Rattle.frame_handing.specs.declared.Handed.the-variants as hand
 use Rattle.frame.specs.declared.Judge.{Judge}
 use Rattle.frame.specs.declared.Judge.the-variants.{Waiting, Due}
 use Rattle.frame.specs.declared.Ruling.{Ruling}
 use Rattle.frame.specs.declared.Ruling.the-variants as ruling
 use Rattle.frame.specs.declared.Judged.{Judged}
-use Rattle.frame.specs.Frame.{lastPlace, gives, refuses, opens, begun, brokenKind, judgeOf, breaksFrame}
+use Rattle.frame_layout.specs.FrameLayout.{lastPlace}
+use Rattle.frame.specs.Frame.{gives, refuses, opens, begun, brokenKind, judgeOf, breaksFrame}
 use Rattle.frame.specs.Calls.{Line, line, called, after, rulings, isComplete, isBreak}
-use Rattle.frame.specs.Handing.{isBrokenLine, handedOver, asLines, handedLines, allHanded}
+use Rattle.frame_handing.specs.Handing.{isBrokenLine, handedOver, asLines, handedLines, allHanded}
 use Rattle.frame_laws.specs.FrameLaws.{opens-is}
 use Rattle.tally.specs.declared.Tally.{Tally}
 use Rattle.tally.specs.declared.Told.{Told}

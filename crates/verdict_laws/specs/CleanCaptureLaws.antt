@@ -25,13 +25,13 @@ use Rattle.recovery.specs.CutStream.{cutOut, wholeBetween, Tidy, tidy-none, tid
 use Rattle.recovery.specs.CutStreamLaws.{cut-stream}
 use Rattle.signal.specs.Signal.{isCut}
 use Rattle.signal.specs.Seen.{fromStart}
-use Rattle.frame.specs.declared.Borders.{Borders}
-use Rattle.frame.specs.declared.Borders.the-variants.{On}
+use Rattle.frame_layout.specs.declared.Borders.{Borders}
+use Rattle.frame_layout.specs.declared.Borders.the-variants.{On}
 use Rattle.frame.specs.declared.Judge.the-variants.{Waiting}
-use Rattle.frame.specs.Frame.{lastPlace}
+use Rattle.frame_layout.specs.FrameLayout.{lastPlace}
 use Rattle.frame.specs.Calls.{Line, rulings, isComplete, isBreak, fits, laidFrom, IsFrame}
 use Rattle.frame.specs.Calls as calls
-use Rattle.frame.specs.Handing.{isBrokenLine, handedLines, allHanded}
+use Rattle.frame_handing.specs.Handing.{isBrokenLine, handedLines, allHanded}
 use Rattle.frame_laws.specs.SentFrames.{judgedLine, judgedLines, allLines, AllFrames, no-frames, and-frame}
 use Rattle.tally.specs.Tally.{isUnfinished}
 use Rattle.verdict.specs.declared.Findings.{Findings}

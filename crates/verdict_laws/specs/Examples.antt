@@ -14,10 +14,10 @@ use Rattle.profile.specs.declared.Profile.{Profile}
 use Rattle.profile.specs.declared.Profile.the-variants.{VV5404, VV5300}
 use Rattle.stream.specs.Written.{Sent, AllWritable, no-lines, and-line, stream}
 use Rattle.recovery.specs.Examples.{sample, sample-writable}
-use Rattle.frame.specs.declared.Borders.{Borders}
-use Rattle.frame.specs.Frame.{layout, kindsOf, lastPlace}
+use Rattle.frame_layout.specs.declared.Borders.{Borders}
+use Rattle.frame_layout.specs.FrameLayout.{layout, kindsOf, lastPlace}
 use Rattle.frame.specs.Calls.{Line, line, IsFrame, numberedFrom}
-use Rattle.frame.specs.FrameLength.{frame-length}
+use Rattle.frame_layout.specs.FrameLength.{frame-length}
 use Rattle.frame_laws.specs.FrameLaws.{frame-counted}
 use Rattle.frame_laws.specs.SentFrames.{judgedLines, AllFrames, no-frames, and-frame}
 use Rattle.verdict.specs.declared.Verdict.the-variants.{Good}

@@ -5,11 +5,11 @@ use mathlib.Core.List.{List, [], _∷_, _++_}
 use Prim.Native.Nat.{_≤_}
 use lib.ListN.{length}
 use Rattle.profile.specs.declared.Profile.{Profile}
-use Rattle.frame.specs.declared.Borders.{Borders}
+use Rattle.frame_layout.specs.declared.Borders.{Borders}
 use Rattle.frame.specs.declared.Judge.the-variants.{Waiting}
 use Rattle.frame.specs.declared.Ruling.{Ruling}
 use Rattle.frame.specs.declared.Ruling.the-variants as ruling
-use Rattle.frame.specs.Frame.{lastPlace}
+use Rattle.frame_layout.specs.FrameLayout.{lastPlace}
 use Rattle.frame.specs.Calls.{Line, rulings, IsFrame}
 
 -- each ruling is Going

@@ -19,16 +19,17 @@ use Rattle.stream.specs.declared.Answer.{Answer}
 use Rattle.stream.specs.declared.Answer.the-variants as answer
 use Rattle.signal.specs.Signal.{refusals, isCut}
 use Rattle.signal.specs.Seen.{fromStart}
-use Rattle.frame.specs.declared.Borders.{Borders}
+use Rattle.frame_layout.specs.declared.Borders.{Borders}
 use Rattle.frame.specs.declared.Judge.{Judge}
 use Rattle.frame.specs.declared.Judge.the-variants.{Waiting, Due}
-use Rattle.frame.specs.declared.Handed.the-variants as hand
+use Rattle.frame_handing.specs.declared.Handed.the-variants as hand
 use Rattle.frame.specs.declared.Ruling.{Ruling}
 use Rattle.frame.specs.declared.Ruling.the-variants as ruling
 use Rattle.frame.specs.declared.Judged.{Judged}
-use Rattle.frame.specs.Frame.{lastPlace, lineDue, settled, passes, gives, refuses, opens, begun, brokenKind, judgeOf}
+use Rattle.frame_layout.specs.FrameLayout.{lastPlace, lineDue, settled}
+use Rattle.frame.specs.Frame.{passes, gives, refuses, opens, begun, brokenKind, judgeOf}
 use Rattle.frame.specs.Calls.{Line, line, called, after, rulings, isBreak, accepts, accepted, IsFrame}
-use Rattle.frame.specs.Handing.{isBrokenLine, asLines, allHanded}
+use Rattle.frame_handing.specs.Handing.{isBrokenLine, asLines, allHanded}
 use Rattle.frame_laws.specs.FrameLaws.{passes-high, rulings-append, after-snoc, accepted-snoc, Effect, wrongKind, wrongNumber, waits, breaks, strays, starts, restarts, goes, ends, effect, reached-passes, complete-frame}
 use Rattle.tally.specs.Tally.{isUnfinished}
 use Rattle.verdict.specs.declared.Verdict.the-variants.{Good}

@@ -14,7 +14,7 @@ returns c =
     let keep = c .before .before .before .before .keep in
     let taken = c .before .if1 .taken in
     gives _ _ (progress.Complete (keep .result .end)) _ _ (ap (λ (s : Gatherer). saying s (progress.Complete (keep .result .end))) (c .moved .ensures))
-    (simp (← keep .ensures .fitting, keep .ensures .leaves, keep .ensures .ending taken, taken))
+    (simp (← keep .ensures .fitting, keep .ensures .leaves, keep .ensures .ending, taken))
 
 returns-2 : tie.Need-returns-2
 unfolding completed

@@ -10,7 +10,7 @@ unfolding onward
 returns c =
     let test = c .before .before in
     let row = test .before .before .before .keep .ensures in
-    gives _ _ _ _ _ (quietly (c .quiet .ensures) (c .before .moved .ensures)) (simp (← row .fitting, row .leaves, row .ending (test .if1 .taken), test .if1 .taken))
+    gives _ _ _ _ _ (quietly (c .quiet .ensures) (c .before .moved .ensures)) (simp (← row .fitting, row .leaves, row .ending, test .if1 .taken))
 
 returns-2 : tie.Need-returns-2
 unfolding onward

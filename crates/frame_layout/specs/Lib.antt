@@ -1,0 +1,4 @@
+pub mod FrameLayout
+pub mod FrameLength
+pub mod Places
+pub mod PlaceLaws

@@ -1,0 +1,4 @@
+pub mod Gathering
+pub mod FrameRowsLaws
+pub mod PictureLaws
+pub mod WholeFrameLaws
