@@ -62,7 +62,7 @@ impl Script {
 
     // A character more.
     pub fn feed(self, c: u8, line: &mut [u8], out: &mut [u8; 128]) -> Fed
-        ensures { λ r. ⌜ Feeds (placeOf self (now (line .entry))) c (now (out .entry)) (placeOf (r .script) (now (line .exit))) r (now (out .exit)) ⌝ }
+        ensures { λ r. ⌜ Feeds self c (now (line .entry)) (now (out .entry)) r (now (line .exit)) (now (out .exit)) ⌝ }
     {
         let profile = self.profile;
         if c == b'\n' {
@@ -122,7 +122,7 @@ fn keep_blank(line: &mut [u8], length: usize) -> usize
         return 0;
     }
     if line.len() <= length {
-        return length;
+        return line.len();
     }
     if line[length - 1] == b' ' {
         return length;
@@ -138,7 +138,7 @@ fn append(c: u8, line: &mut [u8], length: usize) -> usize
         line[length] = c;
         return length + 1;
     }
-    length
+    line.len()
 }
 
 // The text for the line that is kept, as far as a buffer has room, and the sensor's state after it.
