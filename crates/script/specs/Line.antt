@@ -10,7 +10,7 @@ use Rattle.text.specs.Put.{Puts}
 use Rattle.profile.specs.declared.Profile.{Profile}
 use Rattle.profile.specs.declared.Profile.the-variants.{VV5404, VV5300}
 use Rattle.two_wire.specs.declared.Sensor.{Sensor}
-use Rattle.two_wire.specs.Writing.{message}
+use Rattle.two_wire.specs.Messages.{message}
 use Rattle.setting.specs.declared.Setting.{Setting}
 use Rattle.setting.specs.declared.Setting.the-variants.{Single, Double, Beyond, NoGain, Unknown}
 use Rattle.setting.specs.Setting.{settingOf}

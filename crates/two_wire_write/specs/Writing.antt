@@ -5,8 +5,8 @@ use Prim.Native.Nat.{ℕ}
 use lib.Dec.{eqb, ltb}
 use Rattle.refusal.specs.Refusal.{shortMessage, pastLastRegister}
 use Rattle.lent_buffer.specs.Filled.{Output, require, fitted}
 use Rattle.two_wire.specs.Registers.{lastIndex}
-use Rattle.two_wire.specs.Messages.{writeAddress}
+use Rattle.two_wire.specs.Messages.{message}
 
 -- A list of pairs is index, value, index, value, ..
 
@@ -21,10 +21,6 @@ abbrev pub someIndexPast : List ℕ → Bool
 someIndexPast [] = false
 someIndexPast (i ∷ []) = false
 someIndexPast (i ∷ v ∷ pairs) = ltb lastIndex i || someIndexPast pairs
-
--- the message of a pair
-abbrev pub message : ℕ → ℕ → List ℕ
-message i v = writeAddress ∷ i ∷ v ∷ []
 
 -- the messages of the pairs
 abbrev pub messages : List ℕ → List (List ℕ)

@@ -6,10 +6,10 @@ use native.Mathlib.Omega.{arith}
 use borrow.Author.Needs.{needs}
 use borrow.Author.Tests.{lt-ltb, le-ltb}
 use lib.ListN.{length, drop, drop-of-length-le}
-use Rattle.two_wire.specs.Writing.{endsWithinPair, someIndexPast}
-use Rattle.two_wire.specs.WritingLaws.{pair-whole, ends-step, past-step}
-use Rattle.two_wire.proofs.some_index_past.Statement.{statement}
-use Rattle.two_wire.proofs.some_index_past.Tie as tie
+use Rattle.two_wire_write.specs.Writing.{endsWithinPair, someIndexPast}
+use Rattle.two_wire_write.specs.WritingLaws.{pair-whole, ends-step, past-step}
+use Rattle.two_wire_write.proofs.some_index_past.Statement.{statement}
+use Rattle.two_wire_write.proofs.some_index_past.Tie as tie
 
 abbrev Inv-loop : tie.InvT-loop
 Inv-loop pairs i₀ i = (i ≤ length pairs) × (endsWithinPair (drop i pairs) ≡ false) × (someIndexPast pairs ≡ someIndexPast (drop i pairs))

@@ -4,8 +4,8 @@ use native.Mathlib.Omega.{arith}
 use mathlib.Core.Path.{refl}
 use lib.ListN.{length-set}
 use borrow.Author.Needs.{needs}
-use Rattle.two_wire.proofs.put_message.Statement.{statement}
-use Rattle.two_wire.proofs.put_message.Tie as tie
+use Rattle.two_wire_write.proofs.put_message.Statement.{statement}
+use Rattle.two_wire_write.proofs.put_message.Tie as tie
 
 slice-write-buffer-2 : tie.Need-slice-write-buffer-2
 slice-write-buffer-2 c = simp length-set (omega arith)

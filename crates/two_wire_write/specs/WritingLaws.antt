@@ -14,8 +14,9 @@ use Rattle.lent_buffer.specs.declared.Filled.the-variants.{Length}
 use Rattle.lent_buffer.specs.Filled.{used, Gives, require}
 use Rattle.lent_buffer.specs.FilledLaws.{fills, fitted-used, passed, used-fitted}
 use Rattle.lent_buffer.specs.StoringLaws.{sets-front}
 use Rattle.two_wire.specs.Registers.{lastIndex}
-use Rattle.two_wire.specs.Writing.{endsWithinPair, someIndexPast, message, messages, joined, writeOf, inThrees}
+use Rattle.two_wire.specs.Messages.{message}
+use Rattle.two_wire_write.specs.Writing.{endsWithinPair, someIndexPast, messages, joined, writeOf, inThrees}
 
 pub ends-odd : (pairs : List ℕ) → endsWithinPair pairs ≡ eqb (length pairs % 2) 1
 ends-odd [] = refl

@@ -6,10 +6,10 @@ use native.Mathlib.Omega.{arith}
 use borrow.Author.Needs.{needs}
 use lib.ListN.{length, drop, drop-of-length-le}
 use lib.Seq.{sets}
-use Rattle.two_wire.specs.Writing.{endsWithinPair, messages, joined}
-use Rattle.two_wire.specs.WritingLaws.{pair-whole, ends-step, step-length, step-sets}
-use Rattle.two_wire.proofs.put_messages.Statement.{statement}
-use Rattle.two_wire.proofs.put_messages.Tie as tie
+use Rattle.two_wire_write.specs.Writing.{endsWithinPair, messages, joined}
+use Rattle.two_wire_write.specs.WritingLaws.{pair-whole, ends-step, step-length, step-sets}
+use Rattle.two_wire_write.proofs.put_messages.Statement.{statement}
+use Rattle.two_wire_write.proofs.put_messages.Tie as tie
 
 abbrev Inv-loop : tie.InvT-loop
 Inv-loop pairs buffer₀ at₀ i₀ buffer at i = (i ≤ length pairs) × (endsWithinPair (drop i pairs) ≡ false) × (length buffer ≡ length buffer₀)

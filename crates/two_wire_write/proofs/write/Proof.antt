@@ -1,16 +1,16 @@
 -- An odd length ends within a pair; a message is three bytes, so all have room where a third of the buffer is at least the pairs' count.
-use Rattle.two_wire.specs.WritingLaws.{ends-odd, messages-length, written}
+use Rattle.two_wire_write.specs.WritingLaws.{ends-odd, messages-length, written}
 use Prim.Native.Nat.{_<_}
 use lib.ListN.{length}
-use Rattle.two_wire.specs.Writing.{writeOf, messages, joined}
+use Rattle.two_wire_write.specs.Writing.{writeOf, messages, joined}
 use mathlib.Core.Path.{sym, _∙_}
 use native.Mathlib.Omega.{arith}
 use borrow.Author.Tests.{eq-eqb, ne-eqb, lt-leb}
 use Rattle.lent_buffer.specs.Filled.{require}
 use Rattle.lent_buffer.specs.FilledLaws.{refuses}
 use borrow.Author.Needs.{needs}
-use Rattle.two_wire.proofs.write.Statement.{statement}
-use Rattle.two_wire.proofs.write.Tie as tie
+use Rattle.two_wire_write.proofs.write.Statement.{statement}
+use Rattle.two_wire_write.proofs.write.Tie as tie
 
 returns : tie.Need-returns
 unfolding writeOf require
