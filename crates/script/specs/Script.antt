@@ -13,8 +13,8 @@ use Rattle.two_wire.specs.Registers.{fresh}
 use Rattle.setting.specs.Number.{isBlank}
 use Rattle.script.specs.declared.Script.{Script}
 use Rattle.script.specs.declared.Fed.{Fed}
-use Rattle.script.specs.declared.Reply.{Reply}
-use Rattle.script.specs.Line.{tooLongText, textOf, refusedOf, sensorOf, Replies}
+use Rattle.script_line.specs.declared.Reply.{Reply}
+use Rattle.script_line.specs.Line.{tooLongText, textOf, refusedOf, sensorOf, Replies}
 
 -- a sensor and its state, the number of the line, the room for it, and its characters so far
 pub record Place : Type 0 where

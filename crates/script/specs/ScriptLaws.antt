@@ -11,8 +11,8 @@ use lib.Seq.{take-all, take-append-le, take-append-seam, take-length, length-tak
 use Rattle.text.specs.Text.{space}
 use Rattle.text.specs.Put.{AtFront}
 use Rattle.setting.specs.Number.{isBlank}
-use Rattle.script.specs.Line.{tooLongText, textOf}
-use Rattle.script.specs.LineLaws.{too-long-short, text-short}
+use Rattle.script_line.specs.Line.{tooLongText, textOf}
+use Rattle.script_line.specs.LineLaws.{too-long-short, text-short}
 use Rattle.script.specs.Script.{Place, lineText, appended, blankAfter, keptAfter, placeAfter, textOn, refusedOn, textWhere, scriptText, pieceText, afterPiece, Appends, KeepsBlank, KeepsCharacter}
 
 -- a line that fills its buffer, and one that does not

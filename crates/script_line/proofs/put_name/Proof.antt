@@ -3,8 +3,8 @@ use mathlib.Core.Path.{sym}
 use native.Mathlib.Omega.{arith}
 use borrow.Author.Needs.{needs}
 use lib.Seq.{take-all, length-take-le}
-use Rattle.script.proofs.put_name.Statement.{statement}
-use Rattle.script.proofs.put_name.Tie as tie
+use Rattle.script_line.proofs.put_name.Statement.{statement}
+use Rattle.script_line.proofs.put_name.Tie as tie
 
 returns : tie.Need-returns
 returns c =

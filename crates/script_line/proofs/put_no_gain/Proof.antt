@@ -1,9 +1,9 @@
 -- The line, and the codes.
 use borrow.Author.Needs.{needs}
 use Rattle.text.specs.PutLaws.{then}
-use Rattle.script.specs.Line.{noGainText}
-use Rattle.script.proofs.put_no_gain.Statement.{statement}
-use Rattle.script.proofs.put_no_gain.Tie as tie
+use Rattle.script_line.specs.Line.{noGainText}
+use Rattle.script_line.proofs.put_no_gain.Statement.{statement}
+use Rattle.script_line.proofs.put_no_gain.Tie as tie
 
 returns : tie.Need-returns
 unfolding noGainText

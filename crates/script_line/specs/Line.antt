@@ -16,8 +16,8 @@ use Rattle.setting.specs.declared.Setting.the-variants.{Single, Double, Beyond,
 use Rattle.setting.specs.Setting.{settingOf}
 use Rattle.two_wire_text.specs.Hex.{hexText, isMessage}
 use Rattle.two_wire_text.specs.Explained.{messageText, messageSensor}
-use Rattle.script.specs.declared.Reply.{Reply}
-use Rattle.script.specs.Bare.{bareLength, bare}
+use Rattle.script_line.specs.declared.Reply.{Reply}
+use Rattle.script_line.specs.Bare.{bareLength, bare}
 
 -- ---- why a line is refused: its number, and what it may be
 

@@ -2,9 +2,9 @@
 use mathlib.Core.Path.{refl}
 use borrow.Author.Needs.{needs}
 use Rattle.text.specs.PutLaws.{then}
-use Rattle.script.specs.Line.{textBy, refusedBy, sensorBy}
-use Rattle.script.proofs.tell_bare.Statement.{statement}
-use Rattle.script.proofs.tell_bare.Tie as tie
+use Rattle.script_line.specs.Line.{textBy, refusedBy, sensorBy}
+use Rattle.script_line.proofs.tell_bare.Statement.{statement}
+use Rattle.script_line.proofs.tell_bare.Tie as tie
 
 returns : tie.Need-returns
 unfolding textBy refusedBy sensorBy

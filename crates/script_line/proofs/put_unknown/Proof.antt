@@ -1,9 +1,9 @@
 -- The line, and the words for the sensor, by the match on which it is.
 use borrow.Author.Needs.{needs}
 use Rattle.text.specs.PutLaws.{then}
-use Rattle.script.specs.Line.{unknownText}
-use Rattle.script.proofs.put_unknown.Statement.{statement}
-use Rattle.script.proofs.put_unknown.Tie as tie
+use Rattle.script_line.specs.Line.{unknownText}
+use Rattle.script_line.proofs.put_unknown.Statement.{statement}
+use Rattle.script_line.proofs.put_unknown.Tie as tie
 
 returns : tie.Need-returns
 unfolding unknownText

@@ -5,10 +5,10 @@ use borrow.Author.Tests.{eq-eqb, ne-eqb}
 use borrow.Author.Needs.{needs}
 use lib.Seq.{length-take-le}
 use Rattle.text.specs.PutLaws.{puts-none}
-use Rattle.script.specs.BareLaws.{bare-within}
-use Rattle.script.specs.Line.{textOf, refusedOf, sensorOf}
-use Rattle.script.proofs.tell.Statement.{statement}
-use Rattle.script.proofs.tell.Tie as tie
+use Rattle.script_line.specs.BareLaws.{bare-within}
+use Rattle.script_line.specs.Line.{textOf, refusedOf, sensorOf}
+use Rattle.script_line.proofs.tell.Statement.{statement}
+use Rattle.script_line.proofs.tell.Tie as tie
 
 returns : tie.Need-returns
 unfolding textOf refusedOf sensorOf

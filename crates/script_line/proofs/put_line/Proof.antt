@@ -1,9 +1,9 @@
 -- The word, the number and a colon, one after another.
 use borrow.Author.Needs.{needs}
 use Rattle.text.specs.PutLaws.{then}
-use Rattle.script.specs.Line.{lineHead}
-use Rattle.script.proofs.put_line.Statement.{statement}
-use Rattle.script.proofs.put_line.Tie as tie
+use Rattle.script_line.specs.Line.{lineHead}
+use Rattle.script_line.proofs.put_line.Statement.{statement}
+use Rattle.script_line.proofs.put_line.Tie as tie
 
 returns : tie.Need-returns
 unfolding lineHead

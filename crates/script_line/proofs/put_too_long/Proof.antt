@@ -1,9 +1,9 @@
 -- The line, and the room with its words, one after another.
 use borrow.Author.Needs.{needs}
 use Rattle.text.specs.PutLaws.{then}
-use Rattle.script.specs.Line.{tooLongText}
-use Rattle.script.proofs.put_too_long.Statement.{statement}
-use Rattle.script.proofs.put_too_long.Tie as tie
+use Rattle.script_line.specs.Line.{tooLongText}
+use Rattle.script_line.proofs.put_too_long.Statement.{statement}
+use Rattle.script_line.proofs.put_too_long.Tie as tie
 
 returns : tie.Need-returns
 unfolding tooLongText

@@ -1,9 +1,9 @@
 -- A message's line is explained as one; any other line is unknown.
 use mathlib.Core.Path.{refl}
 use borrow.Author.Needs.{needs}
-use Rattle.script.specs.Line.{textBy, refusedBy, sensorBy}
-use Rattle.script.proofs.explain.Statement.{statement}
-use Rattle.script.proofs.explain.Tie as tie
+use Rattle.script_line.specs.Line.{textBy, refusedBy, sensorBy}
+use Rattle.script_line.proofs.explain.Statement.{statement}
+use Rattle.script_line.proofs.explain.Tie as tie
 
 returns : tie.Need-returns
 unfolding textBy refusedBy sensorBy

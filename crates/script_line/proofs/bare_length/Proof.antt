@@ -4,10 +4,10 @@ use Prim.Native.Nat.{_≤_, _-_}
 use borrow.Author.Needs.{needs}
 use borrow.Author.Tests.{eq-eqb, ne-eqb}
 use lib.ListN.{length, drop, drop-of-length-le}
-use Rattle.script.specs.Bare.{bareLength}
-use Rattle.script.specs.BareLaws.{reach, reach-start, reach-comment, reach-step}
-use Rattle.script.proofs.bare_length.Statement.{statement}
-use Rattle.script.proofs.bare_length.Tie as tie
+use Rattle.script_line.specs.Bare.{bareLength}
+use Rattle.script_line.specs.BareLaws.{reach, reach-start, reach-comment, reach-step}
+use Rattle.script_line.proofs.bare_length.Statement.{statement}
+use Rattle.script_line.proofs.bare_length.Tie as tie
 
 abbrev Inv-loop : tie.InvT-loop
 Inv-loop line end₀ i₀ end i = (i ≤ length line) × (bareLength line ≡ reach i end (bareLength (drop i line)))

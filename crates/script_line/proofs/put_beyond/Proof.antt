@@ -1,9 +1,9 @@
 -- The line, the name, and the limit with its words, one after another.
 use borrow.Author.Needs.{needs}
 use Rattle.text.specs.PutLaws.{then}
-use Rattle.script.specs.Line.{beyondText}
-use Rattle.script.proofs.put_beyond.Statement.{statement}
-use Rattle.script.proofs.put_beyond.Tie as tie
+use Rattle.script_line.specs.Line.{beyondText}
+use Rattle.script_line.proofs.put_beyond.Statement.{statement}
+use Rattle.script_line.proofs.put_beyond.Tie as tie
 
 returns : tie.Need-returns
 unfolding beyondText

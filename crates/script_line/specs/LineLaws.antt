@@ -15,8 +15,8 @@ use Rattle.setting.specs.Setting.{settingOf}
 use Rattle.setting.specs.SettingLaws.{nameLength, value-name}
 use Rattle.two_wire_text.specs.Hex.{isMessage}
 use Rattle.two_wire_text.specs.ExplainedLaws.{message-short}
-use Rattle.script.specs.Bare.{bareLength, bare}
-use Rattle.script.specs.Line.{lineHead, beyondText, noGainText, unknownText, tooLongText, textBy, textOf}
+use Rattle.script_line.specs.Bare.{bareLength, bare}
+use Rattle.script_line.specs.Line.{lineHead, beyondText, noGainText, unknownText, tooLongText, textBy, textOf}
 
 shorter : (t : Bool) (v w : List ℕ) → length v ≤ 128 → length w ≤ 128 → length (cond t v w) ≤ 128
 shorter true v w h g = h

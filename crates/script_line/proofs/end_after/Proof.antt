@@ -1,7 +1,7 @@
 -- A blank leaves the end where it is; any other character moves it.
 use borrow.Author.Needs.{needs}
-use Rattle.script.proofs.end_after.Statement.{statement}
-use Rattle.script.proofs.end_after.Tie as tie
+use Rattle.script_line.proofs.end_after.Statement.{statement}
+use Rattle.script_line.proofs.end_after.Tie as tie
 
 returns : tie.Need-returns
 returns c = simp (← c .before .is-blank .ensures, c .if1 .taken)
