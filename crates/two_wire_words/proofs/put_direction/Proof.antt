@@ -1,9 +1,9 @@
 -- `WRITE ` or `READ `, by the test of the address.
 use borrow.Author.Tests.{eq-eqb, ne-eqb}
 use borrow.Author.Needs.{needs}
-use Rattle.two_wire_text.specs.Explained.{directionWord}
-use Rattle.two_wire_text.proofs.put_direction.Statement.{statement}
-use Rattle.two_wire_text.proofs.put_direction.Tie as tie
+use Rattle.two_wire_words.specs.Words.{directionWord}
+use Rattle.two_wire_words.proofs.put_direction.Statement.{statement}
+use Rattle.two_wire_words.proofs.put_direction.Tie as tie
 
 returns : tie.Need-returns
 unfolding directionWord

@@ -1,9 +1,9 @@
 -- One number after another is tried, in the order of the definition; the words of the one that it is are put.
 use borrow.Author.Tests.{eq-eqb, ne-eqb}
 use borrow.Author.Needs.{needs}
-use Rattle.two_wire_text.specs.Explained.{refusalWords}
-use Rattle.two_wire_text.proofs.put_words.Statement.{statement}
-use Rattle.two_wire_text.proofs.put_words.Tie as tie
+use Rattle.two_wire_words.specs.Words.{refusalWords}
+use Rattle.two_wire_words.proofs.put_words.Statement.{statement}
+use Rattle.two_wire_words.proofs.put_words.Tie as tie
 
 returns : tie.Need-returns
 unfolding refusalWords

@@ -1,9 +1,9 @@
 -- A message of two bytes and more has its parts, one after another; a shorter one is none.
 use borrow.Author.Needs.{needs}
 use Rattle.text.specs.PutLaws.{then, puts-none}
-use Rattle.two_wire_text.specs.ExplainedLaws.{accepted-short, accepted-parts}
-use Rattle.two_wire_text.proofs.put_accepted.Statement.{statement}
-use Rattle.two_wire_text.proofs.put_accepted.Tie as tie
+use Rattle.two_wire_words.specs.WordsLaws.{accepted-short, accepted-parts}
+use Rattle.two_wire_words.proofs.put_accepted.Statement.{statement}
+use Rattle.two_wire_words.proofs.put_accepted.Tie as tie
 
 returns : tie.Need-returns
 returns c = simp (accepted-short (c .before .before .before .args .bytes .now) (c .if1 .taken)) (puts-none _ 0)

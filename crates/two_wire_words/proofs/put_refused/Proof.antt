@@ -1,9 +1,9 @@
 -- The word, the number and what it means, one after another.
 use borrow.Author.Needs.{needs}
 use Rattle.text.specs.PutLaws.{then}
-use Rattle.two_wire_text.specs.Explained.{refusedText}
-use Rattle.two_wire_text.proofs.put_refused.Statement.{statement}
-use Rattle.two_wire_text.proofs.put_refused.Tie as tie
+use Rattle.two_wire_words.specs.Words.{refusedText}
+use Rattle.two_wire_words.proofs.put_refused.Statement.{statement}
+use Rattle.two_wire_words.proofs.put_refused.Tie as tie
 
 returns : tie.Need-returns
 unfolding refusedText
