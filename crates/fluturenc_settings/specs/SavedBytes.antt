@@ -10,7 +10,7 @@ use Rattle.refusal.specs.Refusal.{noRoom}
 use Rattle.lent_buffer.specs.Filled.{Output, refused}
 use Rattle.lent_call.specs.LentCall.{Called}
 use Rattle.line_list.specs.Lines.{fromTwo, inTwo}
-use Rattle.two_wire.specs.Writing.{writeOf}
+use Rattle.two_wire_write.specs.Writing.{writeOf}
 use Rattle.setting_registers.specs.SettingRegisters.{settingPairs}
 use Rattle.saved_setting.specs.declared.SavedSetting.{SavedSetting}
 use Rattle.saved_setting.specs.declared.Wanted.{Wanted}

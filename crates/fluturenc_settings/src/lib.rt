@@ -130,7 +130,7 @@ fn put_found(found: Held, messages: &mut [u8]) -> Filled
     match found {
         Held::Setting(s) => {
             let pairs = setting_registers::pairs(s);
-            return two_wire::write(&pairs, messages);
+            return two_wire_write::write(&pairs, messages);
         }
         Held::Refused(n) => {
             return Filled::Refused(n);

@@ -16,8 +16,9 @@ use Rattle.lent_call.specs.LentCallLaws.{bit-back, bit-tag}
 use Rattle.two_wire.specs.declared.Sensor.{Sensor}
 use Rattle.two_wire.specs.Registers.{registerCount, lastIndex, fresh}
 use Rattle.two_wire.specs.Messages.{Acceptance, accepted, refused, sensorAfter, messageOn, messagesOn}
-use Rattle.two_wire.specs.Writing.{writeOf, inThrees}
-use Rattle.two_wire.specs.TwoWireLaws.{Kept, message-keeps, SetAs, written-read-back}
+use Rattle.two_wire_write.specs.Writing.{writeOf, inThrees}
+use Rattle.two_wire.specs.TwoWireLaws.{Kept, message-keeps}
+use Rattle.two_wire_write.specs.ReadBackLaws.{SetAs, written-read-back}
 use Rattle.fluturenc_two_wire.specs.SensorBytes.{indexPlace, flagPlace, sensorLength, withSensor, sensorIn, holdsSensor, resetCall, messageCalled, messageCall}
 
 pub holds-length : (b : List ℕ) → holdsSensor b ≡ true → sensorLength ≤ length b

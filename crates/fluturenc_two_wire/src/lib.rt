@@ -14,7 +14,7 @@ ghost use mathlib.Core.Path.{_≡_};
 ghost use Prim.Native.Nat.{_≤_};
 ghost use lib.ListN.{length};
 ghost use Rattle.lent_call.specs.LentCall.{StateGives, WriteGives};
-ghost use Rattle.two_wire.specs.Writing.{writeOf};
+ghost use Rattle.two_wire_write.specs.Writing.{writeOf};
 ghost use Rattle.fluturenc_two_wire.specs.SensorBytes.{sensorLength, withSensor, sensorIn, holdsSensor, resetCall, messageCall};
 use two_wire::Answer;
 use two_wire::Sensor;
@@ -77,7 +77,7 @@ pub extern "C" fn fluturenc_sensor_message(sensor: &mut [u8], message: &[u8]) ->
 pub extern "C" fn fluturenc_messages(pairs: &[u8], messages: &mut [u8], written: &mut usize) -> u8
     ensures { λ r. ⌜ WriteGives (writeOf (now (pairs .entry)) (length (now (messages .entry)))) r (now (written .exit)) (now (messages .entry)) (now (messages .exit)) ⌝ }
 {
-    let filled = two_wire::write(pairs, messages);
+    let filled = two_wire_write::write(pairs, messages);
     lent_call::number_written(filled, written)
 }
 

@@ -13,8 +13,8 @@ use Rattle.two_wire.specs.Registers.{fresh}
 use Rattle.setting.specs.Number.{isBlank}
 use Rattle.script.specs.declared.Script.{Script}
 use Rattle.script.specs.declared.Fed.{Fed}
-use Rattle.script.specs.declared.Reply.{Reply}
-use Rattle.script.specs.Line.{tooLongText, textOf, refusedOf, sensorOf, Replies}
+use Rattle.script_line.specs.declared.Reply.{Reply}
+use Rattle.script_line.specs.Line.{tooLongText, textOf, refusedOf, sensorOf, Replies}
 
 -- a sensor and its state, the number of the line, the room for it, and its characters so far
 pub record Place : Type 0 where
@@ -107,23 +107,20 @@ afterPiece p (c ∷ piece) = afterPiece (placeAfter p c) piece
 abbrev pub RepliesLine : Place → List ℕ → List ℕ → Reply → Type 0
 RepliesLine p = Replies (lineSensor p) (lineRefused p) (lineText p)
 
--- characters kept at the front of a buffer, and its room
-pub record Keeps (kept before after : List ℕ) (r : ℕ) : Type 0 where
-  pub keeps : take r after ≡ kept
-  pub room : length after ≡ length before
-
--- those that a buffer has, with one more; with a blank more; with a character of a line more
+-- what a buffer keeps stands at its front and the rest is as it was: with a character more; with a blank more; with a character of a line more
 abbrev pub Appends : ℕ → List ℕ → ℕ → List ℕ → ℕ → Type 0
-Appends c before n = Keeps (appended (length before) (take n before) c) before
+Appends c line n after r = AtFront (appended (length line) (take n line) c) r line after
 
 abbrev pub KeepsBlank : List ℕ → ℕ → List ℕ → ℕ → Type 0
-KeepsBlank before n = Keeps (blankAfter (length before) (take n before)) before
+KeepsBlank line n after r = AtFront (blankAfter (length line) (take n line)) r line after
 
 abbrev pub KeepsCharacter : ℕ → List ℕ → ℕ → List ℕ → ℕ → Type 0
-KeepsCharacter c before n = Keeps (keptAfter (length before) (take n before) c) before
+KeepsCharacter c line n after r = AtFront (keptAfter (length line) (take n line) c) r line after
 
--- a character fed: where the script then stands, whether a line is refused, and the text at the front of a buffer
-pub record Feeds (p : Place) (c : ℕ) (before : List ℕ) (q : Place) (r : Fed) (after : List ℕ) : Type 0 where
-  pub moves : q ≡ placeAfter p c
-  pub refuses : r .refused ≡ refusedOn p c
-  pub tells : AtFront (textOn p c) (r .length) before after
+-- a character fed: where the script then stands, whether a line is refused, what is kept of a line at the front of its buffer, and the text at
+-- the front of the other; the rest of both is as it was
+pub record Feeds (s : Script) (c : ℕ) (line out : List ℕ) (r : Fed) (line₁ out₁ : List ℕ) : Type 0 where
+  pub moves : placeOf (r .script) line₁ ≡ placeAfter (placeOf s line) c
+  pub refuses : r .refused ≡ refusedOn (placeOf s line) c
+  pub keeps : AtFront (placeAfter (placeOf s line) c .kept) (r .script .length) line line₁
+  pub tells : AtFront (textOn (placeOf s line) c) (r .length) out out₁

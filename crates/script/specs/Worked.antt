@@ -11,7 +11,7 @@ use Rattle.profile.specs.declared.Profile.the-variants.{VV5404, VV5300}
 use Rattle.setting.specs.Number.{isBlank, firstWordIs, digitOnto}
 use Rattle.setting.specs.Setting.{single, double, gainCode, sharedSetting, settingVV5404, settingVV5300}
 use Rattle.two_wire_text.specs.Hex.{isMessage}
-use Rattle.script.specs.Line.{lineHead, beyondText, noGainText, unknownText, tooLongText, textBy, refusedBy, textOf, refusedOf}
+use Rattle.script_line.specs.Line.{lineHead, beyondText, noGainText, unknownText, tooLongText, textBy, refusedBy, textOf, refusedOf}
 use Rattle.script.specs.Script.{start, placeOf, lineText, lineRefused, lineAfter, blankAfter, keptAfter, placeAfter, textOn, refusedOn, scriptText}
 
 -- the text for a script, with room for lines of 23 characters, and the one for its refused lines

@@ -4,7 +4,7 @@ ghost use Rattle.setting_registers.specs.SettingRegisters.{settingPairs}
 use saved_setting::SavedSetting;
 use two_wire::register;
 
-// Index and value of each register to write, one after another, as `two_wire::write` takes them: fine and coarse exposure, each high byte
+// Index and value of each register to write, one after another, as `two_wire_write::write` takes them: fine and coarse exposure, each high byte
 // first, gain and clock divisor.
 pub fn pairs(setting: SavedSetting) -> [u8; 12]
     ensures { λ r. ⌜ r ≡ settingPairs setting ⌝ }

@@ -5,7 +5,7 @@ use Prim.Native.Nat.{ℕ}
 use lib.Dec.{eqb, ltb}
 use Rattle.refusal.specs.Refusal.{badSetting, versionNotHeld, noVersionLeft}
 use Rattle.text.specs.Text.{ascii}
-use Rattle.two_wire.specs.Writing.{message}
+use Rattle.two_wire.specs.Messages.{message}
 use Rattle.two_wire_text.specs.Hex.{hexText}
 use Rattle.exposure.specs.Exposure.{fineLimit, coarseLimit}
 use Rattle.saved_setting.specs.declared.SavedSetting.{SavedSetting}

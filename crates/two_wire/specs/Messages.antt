@@ -116,3 +116,9 @@ readMessage s n =
 -- the index behind n data bytes, as increment says
 abbrev pub behind : Sensor → ℕ → ℕ
 behind s n = cond (s .increment) (s .index + n) (s .index)
+
+-- ---- What it is sent
+
+-- a value to one register, without increment
+abbrev pub message : ℕ → ℕ → List ℕ
+message i v = writeAddress ∷ i ∷ v ∷ []

@@ -1,31 +1,28 @@
 -- Laws of the two-wire messages: what calls leave is never answered 11; a read made of the state itself is accepted; what a message
--- writes is read back; and the messages written from a list of pairs set each listed register to the last value listed for it.
-use mathlib.Core.Path.{_≡_, refl, sym, ap, subst, _∙_}
+-- writes is read back.
+use mathlib.Core.Path.{_≡_, refl, sym, ap, _∙_}
 use mathlib.Core.Bool.{Bool, true, false, cond}
 use mathlib.Core.List.{List, [], _∷_, _++_}
 use Prim.Native.Nat.{ℕ, zero, suc, _+_, _-_, _<_, _≤_}
 use native.Mathlib.Omega.{arith}
-use borrow.Author.Tests.{lt-ltb, le-ltb, le-leb, lt-leb, eq-eqb, leb-true, ltb-true, ltb-false, eqb-true, eqb-false}
+use borrow.Author.Tests.{lt-ltb, le-ltb, le-leb, lt-leb, eq-eqb, leb-true, ltb-true, ltb-false}
 use lib.Dec.{eqb, leb, ltb, lit≤}
 use lib.ListN.{length, getD, set, length-set}
 use lib.Seq.{getD-set-same, getD-set-other}
 use Rattle.two_wire.specs.declared.Sensor.{Sensor}
 use Rattle.two_wire.specs.Registers.{registerCount, lastIndex, firstSettable, next, passes, reached, left, put, stored, differs, someDiffers}
-use Rattle.two_wire.specs.RegisterLaws.{passes-counts, passes-still, reached-counts, reached-still, or-left, or-right}
+use Rattle.two_wire.specs.RegisterLaws.{passes-counts, passes-still, reached-counts, reached-still}
 use Rattle.two_wire.specs.Messages.{writeAddress, readAddress, incrementBit, indexByte, indexIn, incrementIn, Acceptance, accepted, refused, refuseIf, writeData, readData, readBack, addressed, laidOut, messageOn, messagesOn, contents, readMessage, behind}
-use Rattle.two_wire.specs.Writing.{someIndexPast, message, messages, writeOf, inThrees, lastListed}
-use Rattle.lent_buffer.specs.Filled.{used}
-use Rattle.two_wire.specs.WritingLaws.{wrote-is, in-threes}
 
 -- a test's two sides
-told : (t : Bool) {P : Type 0} → (t ≡ true → P) → (t ≡ false → P) → P
+pub told : (t : Bool) {P : Type 0} → (t ≡ true → P) → (t ≡ false → P) → P
 told true p q = p refl
 told false p q = q refl
 
 -- ---- one register
 
 module _ (registers : List ℕ) (i b : ℕ) where
-  put-own : i < firstSettable → put registers i b ≡ registers
+  pub put-own : i < firstSettable → put registers i b ≡ registers
   unfolding put
   put-own h = simp (lt-ltb i firstSettable h)
 
@@ -33,17 +30,17 @@ module _ (registers : List ℕ) (i b : ℕ) where
   unfolding put
   put-set h = simp (le-ltb i firstSettable h)
 
-  length-put : length (put registers i b) ≡ length registers
+  pub length-put : length (put registers i b) ≡ length registers
   length-put =
       told (ltb i firstSettable) (λ t. ap length (put-own (ltb-true i firstSettable t)))
       (λ t. ap length (put-set (ltb-false i firstSettable t)) ∙ length-set registers i b)
 
-  put-other : (r : ℕ) → (i ≡ r → ⊥) → getD (put registers i b) r 0 ≡ getD registers r 0
+  pub put-other : (r : ℕ) → (i ≡ r → ⊥) → getD (put registers i b) r 0 ≡ getD registers r 0
   put-other r d =
       told (ltb i firstSettable) (λ t. ap (λ (l : List ℕ). getD l r 0) (put-own (ltb-true i firstSettable t)))
       (λ t. ap (λ (l : List ℕ). getD l r 0) (put-set (ltb-false i firstSettable t)) ∙ getD-set-other registers i r b 0 (λ e. d (sym e)))
 
-  put-same : firstSettable ≤ i → i < length registers → getD (put registers i b) i 0 ≡ b
+  pub put-same : firstSettable ≤ i → i < length registers → getD (put registers i b) i 0 ≡ b
   put-same h l = ap (λ (k : List ℕ). getD k i 0) (put-set h) ∙ getD-set-same registers i b 0 l
 
 -- a byte that is its register's own value does not differ
@@ -143,7 +140,7 @@ index-in true i h = (le-leb incrementBit (incrementBit + i) (omega arith), omega
 index-in false i h = (lt-leb incrementBit i (omega arith), omega arith)
 
 -- a write of data that does not pass the last index
-write-accepted : (s : Sensor) (increment : Bool) (i : ℕ) (bytes : List ℕ) → s .index ≤ lastIndex → i ≤ lastIndex
+pub write-accepted : (s : Sensor) (increment : Bool) (i : ℕ) (bytes : List ℕ) → s .index ≤ lastIndex → i ≤ lastIndex
     → cond increment (i + length bytes) i ≤ registerCount
     → messageOn s (writeAddress ∷ indexByte increment i ∷ bytes)
     ≡ accepted
@@ -201,58 +198,3 @@ last-write-read s i b bytes held count h =
     let alike : someDiffers false i (b ∷ []) after ≡ false = rw (own-alike after i b same) in
     simp (write-accepted s false i (bytes ++ (b ∷ [])) held h (omega arith), le-leb i lastIndex h)
     (simp (le-leb i lastIndex h) at (read-accepted (record { registers = after; index = i; increment = false }) (b ∷ []) h alike (omega arith)))
-
--- ---- messages written from a list of pairs
-
-put-listed : (registers : List ℕ) (i v r : ℕ) → firstSettable ≤ r → r < length registers
-    → getD (put registers i v) r 0 ≡ cond (eqb i r) v (getD registers r 0)
-put-listed registers i v r h l =
-    told (eqb i r)
-    (λ t. let e : i ≡ r = eqb-true i r t in rw t (subst (λ (k : ℕ). getD (put registers i v) k 0 ≡ v) e (put-same registers i v (omega arith) (omega arith))))
-    (λ t. rw t (put-other registers i v r (eqb-false i r t)))
-
-put-unlisted : (registers : List ℕ) (i v r : ℕ) → r < firstSettable → getD (put registers i v) r 0 ≡ getD registers r 0
-put-unlisted registers i v r h =
-    told (eqb i r) (λ t. let e : i ≡ r = eqb-true i r t in ap (λ (l : List ℕ). getD l r 0) (put-own registers i v (omega arith)))
-    (λ t. put-other registers i v r (eqb-false i r t))
-
--- accepted, with each register from 5 up at the last value listed for it, or as it was, and the others as they were
-abbrev pub SetAs : List ℕ → Sensor → Acceptance → Type 0
-SetAs pairs before (refused n) = ⊥
-SetAs pairs before (accepted after) =
-    (length (after .registers) ≡ length (before .registers))
-    × ((r : ℕ) → firstSettable ≤ r → r ≤ lastIndex → getD (after .registers) r 0 ≡ lastListed r pairs (getD (before .registers) r 0))
-    × ((r : ℕ) → r < firstSettable → getD (after .registers) r 0 ≡ getD (before .registers) r 0)
-
--- a pair set before the others
-abbrev paired : Sensor → ℕ → ℕ → Sensor
-paired s i v = record { registers = put (s .registers) i v; index = i; increment = false }
-
-set-first : (s : Sensor) (i v : ℕ) (pairs : List ℕ) (o : Acceptance) → length (s .registers) ≡ registerCount → SetAs pairs (paired s i v) o → SetAs (i ∷ v ∷ pairs) s o
-set-first s i v pairs (refused n) count h = h
-set-first s i v pairs (accepted after) count h = (
-  h .0 ∙ length-put (s .registers) i v,
-  λ r low high. h .1 r low high ∙ ap (lastListed r pairs) (put-listed (s .registers) i v r low (omega arith)),
-  λ r own. h .2 r own ∙ put-unlisted (s .registers) i v r own,
-)
-
-pair-accepted : (s : Sensor) (i v : ℕ) → s .index ≤ lastIndex → i ≤ lastIndex → messageOn s (message i v) ≡ accepted (paired s i v)
-unfolding next
-pair-accepted s i v held h = simp (le-leb i lastIndex h) at (write-accepted s false i (v ∷ []) held h (omega arith))
-
-pairs-accepted : (pairs : List ℕ) (s : Sensor) → s .index ≤ lastIndex → length (s .registers) ≡ registerCount → someIndexPast pairs ≡ false
-    → SetAs pairs s (messagesOn (messages pairs) (accepted s))
-pairs-accepted [] s held count p = (refl, λ r low high. refl, λ r own. refl)
-pairs-accepted (i ∷ []) s held count p = (refl, λ r low high. refl, λ r own. refl)
-pairs-accepted (i ∷ v ∷ pairs) s held count p =
-    let h : i ≤ lastIndex = ltb-false lastIndex i (or-left (ltb lastIndex i) (someIndexPast pairs) p) in
-    rw (pair-accepted s i v held h)
-    (set-first s i v pairs (messagesOn (messages pairs) (accepted (paired s i v))) count
-    (pairs-accepted pairs (paired s i v) h (length-put (s .registers) i v ∙ count) (or-right (ltb lastIndex i) (someIndexPast pairs) p)))
-
--- reading what was written, from any state that is not answered 11
-pub written-read-back : (s : Sensor) (pairs bytes : List ℕ) (room n : ℕ) → s .index ≤ lastIndex → length (s .registers) ≡ registerCount
-    → writeOf pairs room ≡ used n bytes → SetAs pairs s (messagesOn (inThrees bytes) (accepted s))
-written-read-back s pairs bytes room n held count h =
-    let w = wrote-is pairs bytes room n h in
-    rw (w .1, in-threes pairs) (pairs-accepted pairs s held count (w .0))

@@ -1,26 +1,18 @@
 // The two-wire messages of the sensors (paper 02, A6; 000, 'Serial Interface'; 004, section 5).
 //
-// Reading. In: a sensor's state (128 registers, current index, increment flag) and a message, the list of its acknowledged bytes between
-// start and stop or repeated start. Out: the state after it, and whether it was accepted. Refused, in this order, and then nothing has
-// changed: 11 held index above 127, 24 shorter than two bytes, 25 address, 26 second byte of a read not the index and flag held, 27 read
-// data at an index up to 127 differs, 28 data past 127.
-// Writing. In: a list of index and value pairs, as index, value, index, value, .. Out: in the lent buffer one message of three bytes for
-// each pair, one straight after another; the rest of the buffer stays. Refused, in this order, and then nothing is written: 24 a list
-// that ends within a pair, 28 an index above 127, 12 room.
-// Cost: linear in the message or the list.
+// In: a sensor's state (128 registers, current index, increment flag) and a message, the list of its acknowledged bytes between start and
+// stop or repeated start. Out: the state after it, and whether it was accepted. Refused, in this order, and then nothing has changed: 11
+// held index above 127, 24 shorter than two bytes, 25 address, 26 second byte of a read not the index and flag held, 27 read data at an
+// index up to 127 differs, 28 data past 127.
+// Cost: linear in the message.
 pub mod register;
 
 ghost use mathlib.Core.Path.{_≡_};
 ghost use mathlib.Core.Bool.{false};
-ghost use Prim.Native.Nat.{_+_, _≤_};
-ghost use lib.ListN.{length};
-ghost use lib.Seq.{sets};
-ghost use Rattle.lent_buffer.specs.Filled.{Gives};
+ghost use Prim.Native.Nat.{_≤_};
 ghost use Rattle.two_wire.specs.Registers.{lastIndex, fresh, next, passes, reached, left, put, stored, differs, someDiffers};
 ghost use Rattle.two_wire.specs.Messages.{indexByte, refused, Told, writeData, readData, readBack, messageOn};
 ghost use Rattle.two_wire.specs.declared.Answer.the-variants as answer;
-ghost use Rattle.two_wire.specs.Writing.{endsWithinPair, someIndexPast, message, messages, joined, writeOf};
-use lent_buffer::Filled;
 
 // A sensor as messages see it. Calls leave an index up to 127; a state with another is refused with 11.
 pub struct Sensor {
@@ -272,61 +264,4 @@ fn differs(registers: &[u8; 128], index: u8, byte: u8) -> bool
         return true;
     }
     false
-}
-
-// Writes the messages of the pairs to the front of the buffer: `writeOf`. The answer is the length used, three bytes a pair.
-pub fn write(pairs: &[u8], buffer: &mut [u8]) -> Filled
-    ensures { λ r. ⌜ Gives (writeOf (now (pairs .entry)) (length (now (buffer .entry)))) r (now (buffer .entry)) (now (buffer .exit)) ⌝ }
-{
-    if pairs.len() % 2 == 1 {
-        return Filled::Refused(refusal::SHORT_MESSAGE);
-    }
-    if some_index_past(pairs) {
-        return Filled::Refused(refusal::PAST_LAST_REGISTER);
-    }
-    if buffer.len() / 3 < pairs.len() / 2 {
-        return Filled::Refused(refusal::NO_ROOM);
-    }
-    let end = put_messages(pairs, buffer);
-    Filled::Length(end)
-}
-
-// Whether an index of the pairs is above the last.
-fn some_index_past(pairs: &[u8]) -> bool
-    requires { ⌜ endsWithinPair (now pairs) ≡ false ⌝ }
-    ensures { λ r. ⌜ r ≡ someIndexPast (now (pairs .entry)) ⌝ }
-{
-    let mut i: usize = 0;
-    while i < pairs.len() {
-        if LAST_INDEX < pairs[i] {
-            return true;
-        }
-        i += 2;
-    }
-    false
-}
-
-// Stores the messages of the pairs, and gives the place after them.
-fn put_messages(pairs: &[u8], buffer: &mut [u8]) -> usize
-    requires { ⌜ (endsWithinPair (now pairs) ≡ false) × (length (joined (messages (now pairs))) ≤ length (now buffer)) ⌝ }
-    ensures { λ r. ⌜ (r ≡ length (joined (messages (now (pairs .entry))))) × (now (buffer .exit) ≡ sets (now (buffer .entry)) 0 (joined (messages (now (pairs .entry))))) ⌝ }
-{
-    let mut at: usize = 0;
-    let mut i: usize = 0;
-    while i < pairs.len() {
-        at = put_message(pairs[i], pairs[i + 1], at, buffer);
-        i += 2;
-    }
-    at
-}
-
-// Stores one message at a place, and gives the place after it.
-fn put_message(index: u8, value: u8, at: usize, buffer: &mut [u8]) -> usize
-    requires { ⌜ at + 3 ≤ length (now buffer) ⌝ }
-    ensures { λ r. ⌜ (r ≡ at + 3) × (now (buffer .exit) ≡ sets (now (buffer .entry)) at (message index value)) ⌝ }
-{
-    buffer[at] = WRITE_ADDRESS;
-    buffer[at + 1] = index;
-    buffer[at + 2] = value;
-    at + 3
 }

@@ -1,41 +1,19 @@
 -- What a message's line gives: its text, and the sensor's state after it.
 use mathlib.Core.Path.{_≡_}
 use mathlib.Core.Bool.{cond}
-use mathlib.Core.List.{List, [], _∷_, _++_}
+use mathlib.Core.List.{List}
 use Prim.Native.Nat.{ℕ, _/_}
-use lib.Dec.{eqb, leb}
+use lib.Dec.{leb}
 use lib.ListN.{length}
-use Rattle.refusal.specs.Refusal.{noRoom, shortMessage, wrongAddress, wrongIndex, wrongData, pastLastRegister}
-use Rattle.text.specs.Text.{ascii, space, decimal}
+use Rattle.refusal.specs.Refusal.{noRoom}
 use Rattle.text.specs.Put.{Puts}
 use Rattle.two_wire.specs.declared.Sensor.{Sensor}
-use Rattle.two_wire.specs.Messages.{writeAddress, indexIn, Acceptance, accepted, refused, sensorAfter, messageOn}
+use Rattle.two_wire.specs.Messages.{Acceptance, accepted, refused, sensorAfter, messageOn}
+use Rattle.two_wire_words.specs.Words.{acceptedText, refusedText}
 use Rattle.two_wire_text.specs.declared.Told.{Told}
 use Rattle.two_wire_text.specs.Hex.{bytesOf}
 
--- an accepted message, of two bytes and more: its direction, index and count of data bytes
-unfoldable pub directionWord : ℕ → List ℕ
-directionWord address = cond (eqb address writeAddress) (ascii "WRITE ") (ascii "READ ")
-
-unfoldable pub acceptedText : List ℕ → List ℕ
-acceptedText [] = []
-acceptedText (address ∷ []) = []
-acceptedText (address ∷ second ∷ bytes) =
-    directionWord address ++ (decimal (indexIn second) ++ (space ∷ (decimal (length bytes) ++ ascii " ok\n")))
-
--- what a refusal means; of those that a message can have only 11 is left
-unfoldable pub refusalWords : ℕ → List ℕ
-refusalWords n =
-    cond (eqb n noRoom) (ascii ", longer than 256 bytes\n")
-    (cond (eqb n shortMessage) (ascii ", shorter than two bytes\n")
-    (cond (eqb n wrongAddress) (ascii ", address other than 20 and 21\n")
-    (cond (eqb n wrongIndex) (ascii ", index or increment differs\n")
-    (cond (eqb n wrongData) (ascii ", read data differs\n")
-    (cond (eqb n pastLastRegister) (ascii ", past register 127\n") (ascii ", index above 127 held\n"))))))
-
-unfoldable pub refusedText : ℕ → List ℕ
-refusedText n = ascii "REFUSED " ++ (decimal n ++ refusalWords n)
-
+-- an accepted message, and one that is refused
 abbrev pub acceptanceText : Acceptance → List ℕ → List ℕ
 acceptanceText (accepted s) bytes = acceptedText bytes
 acceptanceText (refused n) bytes = refusedText n

@@ -8,12 +8,10 @@ ghost use Prim.Native.Nat.{_/_, _<_};
 ghost use lib.ListN.{length};
 ghost use lib.Seq.{sets};
 ghost use Rattle.text.specs.Put.{Puts};
-ghost use Rattle.two_wire.specs.Messages.{messageOn};
-ghost use Rattle.two_wire.specs.Writing.{message};
+ghost use Rattle.two_wire.specs.Messages.{messageOn, message};
 ghost use Rattle.two_wire_text.specs.Hex.{hexText, digitOf, charFits, isMessage, byteOf, bytesOf};
-ghost use Rattle.two_wire_text.specs.Explained.{directionWord, acceptedText, refusalWords, refusedText, messageText, messageSensor, TellsIn, TellsOutcome};
+ghost use Rattle.two_wire_text.specs.Explained.{messageText, messageSensor, TellsIn, TellsOutcome};
 use text::put;
-use text::put_decimal;
 use text::put_hex;
 use two_wire::Answer;
 use two_wire::Sensor;
@@ -32,7 +30,7 @@ pub fn explain(sensor: Sensor, line: &[u8], out: &mut [u8]) -> Told
     ensures { λ r. ⌜ TellsIn (messageSensor sensor (now (line .entry))) (messageText sensor (now (line .entry))) (now (out .entry)) (now (out .exit)) r ⌝ }
 {
     if LONGEST <= line.len() / 3 {
-        let length = put_refused(refusal::NO_ROOM, out);
+        let length = two_wire_words::put_refused(refusal::NO_ROOM, out);
         return Told { sensor, length };
     }
     let mut bytes = [0u8; 256];
@@ -48,14 +46,14 @@ fn read_message(sensor: Sensor, bytes: &[u8], out: &mut [u8]) -> Told
     let answered = seen.answer;
     match answered {
         Answer::Accepted => {
-            let length = put_accepted(bytes, out);
+            let length = two_wire_words::put_accepted(bytes, out);
             Told {
                 sensor: after,
                 length,
             }
         }
         Answer::Refused(refusal) => {
-            let length = put_refused(refusal, out);
+            let length = two_wire_words::put_refused(refusal, out);
             Told {
                 sensor: after,
                 length,
@@ -143,65 +141,9 @@ fn digit(c: u8) -> u8
     16
 }
 
-// Writing text. Each function puts a text at a place, as far as there is room, and gives the place after it.
+// Writing text.
 
-// An accepted message: its direction, index and count of data bytes.
-fn put_accepted(bytes: &[u8], out: &mut [u8]) -> usize
-    ensures { λ r. ⌜ Puts (now (out .entry)) 0 (acceptedText (now (bytes .entry))) r (now (out .exit)) ⌝ }
-{
-    if bytes.len() < 2 {
-        return 0;
-    }
-    let a = put_direction(bytes[0], out, 0);
-    let b = put_decimal((bytes[1] % 128) as u64, out, a);
-    let c = put(b" ", out, b);
-    let d = put_decimal((bytes.len() - 2) as u64, out, c);
-    put(b" ok\n", out, d)
-}
-
-fn put_direction(address: u8, out: &mut [u8], at: usize) -> usize
-    ensures { λ r. ⌜ Puts (now (out .entry)) at (directionWord address) r (now (out .exit)) ⌝ }
-{
-    if address == two_wire::WRITE_ADDRESS {
-        return put(b"WRITE ", out, at);
-    }
-    put(b"READ ", out, at)
-}
-
-fn put_refused(number: u8, out: &mut [u8]) -> usize
-    ensures { λ r. ⌜ Puts (now (out .entry)) 0 (refusedText number) r (now (out .exit)) ⌝ }
-{
-    let a = put(b"REFUSED ", out, 0);
-    let b = put_decimal(number as u64, out, a);
-    put_words(number, out, b)
-}
-
-// What a refusal means, to the line's end.
-fn put_words(number: u8, out: &mut [u8], at: usize) -> usize
-    ensures { λ r. ⌜ Puts (now (out .entry)) at (refusalWords number) r (now (out .exit)) ⌝ }
-{
-    if number == refusal::NO_ROOM {
-        return put(b", longer than 256 bytes\n", out, at);
-    }
-    if number == refusal::SHORT_MESSAGE {
-        return put(b", shorter than two bytes\n", out, at);
-    }
-    if number == refusal::WRONG_ADDRESS {
-        return put(b", address other than 20 and 21\n", out, at);
-    }
-    if number == refusal::WRONG_INDEX {
-        return put(b", index or increment differs\n", out, at);
-    }
-    if number == refusal::WRONG_DATA {
-        return put(b", read data differs\n", out, at);
-    }
-    if number == refusal::PAST_LAST_REGISTER {
-        return put(b", past register 127\n", out, at);
-    }
-    put(b", index above 127 held\n", out, at)
-}
-
-// The message of a pair in hex, on a line of its own.
+// The message of a pair in hex, on a line of its own, put at a place, as far as there is room; the place after it.
 pub fn put_message(index: u8, value: u8, out: &mut [u8], at: usize) -> usize
     ensures { λ r. ⌜ Puts (now (out .entry)) at (hexText (message index value)) r (now (out .exit)) ⌝ }
 {

@@ -6,7 +6,7 @@ use lib.ListN.{getD}
 use Rattle.text.specs.Put.{Puts}
 use Rattle.text.specs.PutLaws.{then}
 use borrow.Author.Needs.{needs}
-use Rattle.two_wire.specs.Writing.{message}
+use Rattle.two_wire.specs.Messages.{message}
 use Rattle.two_wire_text.specs.Hex.{hexText}
 use Rattle.setting_registers.specs.SettingRegisters.{settingPairs}
 use Rattle.settings_words.proofs.put_writes.Statement.{statement}

@@ -1,11 +1,11 @@
--- A newline gives the text of the line that is kept, and the next line starts with nothing kept; any other character is kept.
+-- A newline gives the text of the line that is kept, and the next line starts with nothing kept; any other character is kept, and what is kept is within the room.
 use mathlib.Core.Path.{refl}
 use native.Mathlib.Omega.{arith}
 use borrow.Author.Needs.{needs}
 use borrow.Author.Tests.{eq-eqb, ne-eqb}
 use Rattle.text.specs.PutLaws.{puts-front}
 use Rattle.script.specs.Script.{placeOf, placeAfter, textOn, refusedOn}
-use Rattle.script.specs.ScriptLaws.{line-short}
+use Rattle.script.specs.ScriptLaws.{front-kept, room-kept, line-short}
 use Rattle.script.proofs.Script.feed.Statement.{statement}
 use Rattle.script.proofs.Script.feed.Tie as tie
 
@@ -19,6 +19,7 @@ returns c =
     record {
       moves = simp (ended, told .answer .ensures .leaves, c .following .ensures);
       refuses = simp ended (told .answer .ensures .refuses);
+      keeps = simp ended (record { count = refl; leaves = refl });
       tells = simp ended
           (puts-front (told .answer .ensures .tells)
           (omega (arith, line-short (placeOf (a .self) (a .line .now)), told .before .answer-arg2 .given .0 .1)));
@@ -28,10 +29,14 @@ returns-2 : tie.Need-returns-2
 unfolding placeAfter textOn refusedOn
 returns-2 c =
     let keep = c .before .before in
-    let on = ne-eqb _ _ (keep .before .before .before .if1 .left) in
+    let test = keep .before .before .before in
+    let a = test .before .before .args in
+    let on = ne-eqb _ _ (test .if1 .left) in
+    let kept = keep .keep .ensures in
     record {
-      moves = simp (on, keep .keep .ensures .keeps, keep .keep .ensures .room);
+      moves = simp (on, front-kept (a .c) (a .line .now) (a .self .length) kept, room-kept (a .c) (a .line .now) (a .self .length) kept);
       refuses = simp on;
+      keeps = simp on kept;
       tells = simp on (record { count = refl; leaves = refl });
     }
 

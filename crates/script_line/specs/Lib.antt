@@ -1,0 +1,4 @@
+pub mod Bare
+pub mod BareLaws
+pub mod Line
+pub mod LineLaws
