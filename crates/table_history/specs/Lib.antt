@@ -1,4 +1,5 @@
 pub mod History
+pub mod Lending
 pub mod Openings
 pub mod FreePlaces
 pub mod Places

@@ -23,7 +23,8 @@ use Rattle.reader_table.specs.declared.ReaderTable.{ReaderTable}
 use Rattle.reader_table.specs.Table.{isTechnician, nobody, placeAt, heldBy, lowestFree, Placing, at-place, not-placed, notOpened, opensAt, openPlace, openNumbered, openPlaceOf, runTaken, callPlaceOf, closePlaceOf}
 use Rattle.table_history.specs.History.{TableRequest, TableCall, TableReply, toOpen, toRead, toClose, callReply, TableServed, serve}
 use Rattle.table_history.specs.Openings.{andOn, callsBy, callsOf, toldBy, toldOf, readerTold, nibblesIn, toldCollected}
-use Rattle.table_history.specs.Places.{somebody, view, but, owned, lowest-free}
+use Rattle.table_history.specs.Lending.{but}
+use Rattle.table_history.specs.Places.{somebody, view, owned, lowest-free}
 use Rattle.table_history.specs.Views.{other-keeps, toldHeld, keptHeld, keptClosed, keptOpened, opens, reads, closes}
 
 -- An opening that is answered a place: it is a technician's, and the place was the lowest that was free.
