@@ -81,7 +81,7 @@ view-foreign who t j p f g e = λ k i. at i (eqb i j) refl k
 
 -- A place that is held.
 
-abbrev isThere : Option Reader → Bool
+abbrev pub isThere : Option Reader → Bool
 isThere none = false
 isThere (some r) = true
 

@@ -101,7 +101,7 @@ all-free zero i = refl
 all-free (suc n) zero = refl
 all-free (suc n) (suc i) = all-free n i
 
-none-in-empty : (who : ℕ) → isTechnician who ≡ true → (i : ℕ) → heldBy emptyTable who i ≡ none
+pub none-in-empty : (who : ℕ) → isTechnician who ≡ true → (i : ℕ) → heldBy emptyTable who i ≡ none
 unfolding placeAt
 none-in-empty who h i =
     held emptyTable who i
