@@ -58,19 +58,19 @@ close-quiet t who i = go (isTechnician who) (heldBy t who i)
     go true (some r) = (refl, refl)
 
 module _ (s : List ℕ) (t : ReaderTable) (h : HoldsTable s t) (lines : Buffers) (who : ℕ) where
-  told-same : (q : TableAsk) → bytesServe s lines who q .told ≡ replyFor (serve t who (requestInFull lines (requestFor q)) .told)
+  pub told-same : (q : TableAsk) → bytesServe s lines who q .told ≡ replyFor (serve t who (requestInFull lines (requestFor q)) .told)
   told-same (askOpen n) = ap openNumber (bytes-serve s t h .opening who n .says)
   told-same (askFeed i w b) = let f = bytes-serve s t h .feeding who i w (lines b) in same-numbers (f .says) (f .count) (f .leaves)
   told-same (askFinish i) = let k = finish-quiet t who i in same-numbers (bytes-serve s t h .finishing who i .says) (k .0) (k .1)
   told-same (askClose i) = let k = close-quiet t who i in same-numbers (bytes-serve s t h .closing who i .says) (k .0) (k .1)
 
-  after-held : (q : TableAsk) → HoldsTable (bytesServe s lines who q .bytes) (serve t who (requestInFull lines (requestFor q)) .table)
+  pub after-held : (q : TableAsk) → HoldsTable (bytesServe s lines who q .bytes) (serve t who (requestInFull lines (requestFor q)) .table)
   after-held (askOpen n) = bytes-serve s t h .opening who n .keeps
   after-held (askFeed i w b) = bytes-serve s t h .feeding who i w (lines b) .keeps
   after-held (askFinish i) = bytes-serve s t h .finishing who i .keeps
   after-held (askClose i) = bytes-serve s t h .closing who i .keeps
 
-  lines-same : (q : TableAsk)
+  pub lines-same : (q : TableAsk)
       → linesAfter lines (lends (requestFor q)) (bytesServe s lines who q .told)
       ≡ buffersAfter lines (lends (requestFor q)) (serve t who (requestInFull lines (requestFor q)) .told)
   lines-same q =
@@ -136,7 +136,7 @@ openings-same (callReply a n buffer ∷ ts) = openings-same ts
 
 -- An opening's number says all of its answer.
 
-data Legal : Placing → Type 0 where
+pub data Legal : Placing → Type 0 where
   a-place : {i : ℕ} → i < placeCount → Legal (at-place i)
   a-refusal : {n : ℕ} → placeCount ≤ n → Legal (not-placed n)
 
@@ -144,7 +144,7 @@ data AllLegal : List Placing → Type 0 where
   none-more : AllLegal []
   one-more : (p : Placing) (ps : List Placing) → Legal p → AllLegal ps → AllLegal (p ∷ ps)
 
-placing-same : {p q : Placing} → Legal p → Legal q → placingNumber p ≡ placingNumber q → p ≡ q
+pub placing-same : {p q : Placing} → Legal p → Legal q → placingNumber p ≡ placingNumber q → p ≡ q
 placing-same (a-place l) (a-place m) e = ap at-place e
 placing-same (a-place l) (a-refusal m) e = absurd (omega (arith, l, m, e))
 placing-same (a-refusal l) (a-place m) e = absurd (omega (arith, l, m, e))
@@ -158,7 +158,7 @@ placings-same (one-more p ps l ls) (one-more q qs m ms) e =
     ap {B = List Placing} (λ (x : Placing). x ∷ ps) (placing-same l m (ap (λ (w : List ℕ). getD w 0 0) e))
     ∙ ap {B = List Placing} (λ (xs : List Placing). q ∷ xs) (placings-same ls ms (ap (λ (w : List ℕ). drop 1 w) e))
 
-opening-legal : (t : ReaderTable) (who n : ℕ) → length (t .places) ≡ placeCount → Legal (openPlaceOf t who n .placing)
+pub opening-legal : (t : ReaderTable) (who n : ℕ) → length (t .places) ≡ placeCount → Legal (openPlaceOf t who n .placing)
 unfolding openPlaceOf openPlace
 opening-legal t who n h = go (isTechnician who) (profileNumbered n)
   where
