@@ -7,12 +7,14 @@ use lib.Count.{ones, onesIn}
 use lib.ListN.{replicate}
 use Rattle.line_code.specs.LineCode.{kindNumbered, reservedOf, meaningOf, readingOf}
 use Rattle.line_number.specs.LineNumber.{numberGood}
+use Rattle.profile.specs.declared.Profile.{Profile}
 use Rattle.profile.specs.Profile.{profileNumbered}
 use Rattle.stream.specs.Written.{nibbles, markOf}
 use Rattle.reason.specs.declared.Reason.{Reason}
 use Rattle.reason.specs.declared.Reason.the-variants.{GoodLine, GoodGap, DamagedCode, ReservedCode, UnfinishedLine, WrongLength, BadNumber, BadBody, NoEndOfLine, EndWithoutLine, BadGap, ShortGap, Refused}
 use Rattle.reason.specs.Sums.{failedSums}
 use Rattle.reason.specs.Explanation.{opener, codeAt, numberReason, nextReason, lineReason, twoBytesReason, reasonOf, firstReason, runReason, explanation}
+use Rattle.reason_laws.specs.Short.{kindBefore, isAnswered}
 
 -- a profile number, a kind number, a run, and its reason
 pub record ReasonCase : Type 0 where
@@ -75,3 +77,20 @@ pub examples-hold : ExplanationsHold examples
 unfolding ExplanationsHold examples explanation runReason profileNumbered kindNumbered reservedOf meaningOf readingOf numberGood ones onesIn codeAt failedSums numberReason nextReason lineReason twoBytesReason reasonOf firstReason
 examples-hold =
     (refl, (refl, (refl, (refl, (refl, (refl, (refl, (refl, (refl, (refl, (refl, (refl, (refl, (refl, (refl, (refl, (refl, (refl, (refl, (refl, (refl, (refl, (refl, (refl, (refl, (refl, (refl, (refl, (refl, tt)))))))))))))))))))))))))))))
+
+-- for each kind of the mark before, nibbles after which it is that kind: no mark, or a mark whose code is clean; 0 also after an end of line
+pub each-kind : (p : Profile)
+    → (kindBefore p [] ≡ kindNumbered 0)
+    × (kindBefore p (markOf 0x80) ≡ kindNumbered 0)
+    × (kindBefore p (markOf 0x9D) ≡ kindNumbered 1)
+    × (kindBefore p (markOf 0xAB) ≡ kindNumbered 2)
+    × (kindBefore p (markOf 0xB6) ≡ kindNumbered 3)
+    × (kindBefore p (markOf 0xC7) ≡ kindNumbered 4)
+    × (kindBefore p (markOf 0xDA) ≡ kindNumbered 5)
+unfolding readingOf meaningOf kindNumbered
+each-kind p = (refl, refl, refl, refl, refl, refl, refl)
+
+-- an end of line is answered without a finish where the next mark's code has come, and not where a nibble of it is still to come
+pub next-code-answers : (isAnswered (markOf 0x80 ++ markOf 0x9D) false ≡ true) × (isAnswered (markOf 0x80 ++ (opener ++ (9 ∷ []))) false ≡ false)
+unfolding codeAt
+next-code-answers = (refl, refl)
