@@ -82,7 +82,8 @@ requestsOf who (c ∷ h) = cond (eqb (c .who) who) (c .request ∷ requestsOf wh
 abbrev pub toldFrom : ℕ → Buffers → List LendingCall → List TableReply
 toldFrom who s h = toldTo who emptyTable (historyInFull emptyTable s h)
 
--- each technician's buffers are their own: a buffer that a call lends is one of who's exactly when the call is theirs
+-- each technician's buffers are their own (`mine` says which those of who are): a buffer that a call lends is one of who's exactly when the call
+-- is theirs
 abbrev pub LendsOwn : (ℕ → Bool) → Bool → Option ℕ → Type 0
 LendsOwn mine theirs none = Unit {0}
 LendsOwn mine theirs (some b) = mine b ≡ theirs
