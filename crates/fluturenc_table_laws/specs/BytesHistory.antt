@@ -37,9 +37,11 @@ pub record BytesServed : Type 0 where
   pub bytes : List ℕ
   pub told : BytesReply
 
+-- a feed
 abbrev pub servedFeed : FeedCalled → BytesServed
 servedFeed f = record { bytes = f .state; told = callNumber (f .answer) (f .taken) (f .line) }
 
+-- a call on the bytes: a feed is lent the line buffer that it names, as it is then
 abbrev pub bytesServe : List ℕ → Buffers → ℕ → TableAsk → BytesServed
 bytesServe s lines who (askOpen n) = record { bytes = openTable s who n .state; told = openNumber (openTable s who n .answer) }
 bytesServe s lines who (askFeed i w b) = servedFeed (feedTable s who i w (lines b))
@@ -48,12 +50,14 @@ bytesServe s lines who (askClose i) = record { bytes = closeTable s who i .state
 
 -- The same history, of the table.
 
+-- what is asked of the table; a feed is a run
 abbrev pub requestFor : TableAsk → LendingRequest
 requestFor (askOpen n) = requestOpen n
 requestFor (askFeed i w b) = requestRun i w b
 requestFor (askFinish i) = requestFinish i
 requestFor (askClose i) = requestClose i
 
+-- its calls
 abbrev pub callsFor : List BytesCall → List LendingCall
 callsFor [] = []
 callsFor (c ∷ h) = record { who = c .who; request = requestFor (c .ask) } ∷ callsFor h

@@ -1,33 +1,38 @@
 -- Openings on a table's bytes take the lowest free place; and demand 3 holds of each, since the same calls of the table take the same nibbles and
 -- are told what has these numbers.
 use mathlib.Core.Path.{_≡_, refl, sym, ap, _∙_, subst}
-use mathlib.Core.Bool.{Bool, true, false, cond}
+use mathlib.Core.Bool.{Bool, true, false, true≢false, cond}
 use mathlib.Core.List.{List, [], _∷_, _++_, map}
+use mathlib.Core.Option.{none, some}
 use Prim.Native.Nat.{ℕ, zero, suc, _+_, _≤_, _<_}
 use native.Mathlib.Omega.{arith}
 use borrow.Author.Tests.{le-leb, ltb-true, ltb-false, eqb-true, eqb-false}
 use lib.Dec.{eqb, ltb}
 use lib.ListN.{length, getD, take}
-use Rattle.refusal.specs.Refusal.{noPlaceFree}
+use Rattle.refusal.specs.Refusal.{noPlaceFree, placeNotHeld}
 use Rattle.profile.specs.declared.Profile.{Profile}
 use Rattle.profile.specs.declared.Numbered.the-variants as numbered
 use Rattle.profile.specs.Profile.{profileNumbered}
 use Rattle.recovery.specs.Calls.{done}
 use Rattle.refinement.specs.Runs.{RunCall, run, one}
 use Rattle.reader_table.specs.declared.ReaderTable.{ReaderTable}
-use Rattle.reader_table.specs.Table.{isTechnician, nobody, placeCount, emptyTable, at-place, openPlaceOf, callPlaceOf}
+use Rattle.reader_table.specs.Table.{isTechnician, nobody, placeCount, emptyTable, placeAt, heldBy, at-place, openPlaceOf, callPlaceOf, denialBy}
 use Rattle.table_history.specs.History.{TableRequest, toRead, TableCall, TableReply, TableServed, serve, tableAfter}
 use Rattle.table_history.specs.Lending.{Buffers, lends, requestInFull, buffersAfter, historyInFull}
 use Rattle.table_history.specs.Openings.{callsOf, callsBy, toldOf, toldBy, nibblesIn, nibblesOf, OpeningMeetsDemandThree}
+use Rattle.table_history.specs.OwnPlaces.{OpenedIn}
+use Rattle.table_history.specs.Places.{isThere}
+use Rattle.table_history.specs.OpeningLaws.{opened-by}
 use Rattle.table_history.specs.OpeningDemand.{opening-demand-three}
-use Rattle.fluturenc_table.specs.TableBytes.{tableLength, placeStart, lowestFrom}
+use Rattle.table_history.specs.OwnPlacesLaws.{held-opened, opened-held}
+use Rattle.fluturenc_table.specs.TableBytes.{tableLength, placeStart, lowestFrom, denialAt}
 use Rattle.fluturenc_table.specs.TableCalls.{refusedTable, newTable, openedAt, openLowest, openTable, feedTable}
 use Rattle.fluturenc_table_laws.specs.TableHeld.{HoldsTable, tableIn}
 use Rattle.fluturenc_table_laws.specs.ApartLaws.{owner-byte}
-use Rattle.fluturenc_table_laws.specs.TableBytesLaws.{table-read, new-empty, bytes-serve}
+use Rattle.fluturenc_table_laws.specs.TableBytesLaws.{table-read, owner-same, denied, new-empty, bytes-serve}
 use Rattle.fluturenc_table_laws.specs.BytesHistory.{TableAsk, askOpen, askFeed, askFinish, askClose, BytesCall, BytesReply, BytesServed, bytesServe, requestFor, callsFor, replyFor, linesAfter}
 use Rattle.fluturenc_table_laws.specs.BytesHistoryLaws.{told-same, after-held, lines-same, a-place, placing-same, opening-legal}
-use Rattle.fluturenc_table_laws.specs.BytesOpenings.{FreeAt, BytesOpensLowest, all-taken, lowest-one, bytesLeft, bytesToldBy, bytesToldOf, bytesTakenBy, bytesTakenOf, tableHistory, BytesMeetDemandThree}
+use Rattle.fluturenc_table_laws.specs.BytesOpenings.{FreeAt, BytesOpensLowest, all-taken, lowest-one, bytesLeft, bytesToldBy, bytesToldOf, bytesTakenBy, bytesTakenOf, BytesOnlyOpened, tableHistory, BytesMeetDemandThree}
 
 -- The lowest free place.
 
@@ -203,6 +208,54 @@ held-after (c ∷ cs) s t lines h =
     subst (λ (u : Buffers). HoldsTable (bytesLeft (a .bytes) u cs) (tableAfter (b .table) (historyInFull (b .table) after (callsFor cs))))
     (sym (lines-same s t h lines (c .who) (c .ask)))
     (held-after cs (a .bytes) (b .table) after (after-held s t h lines (c .who) (c .ask)))
+
+-- who is refused what, by what they hold
+module _ (who : ℕ) (h : isTechnician who ≡ true) (i : ℕ) (t : ReaderTable) where
+  granted-held : denialBy who (placeAt t i .owner) ≡ 0 → isThere (heldBy t who i) ≡ true
+  unfolding denialBy heldBy
+  granted-held e = go (eqb (placeAt t i .owner) who) (simp h at e)
+    where
+      go : (b : Bool) → cond b 0 placeNotHeld ≡ 0 → isThere (cond b (some (placeAt t i .reader)) none) ≡ true
+      go true e = refl
+      go false e = absurd (omega (arith, e))
+
+  held-granted : isThere (heldBy t who i) ≡ true → denialBy who (placeAt t i .owner) ≡ 0
+  unfolding denialBy heldBy
+  held-granted e = simp h (go (eqb (placeAt t i .owner) who) e)
+    where
+      go : (b : Bool) → isThere (cond b (some (placeAt t i .reader)) none) ≡ true → cond b 0 placeNotHeld ≡ 0
+      go true e = refl
+      go false e = absurd (true≢false (sym e))
+
+stranger-refused : (who owner : ℕ) → isTechnician who ≡ false → denialBy who owner ≡ 0 → ⊥
+unfolding denialBy
+stranger-refused who owner h e = let k = simp h at e in omega (arith, k)
+
+-- each calls only places they opened
+pub bytes-only-opened : (s : List ℕ) → tableLength ≤ length s → (lines : Buffers) (h : List BytesCall) (who i : ℕ)
+    → BytesOnlyOpened (newTable s .state) lines h who i
+bytes-only-opened s room lines h who i =
+    record {
+      granted-opened = λ e. by (isTechnician who) refl (sym same ∙ e);
+      opened-granted = λ o.
+          let k = opened-by (tableAfter emptyTable (o .before)) who (o .profile) i (o .given) .0 in
+          same ∙ held-granted who k i (tableAfter emptyTable cs) (opened-held who k i cs emptyTable o);
+    }
+  where
+    cs : List TableCall
+    cs = historyInFull emptyTable lines (callsFor h)
+
+    holds : HoldsTable (bytesLeft (newTable s .state) lines h) (tableAfter emptyTable cs)
+    holds = held-after h (newTable s .state) emptyTable lines (new-empty s room .1)
+
+    same : denialAt (bytesLeft (newTable s .state) lines h) who i ≡ denialBy who (placeAt (tableAfter emptyTable cs) i .owner)
+    same =
+        denied (bytesLeft (newTable s .state) lines h) (tableAfter emptyTable cs) holds who i
+        ∙ ap (denialBy who) (sym (owner-same (bytesLeft (newTable s .state) lines h) (tableAfter emptyTable cs) holds i))
+
+    by : (b : Bool) → isTechnician who ≡ b → denialBy who (placeAt (tableAfter emptyTable cs) i .owner) ≡ 0 → OpenedIn emptyTable who i cs
+    by true k e = held-opened who k i cs (granted-held who k i (tableAfter emptyTable cs) e)
+    by false k e = absurd (stranger-refused who (placeAt (tableAfter emptyTable cs) i .owner) k e)
 
 -- demand 3 of each opening on the bytes, from a new table on and after any history, that is told a place
 pub bytes-demand-three : (s : List ℕ) → tableLength ≤ length s → (lines : Buffers) (h : List BytesCall) (who n : ℕ) (p : Profile) (i : ℕ)

@@ -1,4 +1,5 @@
--- Openings on a table's bytes (02, A12): the lowest free place, and demand 3 of each opening, as statements. Definitions only.
+-- Openings on a table's bytes (02, A12): the lowest free place, who may call a place, and demand 3 of each opening, as
+-- statements. Definitions only.
 use mathlib.Core.Path.{_≡_}
 use mathlib.Core.Bool.{cond}
 use mathlib.Core.List.{List, [], _∷_, _++_, map}
@@ -9,11 +10,12 @@ use Rattle.refusal.specs.Refusal.{noPlaceFree}
 use Rattle.profile.specs.declared.Profile.{Profile}
 use Rattle.stream.specs.Written.{Sent, AllWritable, stream}
 use Rattle.recovery.specs.Calls.{changed}
-use Rattle.reader_table.specs.Table.{nobody, placeCount}
+use Rattle.reader_table.specs.Table.{nobody, placeCount, emptyTable}
 use Rattle.table_history.specs.History.{TableCall}
 use Rattle.table_history.specs.Lending.{Buffers, lends, historyInFull}
 use Rattle.table_history.specs.Openings.{toldOf, OpeningDemandThree}
-use Rattle.fluturenc_table.specs.TableBytes.{ownerAt}
+use Rattle.table_history.specs.OwnPlaces.{OpenedIn}
+use Rattle.fluturenc_table.specs.TableBytes.{ownerAt, denialAt}
 use Rattle.fluturenc_table_laws.specs.TableHeld.{tableIn}
 use Rattle.fluturenc_table_laws.specs.BytesHistory.{TableAsk, askOpen, askFeed, askFinish, askClose, BytesCall, BytesReply, openNumber, callNumber, BytesServed, bytesServe, requestFor, callsFor, replyFor, linesAfter}
 
@@ -66,6 +68,14 @@ bytesTakenOf who i s lines (c ∷ h) =
     let a : BytesServed = bytesServe s lines (c .who) (c .ask) in
     let later : List ℕ = bytesTakenOf who i (a .bytes) (linesAfter lines (lends (requestFor (c .ask))) (a .told)) h in
     cond (eqb (c .who) who) (bytesTakenBy i (c .ask) (a .told) later) later
+
+-- Each calls only places they opened.
+
+-- after a history from a new table's bytes, a technician is refused neither 32 nor 34 of a place exactly when the same history of the table has an
+-- opening by them, answered with that place, and no later close of it by them
+pub record BytesOnlyOpened (s : List ℕ) (lines : Buffers) (h : List BytesCall) (who i : ℕ) : Type 0 where
+  pub granted-opened : denialAt (bytesLeft s lines h) who i ≡ 0 → OpenedIn emptyTable who i (historyInFull emptyTable lines (callsFor h))
+  pub opened-granted : OpenedIn emptyTable who i (historyInFull emptyTable lines (callsFor h)) → denialAt (bytesLeft s lines h) who i ≡ 0
 
 -- Demand 3.
 
