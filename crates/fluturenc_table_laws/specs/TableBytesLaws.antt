@@ -138,7 +138,7 @@ module _ (s : List ℕ) (t : ReaderTable) (h : HoldsTable s t) where
   lowest-same : lowestFrom placeCount 0 s ≡ lowestFree (t .places)
   lowest-same = lowest-held placeCount 0 s (omega arith) ∙ ap (λ (x : ReaderTable). 0 + lowestFree (x .places)) table-read ∙ omega arith
 
-  owner-same : (i : ℕ) → placeAt t i .owner ≡ ownerAt s i
+  pub owner-same : (i : ℕ) → placeAt t i .owner ≡ ownerAt s i
   unfolding placeAt ownerAt
   owner-same i = go (ltb i placeCount) refl
     where
@@ -175,7 +175,7 @@ module _ (s : List ℕ) (t : ReaderTable) (h : HoldsTable s t) where
       kept j m = owner-byte (withState s i state) j m ∙ with-owners s i state (h .room) l full j ∙ sym (owner-byte s j m)
 
   -- who asks for a place
-  denied : (who i : ℕ) → denialAt s who i ≡ denialBy who (ownerAt s i)
+  pub denied : (who i : ℕ) → denialAt s who i ≡ denialBy who (ownerAt s i)
   unfolding denialAt
   denied who i = simp (le-leb tableLength (length s) (h .room))
 

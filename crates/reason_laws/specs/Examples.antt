@@ -3,16 +3,28 @@ use mathlib.Core.Path.{_≡_, refl}
 use mathlib.Core.Bool.{true, false}
 use mathlib.Core.List.{List, [], _∷_, _++_}
 use Prim.Native.Nat.{ℕ}
+use native.Mathlib.Omega.{arith}
 use lib.Count.{ones, onesIn}
 use lib.ListN.{replicate}
 use Rattle.line_code.specs.LineCode.{kindNumbered, reservedOf, meaningOf, readingOf}
 use Rattle.line_number.specs.LineNumber.{numberGood}
+use Rattle.profile.specs.declared.Profile.{Profile}
 use Rattle.profile.specs.Profile.{profileNumbered}
+use Rattle.profile.specs.declared.Profile.the-variants.{VV5404}
+use Rattle.stream.specs.Answers.{require, goodGap}
 use Rattle.stream.specs.Written.{nibbles, markOf}
+use Rattle.mark_text.specs.MarkText.{keptAt, strayAt}
+use Rattle.mark_answer.specs.KeptAnswer.{keptAnswer}
+use Rattle.reader_head.specs.Head.{isMark, slide, bump, leaveKept, passes}
+use Rattle.reader.specs.Reader.{freshReader, takeHead, takeOutcome}
+use Rattle.run.specs.Run.{runOf}
+use Rattle.refinement.specs.Runs.{RunCall, run, runsTaken, no-call, run-first}
 use Rattle.reason.specs.declared.Reason.{Reason}
 use Rattle.reason.specs.declared.Reason.the-variants.{GoodLine, GoodGap, DamagedCode, ReservedCode, UnfinishedLine, WrongLength, BadNumber, BadBody, NoEndOfLine, EndWithoutLine, BadGap, ShortGap, Refused}
 use Rattle.reason.specs.Sums.{failedSums}
 use Rattle.reason.specs.Explanation.{opener, codeAt, numberReason, nextReason, lineReason, twoBytesReason, reasonOf, firstReason, runReason, explanation}
+use Rattle.reason_laws.specs.Short.{good-gap, inShort, kindBefore, isAnswered, callsGive}
+use Rattle.reason_laws.specs.ReaderLaws.{number-of-the-calls}
 
 -- a profile number, a kind number, a run, and its reason
 pub record ReasonCase : Type 0 where
@@ -75,3 +87,35 @@ pub examples-hold : ExplanationsHold examples
 unfolding ExplanationsHold examples explanation runReason profileNumbered kindNumbered reservedOf meaningOf readingOf numberGood ones onesIn codeAt failedSums numberReason nextReason lineReason twoBytesReason reasonOf firstReason
 examples-hold =
     (refl, (refl, (refl, (refl, (refl, (refl, (refl, (refl, (refl, (refl, (refl, (refl, (refl, (refl, (refl, (refl, (refl, (refl, (refl, (refl, (refl, (refl, (refl, (refl, (refl, (refl, (refl, (refl, (refl, tt)))))))))))))))))))))))))))))
+
+-- for each kind of the mark before, nibbles after which it is that kind: no mark, or a mark whose code is clean; 0 also after an end of line
+pub each-kind : (p : Profile)
+    → (kindBefore p [] ≡ kindNumbered 0)
+    × (kindBefore p (markOf 0x80) ≡ kindNumbered 0)
+    × (kindBefore p (markOf 0x9D) ≡ kindNumbered 1)
+    × (kindBefore p (markOf 0xAB) ≡ kindNumbered 2)
+    × (kindBefore p (markOf 0xB6) ≡ kindNumbered 3)
+    × (kindBefore p (markOf 0xC7) ≡ kindNumbered 4)
+    × (kindBefore p (markOf 0xDA) ≡ kindNumbered 5)
+unfolding readingOf meaningOf kindNumbered
+each-kind p = (refl, refl, refl, refl, refl, refl, refl)
+
+-- an end of line is answered without a finish where the next mark's code has come, and not where a nibble of it is still to come
+pub next-code-answers : (isAnswered (markOf 0x80 ++ markOf 0x9D) false ≡ true) × (isAnswered (markOf 0x80 ++ (opener ++ (9 ∷ []))) false ≡ false)
+unfolding codeAt
+next-code-answers = (refl, refl)
+
+-- two runs without a finish, which take a BL's mark, an end of line and the next mark's code: what they answer the end of line has the number of
+-- its reason, a good gap
+abbrev twoRuns : List RunCall
+twoRuns = run (markOf 0x9D ++ markOf 0x80) (replicate 356 0) ∷ run (markOf 0x9D) (replicate 356 0) ∷ []
+
+two-runs-take : runsTaken (freshReader VV5404) twoRuns ≡ markOf 0x9D ++ (markOf 0x80 ++ markOf 0x9D)
+unfolding runOf passes isMark slide bump leaveKept takeHead takeOutcome keptAt strayAt keptAnswer require goodGap readingOf meaningOf kindNumbered
+two-runs-take = refl
+
+pub without-a-finish : inShort (callsGive VV5404 (markOf 0x9D) (markOf 0x80 ++ markOf 0x9D) twoRuns) ≡ good-gap
+unfolding explanation runReason profileNumbered kindNumbered meaningOf readingOf codeAt reasonOf firstReason
+without-a-finish =
+    number-of-the-calls VV5404 (markOf 0x9D) (markOf 0x80 ++ markOf 0x9D) 1 {cs = twoRuns} (run-first (run-first no-call)) refl two-runs-take
+    (omega arith) refl refl (each-kind VV5404 .2)

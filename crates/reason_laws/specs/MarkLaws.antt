@@ -1,7 +1,7 @@
 -- The first mark of a run and the next: the meaning, which reads nibble by nibble and looks back, opens the run's first mark with its eight
 -- nibbles, and answers it for the text up to the first place where another mark begins.
 use mathlib.Core.Path.{_≡_, refl, _∙_, ap, ap₂, sym, subst}
-use mathlib.Core.Bool.{Bool, true, false, cond, true≢false}
+use mathlib.Core.Bool.{Bool, true, false, cond, _||_, true≢false}
 use mathlib.Core.List.{List, [], _∷_, _++_, append-assoc}
 use mathlib.Core.Option.{Option, none, some}
 use Prim.Native.Nat.{ℕ, suc, _+_, _*_, _<_}
@@ -15,8 +15,8 @@ use Rattle.stream.specs.declared.Mark.{Mark}
 use Rattle.stream.specs.declared.Mark.the-variants.{Open}
 use Rattle.line_code.specs.declared.LineKind.{LineKind}
 use Rattle.line_code.specs.declared.LineKind.the-variants.{NotLine, LineOf}
-use Rattle.stream.specs.Answers.{Outcome, isLine, turned, answerOf}
-use Rattle.stream.specs.Stream.{State, fresh, group, strip, Completed, not-yet, mark, markIf, detect, kindAt, beforeBy, answerAt, advance, step, finish, run, outcomes}
+use Rattle.stream.specs.Answers.{Outcome, nothing, isLine, turned, answerOf}
+use Rattle.stream.specs.Stream.{State, fresh, group, strip, Completed, not-yet, mark, markIf, detect, kindAt, beforeBy, answerAt, advance, step, run, outcomes}
 use Rattle.recovery.specs.Marks.{onto, isMark, completes, strip-none, marks-are-places}
 use Rattle.recovery.specs.AnswerLaws.{mark-cases}
 use Rattle.recovery.specs.CutTexts.{onto-append}
@@ -26,7 +26,7 @@ use Rattle.reason.specs.declared.Next.{Next}
 use Rattle.reason.specs.declared.Next.the-variants.{Finish, Code}
 use Rattle.reason.specs.Explanation.{opener, codeAfter, codeAt, isCode, nextMark, textIn, nextIn}
 use Rattle.reason.specs.ExplanationLaws.{code-short}
-use Rattle.reason_laws.specs.Short.{codeOr, beforeKind, kindBefore, firstAnswer}
+use Rattle.reason_laws.specs.Short.{codeOr, beforeKind, kindBefore, firstAnswer, answerAtEnd}
 
 -- Short texts hold no mark.
 
@@ -104,13 +104,25 @@ eight n₀ n₁ n₂ n₃ n₄ n₅ x y t w = sees x y t w (eqb 15 n₀) (eqb 15
 
 -- The answer of an open mark.
 
--- the first answer that nibbles bring from a state on, or else that of finish
-abbrev pub answerFrom : Profile → State → List ℕ → Outcome
-answerFrom p s w = firstAnswer (outcomes p s w) (finish p (run p s w) .outcome)
+-- the first answer that nibbles bring from a state on, or else that of finish, where it comes
+abbrev pub answerFrom : Bool → Profile → State → List ℕ → Outcome
+answerFrom ends p s w = firstAnswer (outcomes p s w) (answerAtEnd ends p (run p s w))
+
+-- the answer of a mark with this text, by what follows: the next mark's code, or the end
+abbrev pub answerNow : Bool → Profile → Mark → List ℕ → Next → Outcome
+answerNow ends p m t Finish = cond ends (answerAt p m t none) nothing
+answerNow ends p m t (Code d) = answerAt p m t (some d)
 
 -- the answer of an open mark, by its text and what follows, both of nibbles that are still to come
-abbrev answerBy : Profile → Mark → List ℕ → List ℕ → Outcome
-answerBy p m t u = answerAt p m (turned (textIn u) t) (codeOr (nextIn u))
+abbrev answerBy : Bool → Profile → Mark → List ℕ → List ℕ → Outcome
+answerBy ends p m t u = answerNow ends p m (turned (textIn u) t) (nextIn u)
+
+-- where the next mark's code or finish comes, it is the meaning's answer
+pub now-answered : (ends : Bool) (p : Profile) (m : Mark) (t : List ℕ) (next : Next) → (isCode next || ends) ≡ true
+    → answerNow ends p m t next ≡ answerAt p m t (codeOr next)
+now-answered true p m t Finish h = refl
+now-answered false p m t Finish h = absurd (true≢false (sym h))
+now-answered ends p m t (Code d) h = refl
 
 -- an answer ends the search
 answer-first : (p : Profile) (before : Before) (c : ℕ) (t : List ℕ) (next : Option ℕ) (os : List Outcome) (o : Outcome)
@@ -125,15 +137,18 @@ next-later n u h = ap (λ (c : Next). cond (isCode c) 0 (suc (nextMark u))) h
 next-here : (n : ℕ) (u : List ℕ) (c : ℕ) → codeAt (n ∷ u) ≡ Code c → nextMark (n ∷ u) ≡ 0
 next-here n u c h = ap (λ (d : Next). cond (isCode d) 0 (suc (nextMark u))) h
 
-module _ (p : Profile) (before : Before) (c : ℕ) where
+module _ (ends : Bool) (p : Profile) (before : Before) (c : ℕ) where
+  abbrev now : List ℕ → Next → Outcome
+  now t next = answerNow ends p (Open before c) t next
+
   -- seven nibbles have come in after a text that holds no later mark
   seven-answer : (w t : List ℕ) (n₀ n₁ n₂ n₃ n₄ n₅ x : ℕ)
-      → answerFrom p (stateWith (Open before c) (x ∷ n₅ ∷ n₄ ∷ n₃ ∷ n₂ ∷ n₁ ∷ n₀ ∷ t)) w
-      ≡ answerBy p (Open before c) t (n₀ ∷ n₁ ∷ n₂ ∷ n₃ ∷ n₄ ∷ n₅ ∷ x ∷ w)
+      → answerFrom ends p (stateWith (Open before c) (x ∷ n₅ ∷ n₄ ∷ n₃ ∷ n₂ ∷ n₁ ∷ n₀ ∷ t)) w
+      ≡ answerBy ends p (Open before c) t (n₀ ∷ n₁ ∷ n₂ ∷ n₃ ∷ n₄ ∷ n₅ ∷ x ∷ w)
   seven-answer [] t n₀ n₁ n₂ n₃ n₄ n₅ x =
       let u : List ℕ = n₀ ∷ n₁ ∷ n₂ ∷ n₃ ∷ n₄ ∷ n₅ ∷ x ∷ [] in
       let h : length u < 8 = omega arith in
-      sym (ap₂ (λ (v : List ℕ) (d : Next). answerOf p before c (turned v t) (codeOr d)) (text-short u h) (finish-short u h))
+      sym (ap₂ (λ (v : List ℕ) (d : Next). now (turned v t) d) (text-short u h) (finish-short u h))
   seven-answer (y ∷ w) t n₀ n₁ n₂ n₃ n₄ n₅ x =
       go (eight n₀ n₁ n₂ n₃ n₄ n₅ x y t w) refl refl (seven-answer w (n₀ ∷ t) n₁ n₂ n₃ n₄ n₅ x y)
     where
@@ -149,44 +164,44 @@ module _ (p : Profile) (before : Before) (c : ℕ) where
       from : Completed → Outcome
       from d =
           firstAnswer (advance p (Open before c) back d .outcome ∷ outcomes p (advance p (Open before c) back d .state) w)
-          (finish p (run p (advance p (Open before c) back d .state) w) .outcome)
+          (answerAtEnd ends p (run p (advance p (Open before c) back d .state) w))
 
       go : {d : Completed} {e : Next} → Sees x y t d e → detect back ≡ d → codeAt (n₀ ∷ u) ≡ e
-          → answerFrom p (stateWith (Open before c) back) w ≡ answerBy p (Open before c) (n₀ ∷ t) u
-          → from (detect back) ≡ answerBy p (Open before c) t (n₀ ∷ u)
+          → answerFrom ends p (stateWith (Open before c) back) w ≡ answerBy ends p (Open before c) (n₀ ∷ t) u
+          → from (detect back) ≡ answerBy ends p (Open before c) t (n₀ ∷ u)
       go sees-mark f g r =
           ap from f
-          ∙ answer-first p before c t (some (16 * x + y)) (outcomes p after w) (finish p (run p after w) .outcome)
-          ∙ sym (ap (λ (k : ℕ). answerOf p before c (turned (take k (n₀ ∷ u)) t) (codeOr (codeAt (drop k (n₀ ∷ u))))) (next-here n₀ u (16 * x + y) g)
-          ∙ ap (λ (e : Next). answerOf p before c t (codeOr e)) g)
+          ∙ answer-first p before c t (some (16 * x + y)) (outcomes p after w) (answerAtEnd ends p (run p after w))
+          ∙ sym (ap (λ (k : ℕ). now (turned (take k (n₀ ∷ u)) t) (codeAt (drop k (n₀ ∷ u)))) (next-here n₀ u (16 * x + y) g)
+          ∙ ap (λ (e : Next). now t e) g)
       go sees-none f g r =
           ap from f
           ∙ r
-          ∙ sym (ap (λ (k : ℕ). answerOf p before c (turned (take k (n₀ ∷ u)) t) (codeOr (codeAt (drop k (n₀ ∷ u))))) (next-later n₀ u g))
+          ∙ sym (ap (λ (k : ℕ). now (turned (take k (n₀ ∷ u)) t) (codeAt (drop k (n₀ ∷ u)))) (next-later n₀ u g))
 
   -- few nibbles bring no mark
   few-nibbles : (t w v : List ℕ) → length t + length w < 8
-      → answerFrom p (stateWith (Open before c) t) (w ++ v) ≡ answerFrom p (stateWith (Open before c) (onto t w)) v
+      → answerFrom ends p (stateWith (Open before c) t) (w ++ v) ≡ answerFrom ends p (stateWith (Open before c) (onto t w)) v
   few-nibbles t [] v h = refl
   few-nibbles t (n ∷ w) v h =
       ap (λ (d : Completed). firstAnswer (advance p (Open before c) (n ∷ t) d .outcome ∷ outcomes p (advance p (Open before c) (n ∷ t) d .state) (w ++ v))
-      (finish p (run p (advance p (Open before c) (n ∷ t) d .state) (w ++ v)) .outcome)) (detect-short (n ∷ t) (omega arith))
+      (answerAtEnd ends p (run p (advance p (Open before c) (n ∷ t) d .state) (w ++ v)))) (detect-short (n ∷ t) (omega arith))
       ∙ few-nibbles (n ∷ t) w v (omega arith)
 
   -- a mark's code has come in; few nibbles follow, and finish
   few-answer : (x y : ℕ) (w : List ℕ) → length w < 6
-      → answerFrom p (stateWith (Open before c) (onto (y ∷ x ∷ []) w)) [] ≡ answerBy p (Open before c) [] (x ∷ y ∷ w)
+      → answerFrom ends p (stateWith (Open before c) (onto (y ∷ x ∷ []) w)) [] ≡ answerBy ends p (Open before c) [] (x ∷ y ∷ w)
   few-answer x y w h =
       let g : length (x ∷ y ∷ w) < 8 = omega arith in
-      ap (λ (l : List ℕ). answerOf p before c l none) (onto-turned (y ∷ x ∷ []) w)
-      ∙ sym (ap₂ (λ (v : List ℕ) (d : Next). answerOf p before c (turned v []) (codeOr d)) (text-short (x ∷ y ∷ w) g) (finish-short (x ∷ y ∷ w) g))
+      ap (λ (l : List ℕ). now l Finish) (onto-turned (y ∷ x ∷ []) w)
+      ∙ sym (ap₂ (λ (v : List ℕ) (d : Next). now (turned v []) d) (text-short (x ∷ y ∷ w) g) (finish-short (x ∷ y ∷ w) g))
     where
       onto-turned : (t w : List ℕ) → onto t w ≡ turned w t
       onto-turned t [] = refl
       onto-turned t (n ∷ w) = onto-turned (n ∷ t) w
 
   -- a mark's code has come in: whatever follows, its answer is that of the text up to the first place where another mark begins
-  pub open-answer : (x y : ℕ) (w : List ℕ) → answerFrom p (stateWith (Open before c) (y ∷ x ∷ [])) w ≡ answerBy p (Open before c) [] (x ∷ y ∷ w)
+  pub open-answer : (x y : ℕ) (w : List ℕ) → answerFrom ends p (stateWith (Open before c) (y ∷ x ∷ [])) w ≡ answerBy ends p (Open before c) [] (x ∷ y ∷ w)
   open-answer x y [] = few-answer x y [] (omega arith)
   open-answer x y (n₂ ∷ []) = few-nibbles (y ∷ x ∷ []) (n₂ ∷ []) [] (omega arith) ∙ few-answer x y (n₂ ∷ []) (omega arith)
   open-answer x y (n₂ ∷ n₃ ∷ []) = few-nibbles (y ∷ x ∷ []) (n₂ ∷ n₃ ∷ []) [] (omega arith) ∙ few-answer x y (n₂ ∷ n₃ ∷ []) (omega arith)

@@ -1,8 +1,8 @@
 -- The number is the reader's own (02, A9): read after any nibbles from a fresh state, the run's first mark is answered with the reason's number;
 -- so answer the meaning, the reader that is fed singly, and any list of its calls.
 use mathlib.Core.Path.{_≡_, refl, _∙_, ap, ap₂, sym}
-use mathlib.Core.Bool.{Bool, true, false, true≢false}
-use mathlib.Core.List.{List, [], _∷_, _++_, append-assoc}
+use mathlib.Core.Bool.{Bool, true, false, true≢false, _||_, cond}
+use mathlib.Core.List.{List, [], _∷_, _++_, append-assoc, append-nil}
 use Prim.Native.Nat.{ℕ, suc, _+_, _*_, _≤_}
 use native.Mathlib.Omega.{arith}
 use lib.Dec.{leb}
@@ -15,7 +15,8 @@ use Rattle.line_code.specs.LineCode.{kindNumbered, meaningOf, readingOf}
 use Rattle.profile.specs.declared.Profile.{Profile}
 use Rattle.profile.specs.declared.Profile.the-variants.{VV5404, VV5300}
 use Rattle.profile.specs.Profile.{profileNumbered, profileNumber, bodyLength}
-use Rattle.stream.specs.Answers.{Outcome, nothing, line, gap, refused, turned, answerOf}
+use Rattle.stream.specs.declared.Mark.the-variants.{Open}
+use Rattle.stream.specs.Answers.{Outcome, nothing, line, gap, refused, turned}
 use Rattle.stream.specs.Stream.{State, Completed, not-yet, mark, fresh, detect, kindAt, advance, step, finish, run, outcomes}
 use Rattle.recovery.specs.Marks.{onto, isMark, completes, marks-are-places}
 use Rattle.recovery.specs.Calls.{markNibbles}
@@ -33,10 +34,10 @@ use Rattle.refinement.specs.RunAnswers.{runsFinish}
 use Rattle.refinement.specs.RunAnswersLaws.{runs-said}
 use Rattle.refinement.specs.Runs.{RunCall, FinishLastRun, runsTaken, runsCollected}
 use Rattle.reason.specs.ExplanationLaws.{begun}
-use Rattle.reason.specs.Explanation.{opener, beginsMark, textIn, nextIn, firstReason, afterOpener, nibblesOnly, lastKind, runReason, explanation}
-use Rattle.reason_laws.specs.Short.{inShort, shortOf, codeOr, kindBefore, firstAnswer, answerGiven, readerGives, answersBefore, callsGive}
+use Rattle.reason.specs.Explanation.{opener, isCode, beginsMark, textIn, nextIn, firstReason, afterOpener, nibblesOnly, lastKind, runReason, explanation}
+use Rattle.reason_laws.specs.Short.{inShort, shortOf, kindBefore, firstAnswer, answerAtEnd, answerGiven, isAnswered, readerGives, answersBefore, callsGive}
 use Rattle.reason_laws.specs.NumberLaws.{reason-said}
-use Rattle.reason_laws.specs.MarkLaws.{answerFrom, open-answer, Opened, first-opens}
+use Rattle.reason_laws.specs.MarkLaws.{answerFrom, answerNow, now-answered, open-answer, Opened, first-opens}
 
 -- a run that is not refused is explained by its first mark
 pub explanation-first : (p : Profile) (k : ℕ) (w : List ℕ) → k ≤ lastKind → nibblesOnly w ≡ true → beginsMark w ≡ true
@@ -50,38 +51,42 @@ told-length p s [] = refl
 told-length p s (n ∷ w) = ap suc (told-length p (step p s n .state) w)
 
 -- what comes after nibbles u, if k is how many these are
-module _ (p : Profile) (u v : List ℕ) (k : ℕ) (e : length u ≡ k) where
-  after-nibbles : firstAnswer (drop k (outcomes p fresh (u ++ v))) (finish p (run p fresh (u ++ v)) .outcome) ≡ answerFrom p (run p fresh u) v
+module _ (ends : Bool) (p : Profile) (u v : List ℕ) (k : ℕ) (e : length u ≡ k) where
+  after-nibbles : firstAnswer (drop k (outcomes p fresh (u ++ v))) (answerAtEnd ends p (run p fresh (u ++ v))) ≡ answerFrom ends p (run p fresh u) v
   after-nibbles =
-      ap₂ (λ (os : List Outcome) (s : State). firstAnswer os (finish p s .outcome))
+      ap₂ (λ (os : List Outcome) (s : State). firstAnswer os (answerAtEnd ends p s))
       (ap₂ (λ (n : ℕ) (os : List Outcome). drop n os) (sym (told-length p fresh u ∙ e)) (outcomes-append p fresh u v)
       ∙ drop-append-seam (outcomes p fresh u) (outcomes p (run p fresh u) v))
       (run-append p fresh u v)
 
 -- the meaning's answer to a run's first mark, by what the mark before was
-given : (p : Profile) (w₀ : List ℕ) (x y : ℕ) (rest : List ℕ)
+given : (ends : Bool) (p : Profile) (w₀ : List ℕ) (x y : ℕ) (rest : List ℕ)
     → (o : Opened p (kindBefore p w₀) (16 * x + y) x y (run p fresh (w₀ ++ (opener ++ (x ∷ y ∷ [])))))
-    → answerGiven p w₀ (opener ++ (x ∷ y ∷ rest))
-    ≡ answerOf p (o .before) (16 * x + y) (turned (textIn (x ∷ y ∷ rest)) []) (codeOr (nextIn (x ∷ y ∷ rest)))
-given p w₀ x y rest o =
+    → answerGiven ends p w₀ (opener ++ (x ∷ y ∷ rest))
+    ≡ answerNow ends p (Open (o .before) (16 * x + y)) (turned (textIn (x ∷ y ∷ rest)) []) (nextIn (x ∷ y ∷ rest))
+given ends p w₀ x y rest o =
     let u : List ℕ = w₀ ++ (opener ++ (x ∷ y ∷ [])) in
-    ap (λ (l : List ℕ). firstAnswer (drop (length w₀ + markNibbles) (outcomes p fresh l)) (finish p (run p fresh l) .outcome))
+    ap (λ (l : List ℕ). firstAnswer (drop (length w₀ + markNibbles) (outcomes p fresh l)) (answerAtEnd ends p (run p fresh l)))
     (sym (append-assoc w₀ (opener ++ (x ∷ y ∷ [])) rest))
-    ∙ after-nibbles p u rest (length w₀ + markNibbles) (length-append w₀ (opener ++ (x ∷ y ∷ [])))
-    ∙ ap (λ (s : State). answerFrom p s rest) (o .state)
-    ∙ open-answer p (o .before) (16 * x + y) x y rest
+    ∙ after-nibbles ends p u rest (length w₀ + markNibbles) (length-append w₀ (opener ++ (x ∷ y ∷ [])))
+    ∙ ap (λ (s : State). answerFrom ends p s rest) (o .state)
+    ∙ open-answer ends p (o .before) (16 * x + y) x y rest
 
--- the number is the meaning's
-pub number-of-the-meaning : (p : Profile) (w₀ : List ℕ) (k : ℕ) (w : List ℕ) → k ≤ lastKind → nibblesOnly w ≡ true → beginsMark w ≡ true
-    → kindBefore p w₀ ≡ kindNumbered k → inShort (answerGiven p w₀ w) ≡ shortOf (explanation (profileNumber p) k w)
+-- the number is the meaning's, where the next mark's code or finish comes
+pub number-of-the-meaning : (ends : Bool) (p : Profile) (w₀ : List ℕ) (k : ℕ) (w : List ℕ) → isAnswered w ends ≡ true
+    → k ≤ lastKind → nibblesOnly w ≡ true → beginsMark w ≡ true → kindBefore p w₀ ≡ kindNumbered k
+    → inShort (answerGiven ends p w₀ w) ≡ shortOf (explanation (profileNumber p) k w)
 unfolding firstReason
-number-of-the-meaning p w₀ k w h n b e =
+number-of-the-meaning ends p w₀ k w a h n b e =
     let g = begun w b in
     let u : List ℕ = g .high ∷ g .low ∷ g .rest in
     let c : ℕ = 16 * g .high + g .low in
     let o = first-opens p w₀ (g .high) (g .low) in
-    ap (λ (l : List ℕ). inShort (answerGiven p w₀ l)) (g .is)
-    ∙ ap inShort (given p w₀ (g .high) (g .low) (g .rest) o)
+    ap (λ (l : List ℕ). inShort (answerGiven ends p w₀ l)) (g .is)
+    ∙ ap inShort (given ends p w₀ (g .high) (g .low) (g .rest) o)
+    ∙ ap inShort
+    (now-answered ends p (Open (o .before) c) (turned (textIn u) []) (nextIn u)
+    (ap (λ (l : List ℕ). isAnswered l ends) (sym (g .is)) ∙ a))
     ∙ reason-said p (o .before) c (textIn u) (nextIn u)
     ∙ ap (λ (q : LineKind). shortOf (firstReason p q u)) (o .kind-is ∙ e)
     ∙ ap (λ (l : List ℕ). shortOf (firstReason p (kindNumbered k) (afterOpener l))) (sym (g .is))
@@ -93,6 +98,10 @@ small (n ∷ w) h =
     let k = leb-true n 15 (and-left (leb n 15) (nibblesOnly w) h) in
     small-more {n = n} (omega arith) (small w (and-right (leb n 15) (nibblesOnly w) h))
 
+or-true : (b : Bool) → (b || true) ≡ true
+or-true true = refl
+or-true false = refl
+
 -- the number is the reader's own: fed w₀ and then the run, a nibble a call, with a buffer long enough lent to each, and finished
 pub number-of-the-reader : (p : Profile) (room : ℕ → ℕ) → ((i : ℕ) → bodyLength p ≤ room i) → (w₀ w : List ℕ) (k : ℕ)
     → nibblesOnly w₀ ≡ true → k ≤ lastKind → nibblesOnly w ≡ true → beginsMark w ≡ true → kindBefore p w₀ ≡ kindNumbered k
@@ -101,7 +110,7 @@ number-of-the-reader p room roomy w₀ w k n₀ h n b e =
     let s = small-append (small w₀ n₀) (small w n) in
     ap inShort
     (ap₂ (λ (os : List Outcome) (o : Outcome). firstAnswer (drop (length w₀ + markNibbles) os) o) (refines p room roomy s) (finish-refines p room roomy s))
-    ∙ number-of-the-meaning p w₀ k w h n b e
+    ∙ number-of-the-meaning true p w₀ k w (or-true (isCode (nextIn (afterOpener w)))) h n b e
 
 -- the first answer, of the answers alone
 first-said : (os : List Outcome) (o : Outcome) → firstAnswer (said (os ++ (o ∷ []))) nothing ≡ firstAnswer os o
@@ -114,25 +123,51 @@ first-said (line f body ∷ os) o = refl
 first-said (gap g ∷ os) o = refl
 first-said (refused n ∷ os) o = refl
 
--- and so over any list of calls, singles and runs, that take w₀ and then the run, with finish last
-pub number-of-the-calls : (p : Profile) (w₀ w : List ℕ) (k : ℕ) {cs : List RunCall} → FinishLastRun cs → runsFinish cs ≡ true
+first-alone : (os : List Outcome) → firstAnswer (said os) nothing ≡ firstAnswer os nothing
+first-alone [] = refl
+first-alone (nothing ∷ os) = first-alone os
+first-alone (line f body ∷ os) = refl
+first-alone (gap g ∷ os) = refl
+first-alone (refused n ∷ os) = refl
+
+-- the answers that nibbles bring, and finish where it comes: those up to the place i, and those from there on
+module _ (p : Profile) (w : List ℕ) (i : ℕ) where
+  abbrev os : List Outcome
+  os = outcomes p fresh w
+
+  abbrev later : Bool → List Outcome
+  later ends = drop i os ++ cond ends (finish p (run p fresh w) .outcome ∷ []) []
+
+  in-two : (ends : Bool) → said (broughtBy p fresh w ends) ≡ said (take i os) ++ said (later ends)
+  in-two true =
+      let o : Outcome = finish p (run p fresh w) .outcome in
+      ap (λ (l : List Outcome). said (l ++ (o ∷ []))) (sym (take-append-drop i os))
+      ∙ ap said (append-assoc (take i os) (drop i os) (o ∷ []))
+      ∙ collected-append saidIn (take i os) (drop i os ++ (o ∷ []))
+  in-two false =
+      ap said (sym (take-append-drop i os))
+      ∙ collected-append saidIn (take i os) (drop i os)
+      ∙ ap (λ (l : List Outcome). said (take i os) ++ said l) (sym (append-nil (drop i os)))
+
+  first-later : (ends : Bool) → firstAnswer (said (later ends)) nothing ≡ firstAnswer (drop i os) (answerAtEnd ends p (run p fresh w))
+  first-later true = first-said (drop i os) (finish p (run p fresh w) .outcome)
+  first-later false = ap (λ (l : List Outcome). firstAnswer (said l) nothing) (append-nil (drop i os)) ∙ first-alone (drop i os)
+
+-- and so over any list of calls, singles and runs, that take w₀ and then the run, with finish last or without a finish: the next mark's code in the
+-- run, or else finish, brings the answer
+pub number-of-the-calls : (p : Profile) (w₀ w : List ℕ) (k : ℕ) {cs : List RunCall} → FinishLastRun cs → isAnswered w (runsFinish cs) ≡ true
     → runsTaken (freshReader p) cs ≡ w₀ ++ w → k ≤ lastKind → nibblesOnly w ≡ true → beginsMark w ≡ true → kindBefore p w₀ ≡ kindNumbered k
     → inShort (callsGive p w₀ w cs) ≡ shortOf (explanation (profileNumber p) k w)
-number-of-the-calls p w₀ w k {cs} last ended taken h n b e =
+number-of-the-calls p w₀ w k {cs} last answered taken h n b e =
     let all : List ℕ = w₀ ++ w in
     let i : ℕ = length w₀ + markNibbles in
-    let os : List Outcome = outcomes p fresh all in
-    let o : Outcome = finish p (run p fresh all) .outcome in
-    let told : runsCollected markCollector p (freshReader p) cs ≡ said (take i os) ++ said (drop i os ++ (o ∷ [])) =
-    runs-said p last
-    ∙ ap₂ (λ (v : List ℕ) (c : Bool). said (broughtBy p fresh v c)) taken ended
-    ∙ ap (λ (l : List Outcome). said (l ++ (o ∷ []))) (sym (take-append-drop i os))
-    ∙ ap said (append-assoc (take i os) (drop i os) (o ∷ []))
-    ∙ collected-append saidIn (take i os) (drop i os ++ (o ∷ [])) in
+    let ends : Bool = runsFinish cs in
+    let told : runsCollected markCollector p (freshReader p) cs ≡ said (take i (outcomes p fresh all)) ++ said (later p all i ends) =
+    runs-said p last ∙ ap (λ (v : List ℕ). said (broughtBy p fresh v ends)) taken ∙ in-two p all i ends in
     ap (λ (l : List Outcome). inShort (firstAnswer (drop (answersBefore p w₀ w) l) nothing)) told
-    ∙ ap (λ (l : List Outcome). inShort (firstAnswer l nothing)) (drop-append-seam (said (take i os)) (said (drop i os ++ (o ∷ []))))
-    ∙ ap inShort (first-said (drop i os) o)
-    ∙ number-of-the-meaning p w₀ k w h n b e
+    ∙ ap (λ (l : List Outcome). inShort (firstAnswer l nothing)) (drop-append-seam (said (take i (outcomes p fresh all))) (said (later p all i ends)))
+    ∙ ap inShort (first-later p all i ends)
+    ∙ number-of-the-meaning ends p w₀ k w answered h n b e
 
 -- the kind of the mark before is the one that the reader itself keeps
 pub kind-of-the-reader : (p : Profile) (room : ℕ → ℕ) → ((i : ℕ) → bodyLength p ≤ room i) → (w₀ : List ℕ) → nibblesOnly w₀ ≡ true

@@ -1,5 +1,6 @@
 -- What an answer and a reason say in short, to be compared: the paper's number, or good. And the answer that a mark gets from the meaning and
 -- from the reader, when nibbles before it and a run that begins with it are read from a fresh state.
+use mathlib.Core.Bool.{Bool, _||_, cond}
 use mathlib.Core.List.{List, [], _∷_, _++_}
 use mathlib.Core.Option.{Option, none, some}
 use Prim.Native.Nat.{ℕ, _+_}
@@ -10,7 +11,7 @@ use Rattle.profile.specs.declared.Profile.{Profile}
 use Rattle.stream.specs.declared.Before.{Before}
 use Rattle.stream.specs.declared.Before.the-variants.{NoLine, RefusedLine, HandedOut}
 use Rattle.stream.specs.Answers.{Outcome, nothing, line, gap, refused}
-use Rattle.stream.specs.Stream.{fresh, kindAt, finish, run, outcomes}
+use Rattle.stream.specs.Stream.{State, fresh, kindAt, finish, run, outcomes}
 use Rattle.reader.specs.Reader.{freshReader, finishOf}
 use Rattle.recovery.specs.Calls.{markNibbles}
 use Rattle.recovery.specs.CallAnswers.{markCollector}
@@ -20,7 +21,7 @@ use Rattle.refinement.specs.Runs.{RunCall, runsCollected}
 use Rattle.reason.specs.declared.Next.{Next}
 use Rattle.reason.specs.declared.Next.the-variants.{Finish, Code}
 use Rattle.reason.specs.declared.Reason.{Reason}
-use Rattle.reason.specs.Explanation.{opener}
+use Rattle.reason.specs.Explanation.{opener, isCode, nextIn, afterOpener}
 use Rattle.reason.specs.Valued as valued
 use Rattle.reason.specs.Valued.{Valued, valued}
 
@@ -69,12 +70,20 @@ firstAnswer (line f body ∷ os) o = line f body
 firstAnswer (gap g ∷ os) o = gap g
 firstAnswer (refused n ∷ os) o = refused n
 
--- the answer of the mark that w begins with, read after w₀ from a fresh state: the first after the mark's own eight nibbles, or else that of
--- finish
-abbrev pub answerGiven : Profile → List ℕ → List ℕ → Outcome
-answerGiven p w₀ w = firstAnswer (drop (length w₀ + markNibbles) (outcomes p fresh (w₀ ++ w))) (finish p (run p fresh (w₀ ++ w)) .outcome)
+-- what is answered after the last nibble: finish's answer, where finish comes
+abbrev pub answerAtEnd : Bool → Profile → State → Outcome
+answerAtEnd ends p s = cond ends (finish p s .outcome) nothing
 
--- the same of the reader that runs, fed a nibble a call; the call with k nibbles still to come is lent a buffer of room k bytes
+-- the answer of the mark that w begins with, read after w₀ from a fresh state: the first after the mark's own eight nibbles, or else that of
+-- finish, where it comes
+abbrev pub answerGiven : Bool → Profile → List ℕ → List ℕ → Outcome
+answerGiven ends p w₀ w = firstAnswer (drop (length w₀ + markNibbles) (outcomes p fresh (w₀ ++ w))) (answerAtEnd ends p (run p fresh (w₀ ++ w)))
+
+-- whether that mark is answered: the next mark's code is in w, or finish comes
+abbrev pub isAnswered : List ℕ → Bool → Bool
+isAnswered w ends = isCode (nextIn (afterOpener w)) || ends
+
+-- the same of the reader that runs, fed a nibble a call, and finished; the call with k nibbles still to come is lent a buffer of room k bytes
 abbrev pub readerGives : (ℕ → ℕ) → Profile → List ℕ → List ℕ → Outcome
 readerGives room p w₀ w =
     firstAnswer (drop (length w₀ + markNibbles) (fedOutcomes room (freshReader p) (w₀ ++ w)))

@@ -2,6 +2,7 @@
 use mathlib.Core.Path.{_≡_, refl}
 use mathlib.Core.List.{List, [], _∷_}
 use Prim.Native.Nat.{ℕ}
+use lib.Dec.{eqb}
 use Rattle.profile.specs.Profile.{profileNumbered}
 use Rattle.stream.specs.declared.Answer.the-variants as answers
 use Rattle.mark_answer.specs.KeptAnswer.{keptAnswer}
@@ -12,6 +13,8 @@ use Rattle.refinement.specs.Runs.{one}
 use Rattle.reader_table.specs.declared.ReaderTable.{ReaderTable}
 use Rattle.reader_table.specs.Table.{isTechnician, emptyTable, placeAt, withPlace, heldBy, at-place, not-placed, openPlace, openPlaceOf, callPlaceOf, closePlaceOf}
 use Rattle.table_history.specs.History.{TableRequest, toOpen, toRead, toClose, TableCall, TableReply, openReply, callReply, serve}
+use Rattle.table_history.specs.Lending.{Buffers, LendingRequest, requestOpen, requestFeed, requestRun, requestClose, LendingCall, buffersLeft, toldFrom}
+use Rattle.table_history.specs.Isolation.{isolation}
 
 abbrev by : ℕ → TableRequest → TableCall
 by n q = record { who = n; request = q }
@@ -78,3 +81,38 @@ ninth : allTold emptyTable
     ∷ []
 unfolding openPlaceOf openPlace callPlaceOf closePlaceOf heldBy placeAt withPlace isTechnician profileNumbered
 ninth = refl
+
+-- A buffer that is lent again and again, computed: what 1 is told, and what their buffer 7 holds at the end, is the same with 2's calls between,
+-- which lend buffer 8, and without them, whatever the buffers hold at first.
+
+abbrev lending : ℕ → LendingRequest → LendingCall
+lending n q = record { who = n; request = q }
+
+abbrev withTheOther : List LendingCall
+withTheOther =
+    lending 1 (requestOpen 0)
+    ∷ lending 2 (requestOpen 1)
+    ∷ lending 1 (requestRun 0 (15 ∷ 15 ∷ []) 7)
+    ∷ lending 2 (requestFeed 1 15 8)
+    ∷ lending 1 (requestRun 0 (15 ∷ 15 ∷ []) 7)
+    ∷ lending 2 (requestClose 1)
+    ∷ lending 1 (requestFeed 0 0 7)
+    ∷ []
+
+abbrev alone : List LendingCall
+alone =
+    lending 1 (requestOpen 0)
+    ∷ lending 1 (requestRun 0 (15 ∷ 15 ∷ []) 7)
+    ∷ lending 1 (requestRun 0 (15 ∷ 15 ∷ []) 7)
+    ∷ lending 1 (requestFeed 0 0 7)
+    ∷ []
+
+lent-again : (s : Buffers) → (toldFrom 1 s withTheOther ≡ toldFrom 1 s alone) × (buffersLeft emptyTable s withTheOther 7 ≡ buffersLeft emptyTable s alone 7)
+unfolding openPlaceOf openPlace isTechnician profileNumbered
+lent-again s =
+    let k =
+    isolation 1 (λ (b : ℕ). eqb b 7) s s withTheOther alone (tt, (tt, (refl, (refl, (refl, (tt, (refl, tt)))))))
+    (tt, (refl, (refl, (refl, tt)))) (λ b e. refl) refl refl in (
+      k .0,
+      k .1 7 refl,
+    )

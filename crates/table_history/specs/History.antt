@@ -1,5 +1,4 @@
--- Histories of the table (02, A12): calls of technicians on one table, what each is told, and isolation as a statement. Definitions only.
-use mathlib.Core.Path.{_≡_}
+-- Histories of the table (02, A12): calls of technicians on one table, and what each is told. Definitions only.
 use mathlib.Core.Bool.{cond}
 use mathlib.Core.List.{List, [], _∷_}
 use Prim.Native.Nat.{ℕ}
@@ -7,7 +6,7 @@ use lib.Dec.{eqb}
 use Rattle.stream.specs.declared.Answer.{Answer}
 use Rattle.refinement.specs.Runs.{RunCall}
 use Rattle.reader_table.specs.declared.ReaderTable.{ReaderTable}
-use Rattle.reader_table.specs.Table.{emptyTable, Placing, PlaceOpened, openPlaceOf, PlaceCalled, callPlaceOf, closePlaceOf}
+use Rattle.reader_table.specs.Table.{Placing, PlaceOpened, openPlaceOf, PlaceCalled, callPlaceOf, closePlaceOf}
 
 -- what is asked of the table: a reader of the profile with this number; a feed, run or finish of a place, with the buffer lent; or that a
 -- place is closed
@@ -50,11 +49,6 @@ tableAfter t (c ∷ h) = tableAfter (serve t (c .who) (c .request) .table) h
 
 -- One technician's part of a history.
 
--- what they ask, in order
-abbrev pub requestsOf : ℕ → List TableCall → List TableRequest
-requestsOf who [] = []
-requestsOf who (c ∷ h) = cond (eqb (c .who) who) (c .request ∷ requestsOf who h) (requestsOf who h)
-
 -- what they are told, in order, from the table t on
 abbrev pub toldTo : ℕ → ReaderTable → List TableCall → List TableReply
 toldTo who t [] = []
@@ -67,12 +61,3 @@ abbrev pub openingsIn : List TableReply → List Placing
 openingsIn [] = []
 openingsIn (openReply o ∷ ts) = o ∷ openingsIn ts
 openingsIn (callReply a n buffer ∷ ts) = openingsIn ts
-
--- Isolation: in two histories from an empty table in which a technician asks the same in the same order, lending the same buffers, with any
--- other calls between, and their openings get the same answers, everything that they are told, and their buffers, are the same
-abbrev pub Isolated : ℕ → Type 0
-Isolated who =
-    (h k : List TableCall)
-    → requestsOf who h ≡ requestsOf who k
-    → openingsIn (toldTo who emptyTable h) ≡ openingsIn (toldTo who emptyTable k)
-    → toldTo who emptyTable h ≡ toldTo who emptyTable k

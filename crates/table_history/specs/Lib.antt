@@ -1,6 +1,8 @@
 pub mod History
+pub mod Lending
 pub mod Openings
 pub mod FreePlaces
+pub mod OwnPlaces
 pub mod Places
 pub mod Views
 pub mod Isolation
@@ -10,4 +12,5 @@ pub mod OpeningDemand
 pub mod Lowest
 pub mod Closed
 pub mod Reached
+pub mod OwnPlacesLaws
 pub mod Examples

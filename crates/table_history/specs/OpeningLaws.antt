@@ -23,7 +23,8 @@ use Rattle.reader_table.specs.declared.ReaderTable.{ReaderTable}
 use Rattle.reader_table.specs.Table.{isTechnician, nobody, placeAt, heldBy, lowestFree, Placing, at-place, not-placed, notOpened, opensAt, openPlace, openNumbered, openPlaceOf, runTaken, callPlaceOf, closePlaceOf}
 use Rattle.table_history.specs.History.{TableRequest, TableCall, TableReply, toOpen, toRead, toClose, callReply, TableServed, serve}
 use Rattle.table_history.specs.Openings.{andOn, callsBy, callsOf, toldBy, toldOf, readerTold, nibblesIn, toldCollected}
-use Rattle.table_history.specs.Places.{somebody, view, but, owned, lowest-free}
+use Rattle.table_history.specs.Lending.{but}
+use Rattle.table_history.specs.Places.{somebody, view, isThere, owned, lowest-free}
 use Rattle.table_history.specs.Views.{other-keeps, toldHeld, keptHeld, keptClosed, keptOpened, opens, reads, closes}
 
 -- An opening that is answered a place: it is a technician's, and the place was the lowest that was free.
@@ -67,7 +68,7 @@ Projects who i cs = (t : ReaderTable) (r : Reader) → heldBy t who i ≡ some r
 
 -- What is held at one place after a call.
 
-but-same : (v : ℕ → Option Reader) (j : ℕ) (x : Option Reader) (i : ℕ) → eqb j i ≡ true → but v j x i ≡ x
+pub but-same : (v : ℕ → Option Reader) (j : ℕ) (x : Option Reader) (i : ℕ) → eqb j i ≡ true → but v j x i ≡ x
 but-same v j x i e = ap (λ (b : Bool). cond b x (v i)) (eq-eqb i j (sym (eqb-true j i e)))
 
 but-other : (v : ℕ → Option Reader) (j : ℕ) (x : Option Reader) (i : ℕ) → eqb j i ≡ false → but v j x i ≡ v i
@@ -177,6 +178,21 @@ opened-fresh t who n p i e f =
     ∙ ap (λ (m : Numbered). keptOpened (view who t) m (openPlaceOf t who n .placing) i) e
     ∙ ap (λ (o : Placing). keptOpened (view who t) (numbered.Profile p) o i) f
     ∙ but-same (view who t) i (some (freshReader p)) i (eq-eqb i i refl)
+
+-- so it is theirs
+pub opened-theirs : (t : ReaderTable) (who n i : ℕ) → openPlaceOf t who n .placing ≡ at-place i → isThere (heldBy (openPlaceOf t who n .table) who i) ≡ true
+unfolding openPlaceOf
+opened-theirs t who n i f = go (profileNumbered n) refl
+  where
+    not-opened : {A : Type 0} (a : Bool) → cond a (openNumbered t who numbered.NoProfile) (notOpened t noSuchTechnician) .placing ≡ at-place i → A
+    not-opened true e = refused-at e
+    not-opened false e = refused-at e
+
+    go : (m : Numbered) → profileNumbered n ≡ m → isThere (heldBy (openPlaceOf t who n .table) who i) ≡ true
+    go (numbered.Profile p) e = ap isThere (opened-fresh t who n p i e f)
+    go numbered.NoProfile e =
+        not-opened (isTechnician who)
+        (ap (λ (m : Numbered). cond (isTechnician who) (openNumbered t who m) (notOpened t noSuchTechnician) .placing) (sym e) ∙ f)
 
 -- What a reader tells says what it took, and what is collected.
 

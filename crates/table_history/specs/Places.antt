@@ -13,6 +13,7 @@ use Rattle.reader.specs.declared.Reader.{Reader}
 use Rattle.reader_table.specs.declared.TablePlace.{TablePlace}
 use Rattle.reader_table.specs.declared.ReaderTable.{ReaderTable}
 use Rattle.reader_table.specs.Table.{isTechnician, nobody, freePlace, placeAt, withPlace, heldBy, lowestFree}
+use Rattle.table_history.specs.Lending.{but}
 
 -- a technician is not nobody
 pub somebody : (who : ℕ) → isTechnician who ≡ true → eqb nobody who ≡ false
@@ -44,10 +45,6 @@ put-out t j p l = List·getD-eq-default (set (t .places) j p) freePlace {n = j} 
 -- all that a technician holds, place by place
 abbrev pub view : ℕ → ReaderTable → ℕ → Option Reader
 view who t i = heldBy t who i
-
--- the same, but for one place
-abbrev pub but : (ℕ → Option Reader) → ℕ → Option Reader → ℕ → Option Reader
-but v j x i = cond (eqb i j) x (v i)
 
 -- one that is there
 pub view-put : (who : ℕ) (t : ReaderTable) (j : ℕ) (p : TablePlace) → j < length (t .places) → view who (withPlace t j p) ≡ but (view who t) j (holding who p)
@@ -84,7 +81,7 @@ view-foreign who t j p f g e = λ k i. at i (eqb i j) refl k
 
 -- A place that is held.
 
-abbrev isThere : Option Reader → Bool
+abbrev pub isThere : Option Reader → Bool
 isThere none = false
 isThere (some r) = true
 

@@ -23,7 +23,8 @@ use Rattle.refinement.specs.RunsReached.{runs-never-eleven}
 use Rattle.reader_table.specs.declared.ReaderTable.{ReaderTable}
 use Rattle.reader_table.specs.Table.{isTechnician, freePlace, placeCount, emptyTable, placeAt, heldBy, Placing, at-place, not-placed, openPlaceOf, notCalled, lentTo, callHeld, callPlaceOf}
 use Rattle.table_history.specs.History.{TableRequest, toOpen, toRead, toClose, TableCall, serve, tableAfter}
-use Rattle.table_history.specs.Places.{somebody, holding, held, view, but}
+use Rattle.table_history.specs.Lending.{but}
+use Rattle.table_history.specs.Places.{somebody, holding, held, view}
 use Rattle.table_history.specs.Views.{other-keeps, keptHeld, keptClosed, keptOpened, opens, reads, closes}
 
 -- a reader that calls of its own reach, from a fresh one
@@ -100,7 +101,7 @@ all-free zero i = refl
 all-free (suc n) zero = refl
 all-free (suc n) (suc i) = all-free n i
 
-none-in-empty : (who : ℕ) → isTechnician who ≡ true → (i : ℕ) → heldBy emptyTable who i ≡ none
+pub none-in-empty : (who : ℕ) → isTechnician who ≡ true → (i : ℕ) → heldBy emptyTable who i ≡ none
 unfolding placeAt
 none-in-empty who h i =
     held emptyTable who i
