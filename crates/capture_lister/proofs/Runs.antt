@@ -20,8 +20,8 @@ use Rattle.verdict.specs.declared.Findings.{Findings}
 use Rattle.verdict.specs.declared.Found.{Found}
 use Rattle.verdict.specs.Findings.{takeOf}
 use Rattle.verdict.specs.FindingsLaws.{nothing-found}
-use Rattle.listing.specs.Rows.{rowRoom, rowOf}
-use Rattle.listing.specs.Frames.{newsLine}
+use Rattle.list_rows.specs.Rows.{rowRoom, rowOf}
+use Rattle.list_news.specs.NewsLines.{newsLine}
 use Rattle.text.specs.Put.{Put}
 use Rattle.listers.specs.RunLaws.{ByReader, Along, ran, head-is, body-is, answer-is, along-next, along-end}
 use Rattle.capture_lister.specs.declared.Mode.{Mode}

@@ -17,8 +17,8 @@ use Rattle.verdict.specs.Verdict.{isLost, verdictOf}
 use Rattle.report.specs.Report.{reportRoom, reportOf}
 use Rattle.text.specs.Put.{onFront}
 use Rattle.listers.specs.Lists.{Lists, listerAfter, textAfter, takenFrom, ListedText, listedUpTo}
-use Rattle.listing.specs.Rows.{headerRow, rowRoom, rowOf}
-use Rattle.listing.specs.Frames.{newsLine}
+use Rattle.list_rows.specs.Rows.{headerRow, rowRoom, rowOf}
+use Rattle.list_news.specs.NewsLines.{newsLine}
 use Rattle.capture_lister.specs.declared.Mode.{Mode}
 use Rattle.capture_lister.specs.declared.Mode.the-variants.{Rows, Frames}
 use Rattle.capture_lister.specs.declared.Lister.{Lister}

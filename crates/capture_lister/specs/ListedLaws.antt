@@ -6,9 +6,9 @@ use Rattle.reader.specs.Reader.{passes}
 use Rattle.stream.specs.declared.Answer.{Answer}
 use Rattle.verdict.specs.declared.Found.{Found}
 use Rattle.listers.specs.ListsLaws.{from-within, none-within}
-use Rattle.listing.specs.Rows.{rowRoom}
-use Rattle.listing.specs.RowLaws.{row-short}
-use Rattle.listing.specs.FramesLaws.{news-short}
+use Rattle.list_rows.specs.Rows.{rowRoom}
+use Rattle.list_rows.specs.RowLaws.{row-short}
+use Rattle.list_news.specs.NewsLinesLaws.{news-short}
 use Rattle.capture_lister.specs.declared.Mode.{Mode}
 use Rattle.capture_lister.specs.declared.Mode.the-variants.{Rows, Frames}
 use Rattle.capture_lister.specs.declared.Lister.{Lister}

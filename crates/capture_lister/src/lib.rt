@@ -12,8 +12,8 @@ ghost use lib.ListN.{length, drop};
 ghost use Rattle.stream.specs.Written.{nibbles};
 ghost use Rattle.verdict.specs.Verdict.{verdictOf};
 ghost use Rattle.report.specs.Report.{reportRoom, reportOf};
-ghost use Rattle.listing.specs.Rows.{rowOf, rowRoom, rowIfRoom};
-ghost use Rattle.listing.specs.Frames.{newsLine};
+ghost use Rattle.list_rows.specs.Rows.{rowOf, rowRoom, rowIfRoom};
+ghost use Rattle.list_news.specs.NewsLines.{newsLine};
 ghost use Rattle.text.specs.Put.{Put, AtFront};
 ghost use Rattle.capture_lister.specs.Listed.{ListGives, freshLister, headText, textOf, belowOf, listedOf, finishedOf};
 use profile::Profile;
@@ -63,7 +63,7 @@ impl Lister {
     {
         let mode = self.mode;
         match mode {
-            Mode::Rows => listing::header(out),
+            Mode::Rows => list_rows::header(out),
             Mode::Frames => 0,
         }
     }
@@ -149,14 +149,14 @@ impl Lister {
 }
 
 // Room for the last text: the last mark's, and what stands below the list.
-pub const END: usize = listing::ROW + report::ROOM;
+pub const END: usize = list_rows::ROW + report::ROOM;
 
 // Whether a nibble is left at a place, and room for the text of a mark.
 fn goes_on(bytes: usize, at: usize, room: usize) -> bool
     ensures { λ r. ⌜ r ≡ (ltb (at / 2) bytes && leb rowRoom room) ⌝ }
 {
     if at / 2 < bytes {
-        return listing::ROW <= room;
+        return list_rows::ROW <= room;
     }
     false
 }
@@ -194,14 +194,14 @@ fn put_row(mark: u64, answer: Answer, out: &mut [u8], at: usize) -> usize
     requires { ⌜ at + rowRoom ≤ length (now out) ⌝ }
     ensures { λ r. ⌜ Put (now (out .entry)) at (rowOf mark answer) r (now (out .exit)) ⌝ }
 {
-    at + listing::row(mark, answer, &mut out[at..])
+    at + list_rows::row(mark, answer, &mut out[at..])
 }
 
 fn put_news(news: News, out: &mut [u8], at: usize) -> usize
     requires { ⌜ at + rowRoom ≤ length (now out) ⌝ }
     ensures { λ r. ⌜ Put (now (out .entry)) at (newsLine news) r (now (out .exit)) ⌝ }
 {
-    at + listing::frames::news(news, &mut out[at..])
+    at + list_news::news(news, &mut out[at..])
 }
 
 // The report, with its verdict.

@@ -24,7 +24,7 @@ use Rattle.verdict.specs.Findings.{noFindings, takeOf, closeOf}
 use Rattle.capture_bytes.specs.UnpackedLaws.{nibbles-small}
 use Rattle.listers.specs.Lists.{listedUpTo, endToEnd, PieceCalls}
 use Rattle.listers.specs.ListsLaws.{pieces-listed}
-use Rattle.listing.specs.Rows.{headerRow, rowOf, rowRoom, rowIfRoom}
+use Rattle.list_rows.specs.Rows.{headerRow, rowOf, rowRoom, rowIfRoom}
 use Rattle.capture_lister.specs.declared.Mode.the-variants.{Rows}
 use Rattle.capture_lister.specs.declared.Lister.{Lister}
 use Rattle.capture_lister.specs.Listed.{freshLister, headText, textOf, belowOf, answerTo, afterNibble, nibbleText, captureLists, listAfter, listText, listedOf, endText, endRoom, finishedOf}

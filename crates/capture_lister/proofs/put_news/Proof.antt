@@ -1,15 +1,15 @@
 -- The line of a frame's news is at most a row long, so it has room, and is put whole at the place.
 use native.Mathlib.Omega.{arith}
-use Rattle.listing.specs.FramesLaws.{news-short}
-use Rattle.listing.specs.Rows.{rowIfRoom, rowRoom}
+use Rattle.list_news.specs.NewsLinesLaws.{news-short}
+use Rattle.list_news.specs.NewsLines.{newsIfRoom, newsRoom}
 use Rattle.capture_lister.proofs.Part.{part-put}
 use borrow.Author.Needs.{needs}
 use Rattle.capture_lister.proofs.put_news.Statement.{statement}
 use Rattle.capture_lister.proofs.put_news.Tie as tie
 
 returns : tie.Need-returns
-unfolding rowIfRoom
-returns c = part-put rowRoom _ _ _ _ _ (c .before .before .before .before .before .pre) (news-short (c .before .before .before .before .before .args .news)) (c .before .before .news .ensures .count) (c .before .before .news .ensures .leaves)
+unfolding newsIfRoom
+returns c = part-put newsRoom _ _ _ _ _ (c .before .before .before .before .before .pre) (news-short (c .before .before .before .before .before .args .news)) (c .before .before .news .ensures .count) (c .before .before .news .ensures .leaves)
 
 add-result : tie.Need-add-result
 add-result c = let h = returns c in omega (arith, h .place, h .room)

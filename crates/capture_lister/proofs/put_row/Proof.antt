@@ -1,8 +1,8 @@
 -- A mark's row is never longer than the room asked for, so it is put whole at the place.
 use native.Mathlib.Omega.{arith}
 use borrow.Author.Needs.{needs}
-use Rattle.listing.specs.RowLaws.{row-short}
-use Rattle.listing.specs.Rows.{rowIfRoom, rowRoom}
+use Rattle.list_rows.specs.RowLaws.{row-short}
+use Rattle.list_rows.specs.Rows.{rowIfRoom, rowRoom}
 use Rattle.capture_lister.proofs.Part.{part-put}
 use Rattle.capture_lister.proofs.put_row.Statement.{statement}
 use Rattle.capture_lister.proofs.put_row.Tie as tie

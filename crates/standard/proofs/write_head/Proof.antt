@@ -3,7 +3,7 @@ use mathlib.Core.Path.{sym}
 use Prim.Native.Nat.{_≤_}
 use lib.ListN.{length}
 use lib.Seq.{length-take-le}
-use Rattle.listing.specs.Rows.{rowIfRoom}
+use Rattle.list_rows.specs.Rows.{rowIfRoom}
 use Rattle.text.specs.PutLaws.{front-within}
 use Rattle.capture_lister.specs.Listed.{headText}
 use borrow.Author.Needs.{needs}

@@ -1,6 +1,6 @@
 -- For rows it is the header that listing puts; for frames there is no text, and the buffer stays.
 use mathlib.Core.Path.{refl}
-use Rattle.listing.specs.RowLaws.{no-row}
+use Rattle.list_rows.specs.RowLaws.{no-row}
 use borrow.Author.Needs.{needs}
 use Rattle.capture_lister.proofs.Lister.head.Statement.{statement}
 use Rattle.capture_lister.proofs.Lister.head.Tie as tie
