@@ -1,10 +1,7 @@
 -- How long the parts of a row can be.
-use mathlib.Core.Path.{_≡_, refl}
-use mathlib.Core.Bool.{Bool, true, false, cond}
-use mathlib.Core.List.{List, []}
+use mathlib.Core.Bool.{Bool, true, false}
 use Prim.Native.Nat.{ℕ, _≤_}
 use native.Mathlib.Omega.{arith}
-use lib.Dec.{ltb}
 use lib.ListN.{length, length-append}
 use Rattle.text.specs.TextLaws.{decimal-short}
 use Rattle.line_code.specs.declared.Kind.{Kind}
@@ -13,7 +10,7 @@ use Rattle.stream.specs.declared.LineFacts.{LineFacts}
 use Rattle.stream.specs.declared.Answer.{Answer}
 use Rattle.stream.specs.declared.Answer.the-variants.{Nothing, Line, Gap, Refused}
 use Rattle.stream.specs.Answers.{eitherRepaired}
-use Rattle.list_rows.specs.Rows.{kindWord, noteWord, lineWords, refusedWords, rowOf, rowRoom, rowIfRoom}
+use Rattle.list_rows.specs.Rows.{kindWord, noteWord, lineWords, refusedWords, rowOf, rowRoom}
 
 kind-short : (k : Kind) → length (kindWord k) ≤ 3
 kind-short BL = omega arith
@@ -37,12 +34,3 @@ row-short mark Nothing = omega arith
 row-short mark (Line f) = simp length-append (omega (arith, decimal-short mark, line-short f))
 row-short mark (Gap g) = simp length-append (omega (arith, decimal-short mark))
 row-short mark (Refused n) = simp length-append (omega (arith, decimal-short mark, decimal-short n))
-
--- no row needs no room
-pub no-row : (room : ℕ) → rowIfRoom room [] ≡ []
-unfolding rowIfRoom
-no-row room = either (ltb room rowRoom) []
-  where
-    either : (b : Bool) (t : List ℕ) → cond b t t ≡ t
-    either true t = refl
-    either false t = refl

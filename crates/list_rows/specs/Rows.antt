@@ -53,7 +53,7 @@ rowOf mark (Refused n) = rowWith mark (refusedWords n)
 
 -- the bytes that no row exceeds
 abbrev pub rowRoom : ℕ
-rowRoom = 144
+rowRoom = 64
 
 -- a row where a buffer of so many bytes has room for any; else nothing
 unfoldable pub rowIfRoom : ℕ → List ℕ → List ℕ

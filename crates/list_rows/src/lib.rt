@@ -12,7 +12,7 @@ use text::put;
 use text::put_decimal;
 
 // The bytes that no row exceeds.
-pub const ROW: usize = 144;
+pub const ROW: usize = 64;
 
 // Puts the first row, which names the columns, at the front of a buffer.
 pub fn header(out: &mut [u8]) -> usize
