@@ -30,7 +30,8 @@ use Rattle.verdict.specs.declared.Findings.{Findings}
 use Rattle.verdict.specs.declared.Verdict.{Verdict}
 use Rattle.verdict.specs.Findings.{noFindings, takeOf, closeOf}
 use Rattle.verdict.specs.Verdict.{isLost, inOrder, verdictOf}
-use Rattle.report.specs.Report.{framesLines, refusedLines, repairedLines, periodLines, lostLine, hintLine, adviceLine, verdictLine, reportOf}
+use Rattle.signal_report.specs.SignalReport.{signalLines}
+use Rattle.report.specs.Report.{framesLines, lostLine, hintLine, adviceLine, verdictLine, reportOf}
 use Rattle.capture_bytes.specs.UnpackedLaws.{nibbles-small as bytes-small}
 use Rattle.listers.specs.Lists.{endToEnd, PieceCalls}
 use Rattle.list_news.specs.NewsLines.{newsLine}
@@ -103,11 +104,9 @@ report-ends : (f : Findings) (lost : Bool) (v : Verdict) → EndsIn (reportOf f 
 unfolding reportOf
 report-ends f lost v =
     ends-on (framesLines f)
-    (ends-on (refusedLines (f .signal .refused))
-    (ends-on (repairedLines (f .signal .repaired))
-    (ends-on (periodLines (f .signal .spacing))
+    (ends-on (signalLines (f .signal))
     (ends-on (lostLine lost)
-    (ends-on (hintLine (f .tally .profile) (inOrder f lost) (f .signal .lines) (f .signal .first)) (adviceLine v (inOrder f lost), refl))))))
+    (ends-on (hintLine (f .tally .profile) (inOrder f lost) (f .signal .lines) (f .signal .first)) (adviceLine v (inOrder f lost), refl))))
 
 end-ends : (l : FrameLister) → EndsIn (endText l) (verdictLine (listerVerdict l))
 end-ends l = ends-on (newsLine (lastFound l .news)) (report-ends (lastFound l .findings) (lostAt l) (listerVerdict l))

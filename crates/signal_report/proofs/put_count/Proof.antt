@@ -1,10 +1,10 @@
 -- A count of 0 puts nothing; else the words, the count, the words.
-use Rattle.report.specs.Report.{countLine}
+use Rattle.signal_report.specs.SignalReport.{countLine}
 use Rattle.text.specs.PutLaws.{then, puts-none}
 use borrow.Author.Tests.{eq-eqb, ne-eqb}
 use borrow.Author.Needs.{needs}
-use Rattle.report.proofs.put_count.Statement.{statement}
-use Rattle.report.proofs.put_count.Tie as tie
+use Rattle.signal_report.proofs.put_count.Statement.{statement}
+use Rattle.signal_report.proofs.put_count.Tie as tie
 
 returns : tie.Need-returns
 unfolding countLine

@@ -1,9 +1,9 @@
 -- A line for each, one after another.
-use Rattle.report.specs.Report.{lowBits}
+use Rattle.signal_report.specs.SignalReport.{lowBits}
 use Rattle.text.specs.PutLaws.{then}
 use borrow.Author.Needs.{needs}
-use Rattle.report.proofs.put_low_bits.Statement.{statement}
-use Rattle.report.proofs.put_low_bits.Tie as tie
+use Rattle.signal_report.proofs.put_low_bits.Statement.{statement}
+use Rattle.signal_report.proofs.put_low_bits.Tie as tie
 
 returns : tie.Need-returns
 unfolding lowBits

@@ -1,10 +1,10 @@
 -- A count of 0 puts nothing; else the word, the count, what is counted, and the rate.
-use Rattle.report.specs.Report.{countLine, periodLine}
+use Rattle.signal_report.specs.SignalReport.{countLine, periodLine}
 use Rattle.text.specs.PutLaws.{then, puts-none}
 use borrow.Author.Tests.{eq-eqb, ne-eqb}
 use borrow.Author.Needs.{needs}
-use Rattle.report.proofs.put_period.Statement.{statement}
-use Rattle.report.proofs.put_period.Tie as tie
+use Rattle.signal_report.proofs.put_period.Statement.{statement}
+use Rattle.signal_report.proofs.put_period.Tie as tie
 
 returns : tie.Need-returns
 unfolding periodLine countLine

@@ -1,8 +1,8 @@
 -- By whether it is one.
 use borrow.Author.Tests.{eq-eqb, ne-eqb}
 use borrow.Author.Needs.{needs}
-use Rattle.report.proofs.put_noun.Statement.{statement}
-use Rattle.report.proofs.put_noun.Tie as tie
+use Rattle.signal_report.proofs.put_noun.Statement.{statement}
+use Rattle.signal_report.proofs.put_noun.Tie as tie
 
 returns : tie.Need-returns
 returns c = simp (eq-eqb _ _ (c .before .before .before .before .before .if1 .taken)) (c .before .before .put .ensures)

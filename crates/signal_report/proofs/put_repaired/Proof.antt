@@ -1,9 +1,9 @@
 -- The low bits, then the high ones.
-use Rattle.report.specs.Report.{repairedLines}
+use Rattle.signal_report.specs.SignalReport.{repairedLines}
 use Rattle.text.specs.PutLaws.{then}
 use borrow.Author.Needs.{needs}
-use Rattle.report.proofs.put_repaired.Statement.{statement}
-use Rattle.report.proofs.put_repaired.Tie as tie
+use Rattle.signal_report.proofs.put_repaired.Statement.{statement}
+use Rattle.signal_report.proofs.put_repaired.Tie as tie
 
 returns : tie.Need-returns
 unfolding repairedLines

@@ -1,9 +1,9 @@
 -- A line for each, one after another.
-use Rattle.report.specs.Report.{refusedCodes}
+use Rattle.signal_report.specs.SignalReport.{refusedCodes}
 use Rattle.text.specs.PutLaws.{then}
 use borrow.Author.Needs.{needs}
-use Rattle.report.proofs.put_refused_codes.Statement.{statement}
-use Rattle.report.proofs.put_refused_codes.Tie as tie
+use Rattle.signal_report.proofs.put_refused_codes.Statement.{statement}
+use Rattle.signal_report.proofs.put_refused_codes.Tie as tie
 
 returns : tie.Need-returns
 unfolding refusedCodes

@@ -1,9 +1,9 @@
 -- A line for each, one after another.
-use Rattle.report.specs.Report.{refusedEnds}
+use Rattle.signal_report.specs.SignalReport.{refusedEnds}
 use Rattle.text.specs.PutLaws.{then}
 use borrow.Author.Needs.{needs}
-use Rattle.report.proofs.put_refused_ends.Statement.{statement}
-use Rattle.report.proofs.put_refused_ends.Tie as tie
+use Rattle.signal_report.proofs.put_refused_ends.Statement.{statement}
+use Rattle.signal_report.proofs.put_refused_ends.Tie as tie
 
 returns : tie.Need-returns
 unfolding refusedEnds

@@ -1,10 +1,10 @@
 -- The named ones, and the others where there are any.
-use Rattle.report.specs.Report.{periodLines}
+use Rattle.signal_report.specs.SignalReport.{periodLines}
 use Rattle.text.specs.PutLaws.{then, puts-none}
 use borrow.Author.Tests.{eq-eqb, ne-eqb}
 use borrow.Author.Needs.{needs}
-use Rattle.report.proofs.put_periods.Statement.{statement}
-use Rattle.report.proofs.put_periods.Tie as tie
+use Rattle.signal_report.proofs.put_periods.Statement.{statement}
+use Rattle.signal_report.proofs.put_periods.Tie as tie
 
 returns : tie.Need-returns
 unfolding periodLines

@@ -1,8 +1,8 @@
 -- The parts, one after another.
 use Rattle.text.specs.PutLaws.{then}
 use borrow.Author.Needs.{needs}
-use Rattle.report.proofs.put_range.Statement.{statement}
-use Rattle.report.proofs.put_range.Tie as tie
+use Rattle.signal_report.proofs.put_range.Statement.{statement}
+use Rattle.signal_report.proofs.put_range.Tie as tie
 
 returns : tie.Need-returns
 returns c =

@@ -1,9 +1,9 @@
 -- The three groups, one after another.
-use Rattle.report.specs.Report.{refusedLines}
+use Rattle.signal_report.specs.SignalReport.{refusedLines}
 use Rattle.text.specs.PutLaws.{then}
 use borrow.Author.Needs.{needs}
-use Rattle.report.proofs.put_refused.Statement.{statement}
-use Rattle.report.proofs.put_refused.Tie as tie
+use Rattle.signal_report.proofs.put_refused.Statement.{statement}
+use Rattle.signal_report.proofs.put_refused.Tie as tie
 
 returns : tie.Need-returns
 unfolding refusedLines
