@@ -197,8 +197,8 @@ fn answered(fed: Fed, answers: u64) -> Bus {
 
 fn shown(reader: Reader, answer: Answer, answers: u64) -> Bus {
     let answers = std::num::wrapping_add_u64(answers, 1);
-    let mut row = [0u8; listing::ROW];
-    let used = listing::row(answers, answer, &mut row);
+    let mut row = [0u8; list_rows::ROW];
+    let used = list_rows::row(answers, answer, &mut row);
     say_front(&row, used);
     Bus { reader, answers }
 }

@@ -195,8 +195,8 @@ impl Bench {
 
     // The first row of a listing.
     fn header(self) -> Bench {
-        let mut row = [0u8; listing::ROW];
-        let used = listing::header(&mut row);
+        let mut row = [0u8; list_rows::ROW];
+        let used = list_rows::header(&mut row);
         say_front(&row, used);
         self
     }

@@ -1,3 +1,4 @@
 pub mod Lists
 pub mod ListsLaws
 pub mod RunLaws
+pub mod PartLaws

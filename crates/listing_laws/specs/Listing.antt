@@ -6,7 +6,7 @@ use Rattle.profile.specs.declared.Profile.{Profile}
 use Rattle.stream.specs.Answers.{Outcome, answerFor}
 use Rattle.stream.specs.Stream.{fresh}
 use Rattle.recovery.specs.CleanAnswers.{said, outcomesFinished}
-use Rattle.listing.specs.Rows.{headerRow, rowOf}
+use Rattle.list_rows.specs.Rows.{headerRow, rowOf}
 
 -- the rows of answers, end to end, counted on from n; a count stops at the greatest u64
 abbrev pub rowsFrom : ℕ → List Outcome → List ℕ

@@ -5,9 +5,7 @@
 // row when its gap is answered: a good gap holds the sensor's two means; one that is refused has a row that says so. A piece is taken as far as
 // the buffer has room for one row more. Nothing is refused. Cost: that of the reader's runs, and linear in the text.
 ghost use mathlib.Core.Path.{_≡_};
-ghost use mathlib.Core.Bool.{_&&_};
-ghost use Prim.Native.Nat.{_+_, _/_, _≤_};
-ghost use lib.Dec.{leb, ltb};
+ghost use Prim.Native.Nat.{_+_, _≤_};
 ghost use lib.ListN.{length, drop};
 ghost use Rattle.profile.specs.Profile.{longest};
 ghost use Rattle.stream.specs.Written.{nibbles};
@@ -69,7 +67,7 @@ impl MeanLister {
             let mut awaits = self.awaits;
             let mut used: usize = 0;
             let mut at = from;
-            while goes_on(input.len(), at, out.len() - used) {
+            while listers::goes_on(input.len(), at, mean_rows::ROOM, out.len() - used) {
                 let t = capture_bytes::run(head, &mut body, input, at, &mut line);
                 head = t.head;
                 let answer = t.answer;
@@ -127,16 +125,6 @@ impl MeanLister {
             used,
         }
     }
-}
-
-// Whether a nibble is left at a place, and room for a row.
-fn goes_on(bytes: usize, at: usize, room: usize) -> bool
-    ensures { λ r. ⌜ r ≡ (ltb (at / 2) bytes && leb meansRoom room) ⌝ }
-{
-    if at / 2 < bytes {
-        return mean_rows::ROOM <= room;
-    }
-    false
 }
 
 // What is awaited after an answer.

@@ -9,8 +9,7 @@ use Rattle.slip.specs.SlipFrames.{OneFrameUncounted}
 use Rattle.verdict.specs.declared.Verdict.{Verdict}
 use Rattle.verdict.specs.declared.Verdict.the-variants.{CheckTheClip, NotGood}
 use Rattle.report.specs.Report.{verdictLine}
-use Rattle.capture_lister.specs.declared.Mode.the-variants.{Frames}
-use Rattle.capture_lister.specs.Listed.{freshLister, listAfter, endText}
+use Rattle.list_frames.specs.FrameLister.{freshLister, listAfter, endText}
 use Rattle.verdict_laws.specs.CleanCapture.{findingsOn, verdictOn}
 use Rattle.verdict_laws.specs.ListedVerdict.{EndsIn}
 
@@ -25,4 +24,4 @@ pub record FoundWithSlip (fs : List (List Sent)) (front : List Sent) (gs : List 
   pub one-uncounted : OneFrameUncounted fs front gs (findingsOn VV5404 w .tally)
   pub verdict-is : verdictOn VV5404 w ≡ slipVerdict (fs ++ gs)
   -- and `frames` writes that last
-  pub verdict-told : EndsIn (endText (listAfter (freshLister Frames VV5404) w)) (verdictLine (slipVerdict (fs ++ gs)))
+  pub verdict-told : EndsIn (endText (listAfter (freshLister VV5404) w)) (verdictLine (slipVerdict (fs ++ gs)))

@@ -37,8 +37,7 @@ use Rattle.slip.specs.SlipTally.{lost-counted}
 use Rattle.verdict.specs.declared.Verdict.{Verdict}
 use Rattle.verdict.specs.Verdict.{isLost}
 use Rattle.report.specs.Report.{verdictLine}
-use Rattle.capture_lister.specs.declared.Mode.the-variants.{Frames}
-use Rattle.capture_lister.specs.Listed.{freshLister, listAfter, endText}
+use Rattle.list_frames.specs.FrameLister.{freshLister, listAfter, endText}
 use Rattle.verdict_laws.specs.CaptureVerdict.{captureVerdict, captureRulings, frameComplete, frameBroken, fewBefore, lineOutside, markRefused}
 use Rattle.verdict_laws.specs.CaptureVerdictLaws.{counts-rulings, verdicts}
 use Rattle.verdict_laws.specs.CleanCapture.{findingsOn, verdictOn}
@@ -160,15 +159,15 @@ slip-found fs front s back gs whole h i k n =
     record {
       one-uncounted = lost-counted l (findingsOn p w .tally) (c .complete) (c .broken);
       verdict-is = v;
-      verdict-told = subst (λ (u : Verdict). EndsIn (endText (listAfter (freshLister Frames p) w)) (verdictLine u)) v (verdict-told p small);
+      verdict-told = subst (λ (u : Verdict). EndsIn (endText (listAfter (freshLister p) w)) (verdictLine u)) v (verdict-told p small);
     }
 
 -- and where another frame is whole, the last line that `frames` writes is CHECK THE CLIP
 pub slip-checks-the-clip : (fs : List (List Sent)) (front : List Sent) (s : Sent) (back : List Sent) (gs : List (List Sent))
     → AllFrames VV5404 (fs ++ ((front ++ (s ∷ back)) ∷ gs)) → AllWritable VV5404 (allLines (fs ++ ((front ++ (s ∷ back)) ∷ gs)))
     → (i k : ℕ) → Inside s i k → (f : List Sent) (others : List (List Sent)) → fs ++ gs ≡ f ∷ others
-    → EndsIn (endText (listAfter (freshLister Frames VV5404) (slipped (allLines fs ++ front) s (back ++ allLines gs) i k))) (ascii "CHECK THE CLIP\n")
+    → EndsIn (endText (listAfter (freshLister VV5404) (slipped (allLines fs ++ front) s (back ++ allLines gs) i k))) (ascii "CHECK THE CLIP\n")
 slip-checks-the-clip fs front s back gs whole h i k n f others e =
     let w : List ℕ = slipped (allLines fs ++ front) s (back ++ allLines gs) i k in
-    subst (λ (hs : List (List Sent)). EndsIn (endText (listAfter (freshLister Frames VV5404) w)) (verdictLine (slipVerdict hs))) e
+    subst (λ (hs : List (List Sent)). EndsIn (endText (listAfter (freshLister VV5404) w)) (verdictLine (slipVerdict hs))) e
     (slip-found fs front s back gs whole h i k n .verdict-told)

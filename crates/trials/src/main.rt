@@ -1,10 +1,9 @@
 // Captures that are made and judged: those that misled before, and their like. Each is written as lines by our own writer, both sensors',
 // with one kind of damage; what `frames` says of it is in stdout, below its title.
-use capture_lister::Lister;
-use capture_lister::Mode;
 use lent_buffer::Filled;
 use libc::STDOUT_FILENO;
 use line_code::Kind;
+use list_frames::FrameLister;
 use profile::Profile;
 
 // The bytes of the largest capture: ten frames of a VV5300.
@@ -146,7 +145,7 @@ fn judge(title: &[u8], profile: Profile, bytes: &[u8], nibbles: usize) {
         return;
     }
     let mut out = io::large_buffer();
-    let lister = Lister::new(Mode::Frames, profile);
+    let lister = FrameLister::new(profile);
     let listed = lister.list(&bytes[..length], 0, &mut out);
     say_front(&out, listed.used);
     let lister = listed.lister;

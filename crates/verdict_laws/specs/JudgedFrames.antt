@@ -3,15 +3,15 @@
 use mathlib.Core.Path.{_≡_, refl, _∙_, ap, sym, subst}
 use mathlib.Core.Bool.{Bool, true, false, true≢false, _&&_, _||_, cond, or-true, or-assoc, and-false}
 use mathlib.Core.List.{List, [], _∷_, _++_, append-nil}
-use Prim.Native.Nat.{ℕ, zero, suc, _+_, _≤_, _<_}
+use Prim.Native.Nat.{ℕ, zero, suc, _+_, _≤_}
 use native.Mathlib.Omega.{arith}
 use lib.Dec.{eqb, leb}
-use lib.ListN.{length}
+use lib.ListN.{length, drop, getD}
 use borrow.Author.Tests.{eqb-true, le-leb}
 use Rattle.bits.specs.Every.{and-left, and-right}
-use Rattle.bits.specs.Agree.{agree}
 use Rattle.counts.specs.CountsLaws.{some}
-use Rattle.line_code.specs.declared.Kind.the-variants.{SOF}
+use Rattle.line_code.specs.declared.Kind.{Kind}
+use Rattle.line_code.specs.declared.Kind.the-variants.{BL, SOF}
 use Rattle.line_code.specs.LineCode.{kindNumber}
 use Rattle.profile.specs.declared.Profile.{Profile}
 use Rattle.profile.specs.declared.Profile.the-variants.{VV5404, VV5300}
@@ -22,7 +22,7 @@ use Rattle.frame.specs.declared.Judge.the-variants.{Waiting}
 use Rattle.frame.specs.declared.Ruling.{Ruling}
 use Rattle.frame.specs.declared.Ruling.the-variants as ruling
 use Rattle.frame.specs.declared.Judged.{Judged}
-use Rattle.frame_layout.specs.FrameLayout.{lastPlace, kindAt, standsAt}
+use Rattle.frame_layout.specs.FrameLayout.{bordersOn, bordersOff, lastPlace, kindsOf, kindAt, standsAt}
 use Rattle.frame.specs.Calls.{Line, called, after, rulings, isComplete, isBreak, fits, laidFrom, IsFrame}
 use Rattle.frame_laws.specs.FrameLaws.{after-append, rulings-append, toComplete, frame-complete, first-is, Effect, wrongKind, wrongNumber, waits, breaks, strays, starts, restarts, goes, ends, effect, reached-passes, after-snoc}
 use Rattle.verdict_laws.specs.CaptureVerdict.{isOpening, beforeFirst, fromFirst, isWhole, wholeLines, isWaiting, someOutside}
@@ -125,30 +125,38 @@ inside p past (l ∷ ls) h =
 abbrev pub Tail : Profile → List Line → Type 0
 Tail p ls = (b : Borders) × (k : ℕ) × (laidFrom p b (suc k) ls ≡ true) × (k + length ls ≡ lastPlace p)
 
-sof-first : (p : Profile) (b : Borders) (k : ℕ) → k < lastPlace p → standsAt p b (suc k) (kindNumber SOF) ≡ false
-unfolding kindAt
-sof-first VV5404 Unsettled = agree (λ (k : ℕ). standsAt VV5404 Unsettled (suc k) (kindNumber SOF)) (λ (k : ℕ). false) (lastPlace VV5404) refl
-sof-first VV5404 On = agree (λ (k : ℕ). standsAt VV5404 On (suc k) (kindNumber SOF)) (λ (k : ℕ). false) (lastPlace VV5404) refl
-sof-first VV5404 Off = agree (λ (k : ℕ). standsAt VV5404 Off (suc k) (kindNumber SOF)) (λ (k : ℕ). false) (lastPlace VV5404) refl
-sof-first VV5300 Unsettled = agree (λ (k : ℕ). standsAt VV5300 Unsettled (suc k) (kindNumber SOF)) (λ (k : ℕ). false) (lastPlace VV5300) refl
-sof-first VV5300 On = agree (λ (k : ℕ). standsAt VV5300 On (suc k) (kindNumber SOF)) (λ (k : ℕ). false) (lastPlace VV5300) refl
-sof-first VV5300 Off = agree (λ (k : ℕ). standsAt VV5300 Off (suc k) (kindNumber SOF)) (λ (k : ℕ). false) (lastPlace VV5300) refl
+-- only the first line of a frame is its start
+abbrev isFrameStart : Kind → Bool
+isFrameStart k = eqb (kindNumber SOF) (kindNumber k)
 
-opens-none : (p : Profile) (b : Borders) (k : ℕ) (l : Line) → k < lastPlace p → fits p b (suc k) l ≡ true → isOpening l ≡ false
-opens-none p b k l h f = go (eqb (l .kind) (kindNumber SOF)) refl
+none-start-a-frame : (ks : List Kind) → some isFrameStart ks ≡ false → (k : ℕ) → isFrameStart (getD ks k BL) ≡ false
+none-start-a-frame [] h k = refl
+none-start-a-frame (x ∷ ks) h zero = or-left (isFrameStart x) _ h
+none-start-a-frame (x ∷ ks) h (suc k) = none-start-a-frame ks (or-right (isFrameStart x) _ h) k
+
+sof-first : (p : Profile) (b : Borders) (k : ℕ) → standsAt p b (suc k) (kindNumber SOF) ≡ false
+unfolding kindAt
+sof-first VV5404 Unsettled k = none-start-a-frame (drop 1 (kindsOf (bordersOn VV5404))) refl k
+sof-first VV5404 On k = none-start-a-frame (drop 1 (kindsOf (bordersOn VV5404))) refl k
+sof-first VV5404 Off k = none-start-a-frame (drop 1 (kindsOf (bordersOff VV5404))) refl k
+sof-first VV5300 Unsettled k = none-start-a-frame (drop 1 (kindsOf (bordersOn VV5300))) refl k
+sof-first VV5300 On k = none-start-a-frame (drop 1 (kindsOf (bordersOn VV5300))) refl k
+sof-first VV5300 Off k = none-start-a-frame (drop 1 (kindsOf (bordersOff VV5300))) refl k
+
+opens-none : (p : Profile) (b : Borders) (k : ℕ) (l : Line) → fits p b (suc k) l ≡ true → isOpening l ≡ false
+opens-none p b k l f = go (eqb (l .kind) (kindNumber SOF)) refl
   where
     go : (c : Bool) → eqb (l .kind) (kindNumber SOF) ≡ c → (c && eqb (l .number) 0) ≡ false
     go true e =
         let is : l .kind ≡ kindNumber SOF = eqb-true (l .kind) (kindNumber SOF) e in
         let s : standsAt p b (suc k) (kindNumber SOF) ≡ true = subst (λ (n : ℕ). standsAt p b (suc k) n ≡ true) is (and-left (standsAt p b (suc k) (l .kind)) _ f) in
-        absurd (true≢false (sym s ∙ sof-first p b k h))
+        absurd (true≢false (sym s ∙ sof-first p b k))
     go false e = refl
 
-tail-opens-none : (p : Profile) (b : Borders) (k : ℕ) (ls : List Line) → laidFrom p b (suc k) ls ≡ true → k + length ls ≡ lastPlace p → some isOpening ls ≡ false
-tail-opens-none p b k [] h e = refl
-tail-opens-none p b k (l ∷ ls) h e =
-    or-neither (isOpening l) _ (opens-none p b k l (omega (arith, e)) (and-left (fits p b (suc k) l) _ h))
-    (tail-opens-none p b (suc k) ls (and-right (fits p b (suc k) l) _ h) (omega (arith, e)))
+tail-opens-none : (p : Profile) (b : Borders) (k : ℕ) (ls : List Line) → laidFrom p b (suc k) ls ≡ true → some isOpening ls ≡ false
+tail-opens-none p b k [] h = refl
+tail-opens-none p b k (l ∷ ls) h =
+    or-neither (isOpening l) _ (opens-none p b k l (and-left (fits p b (suc k) l) _ h)) (tail-opens-none p b (suc k) ls (and-right (fits p b (suc k) l) _ h))
 
 pub tail-waits : (p : Profile) (ls : List Line) → some isOpening ls ≡ false → (after p Waiting ls ≡ Waiting) × (some isBreak (rulings p Waiting ls) ≡ false)
 tail-waits p [] h = (refl, refl)
@@ -198,7 +206,7 @@ pub in-place : (p : Profile) (b : Borders) (t es f ms : List Line) → Tail p t 
     → InPlace p (t ++ (es ++ (f ++ ms)))
 in-place p b t es f ms (c, k, laid, long) e isf m begins =
     let gs : List Line = es ++ (f ++ ms) in
-    let o : some isOpening t ≡ false = tail-opens-none p c k t laid long in
+    let o : some isOpening t ≡ false = tail-opens-none p c k t laid in
     let w = tail-waits p t o in
     let bt = before-tail t gs o in
     let ff : Framed p f = frame-framed p b f isf in

@@ -6,7 +6,7 @@ use mathlib.Core.List.{List, [], _++_, append-assoc, map}
 use Prim.Native.Nat.{ℕ, _<_, min}
 use native.Mathlib.Omega.{arith}
 use lib.Dec.{ltb, lit≤}
-use lib.ListN.{length}
+use lib.ListN.{length, getD}
 use borrow.Author.Tests.{lt-ltb, le-ltb, ltb-true, ltb-false}
 use Rattle.text.specs.Text.{ascii}
 use Rattle.profile.specs.declared.Profile.{Profile}
@@ -18,7 +18,7 @@ use Rattle.stream.specs.declared.Mark.{Mark}
 use Rattle.stream.specs.declared.Mark.the-variants.{NoMark, Open}
 use Rattle.stream.specs.Answers.{Outcome, answerFor}
 use Rattle.stream.specs.Stream.{State, fresh, finish, run, step, outcomes}
-use Rattle.stream.specs.Written.{Sent, mostText, AllWritable}
+use Rattle.stream.specs.Written.{Sent, nibbles, mostText, AllWritable}
 use Rattle.reader.specs.declared.Reader.{Reader}
 use Rattle.reader_head.specs.Head.{countStop}
 use Rattle.reader.specs.Reader.{freshReader, feedOf}
@@ -31,16 +31,19 @@ use Rattle.verdict.specs.declared.Findings.{Findings}
 use Rattle.verdict.specs.declared.Verdict.{Verdict}
 use Rattle.verdict.specs.Findings.{noFindings, takeOf, closeOf}
 use Rattle.verdict.specs.Verdict.{isLost, inOrder, verdictOf}
-use Rattle.report.specs.Report.{framesLines, refusedLines, repairedLines, periodLines, lostLine, hintLine, adviceLine, verdictLine, reportOf}
-use Rattle.capture_lister.specs.declared.Mode.{Mode}
-use Rattle.capture_lister.specs.declared.Mode.the-variants.{Frames}
-use Rattle.capture_lister.specs.declared.Lister.{Lister}
-use Rattle.capture_lister.specs.Listed.{freshLister, textOf, belowOf, answerTo, afterNibble, listAfter, lastAnswer, lastFound, lostAt, endText}
+use Rattle.signal_report.specs.SignalReport.{signalLines}
+use Rattle.report.specs.Report.{framesLines, lostLine, hintLine, adviceLine, verdictLine, reportOf}
+use Rattle.capture_bytes.specs.UnpackedLaws.{nibbles-small as bytes-small}
+use Rattle.listers.specs.Lists.{endToEnd, PieceCalls}
+use Rattle.list_news.specs.NewsLines.{newsLine}
+use Rattle.list_frames.specs.declared.FrameLister.{FrameLister}
+use Rattle.list_frames.specs.FrameLister.{freshLister, afterNibble, listAfter, listedOf, lastAnswer, lastFound, lostAt, listerVerdict, endText}
+use Rattle.list_frames.specs.FrameListerLaws.{frames-listed}
 use Rattle.frame_laws.specs.SentFrames.{allLines, AllFrames}
 use Rattle.verdict_laws.specs.CaptureVerdict.{found}
 use Rattle.verdict_laws.specs.CleanCapture.{HoldsFrame, verdictOn}
 use Rattle.verdict_laws.specs.CleanCaptureLaws.{clean-good}
-use Rattle.verdict_laws.specs.ListedVerdict.{EndsIn, listerVerdict}
+use Rattle.verdict_laws.specs.ListedVerdict.{EndsIn}
 
 ends-on : (front : List ℕ) {text last : List ℕ} → EndsIn text last → EndsIn (front ++ text) last
 ends-on front {text} {last} (above, e) = (front ++ above, ap (λ (t : List ℕ). front ++ t) e ∙ sym (append-assoc front above last))
@@ -48,20 +51,18 @@ ends-on front {text} {last} (above, e) = (front ++ above, ap (λ (t : List ℕ).
 -- The lister.
 
 -- what a lister holds after nibbles, from a reader that stands for the state s on
-record Holds (p : Profile) (m : Mode) (f : Findings) (s : State) (w : List ℕ) (l : Lister) : Type 0 where
-  mode-same : l .mode ≡ m
+record Holds (p : Profile) (f : Findings) (s : State) (w : List ℕ) (l : FrameLister) : Type 0 where
   findings-same : l .findings ≡ found f (map answerFor (outcomes p s w))
   follows : Follows p (l .reader) (run p s w)
 
-holds : (p : Profile) (m : Mode) {w : List ℕ} → Small w → (f : Findings) (r : Reader) (s : State) → Follows p r s
-    → Holds p m f s w (listAfter (record { mode = m; reader = r; findings = f }) w)
-unfolding afterNibble answerTo
-holds p m small-none f r s h = record { mode-same = refl; findings-same = refl; follows = h }
-holds p m (small-more {n} {t} l q) f r s h =
+holds : (p : Profile) {w : List ℕ} → Small w → (f : Findings) (r : Reader) (s : State) → Follows p r s
+    → Holds p f s w (listAfter (record { reader = r; findings = f }) w)
+unfolding afterNibble
+holds p small-none f r s h = record { findings-same = refl; follows = h }
+holds p (small-more {n} {t} l q) f r s h =
     let x = feed-steps p r s n longest l (body-small p) h in
-    let rest = holds p m q (takeOf f (answerFor (feedOf r n longest .outcome)) .findings) (feedOf r n longest .reader) (step p s n .state) (x .follows) in
+    let rest = holds p q (takeOf f (answerFor (feedOf r n longest .outcome)) .findings) (feedOf r n longest .reader) (step p s n .state) (x .follows) in
     record {
-      mode-same = rest .mode-same;
       findings-same = rest .findings-same ∙ ap (λ (o : Outcome). found (takeOf f (answerFor o) .findings) (map answerFor (outcomes p (step p s n .state) t))) (x .outcome-same);
       follows = rest .follows;
     }
@@ -88,10 +89,10 @@ by-parts : (f g : Findings) (a b : Answer) (x y : Bool) → f ≡ g → a ≡ b 
 by-parts f g a b x y e d c = ap₂ (λ (h : Findings) (i : Answer). verdictOf (closeOf h i .findings) x) e d ∙ ap (verdictOf (closeOf g b .findings)) c
 
 -- the verdict that a lister would give at the end is the one on the nibbles it listed
-pub lister-verdict : (p : Profile) (m : Mode) {w : List ℕ} → Small w → listerVerdict (listAfter (freshLister m p) w) ≡ verdictOn p w
-lister-verdict p m {w} q =
-    let l : Lister = listAfter (freshLister m p) w in
-    let h = holds p m q (noFindings p) (freshReader p) fresh (fresh-follows p) in
+pub lister-verdict : (p : Profile) {w : List ℕ} → Small w → listerVerdict (listAfter (freshLister p) w) ≡ verdictOn p w
+lister-verdict p {w} q =
+    let l : FrameLister = listAfter (freshLister p) w in
+    let h = holds p q (noFindings p) (freshReader p) fresh (fresh-follows p) in
     let x : State = run p fresh w in
     let s = h .follows .same .head-same in
     by-parts (l .findings) (found (noFindings p) (map answerFor (outcomes p fresh w))) (lastAnswer l) (answerFor (finish p x .outcome)) (lostAt l) (isLost p (x .at) (length (x .text)))
@@ -104,25 +105,25 @@ report-ends : (f : Findings) (lost : Bool) (v : Verdict) → EndsIn (reportOf f 
 unfolding reportOf
 report-ends f lost v =
     ends-on (framesLines f)
-    (ends-on (refusedLines (f .signal .refused))
-    (ends-on (repairedLines (f .signal .repaired))
-    (ends-on (periodLines (f .signal .spacing))
+    (ends-on (signalLines (f .signal))
     (ends-on (lostLine lost)
-    (ends-on (hintLine (f .tally .profile) (inOrder f lost) (f .signal .lines) (f .signal .first)) (adviceLine v (inOrder f lost), refl))))))
+    (ends-on (hintLine (f .tally .profile) (inOrder f lost) (f .signal .lines) (f .signal .first)) (adviceLine v (inOrder f lost), refl))))
 
-end-ends : (l : Lister) → l .mode ≡ Frames → EndsIn (endText l) (verdictLine (listerVerdict l))
-unfolding belowOf
-end-ends l e =
-    ends-on (textOf (l .mode) (lastFound l) (lastAnswer l))
-    (subst (λ (m : Mode). EndsIn (belowOf m (lastFound l .findings) (lostAt l)) (verdictLine (listerVerdict l))) (sym e)
-    (report-ends (lastFound l .findings) (lostAt l) (listerVerdict l)))
+end-ends : (l : FrameLister) → EndsIn (endText l) (verdictLine (listerVerdict l))
+end-ends l = ends-on (newsLine (lastFound l .news)) (report-ends (lastFound l .findings) (lostAt l) (listerVerdict l))
 
 -- the law: whatever the nibbles, the text of `frames` ends in the line of the verdict on them
-pub verdict-told : (p : Profile) {w : List ℕ} → Small w → EndsIn (endText (listAfter (freshLister Frames p) w)) (verdictLine (verdictOn p w))
+pub verdict-told : (p : Profile) {w : List ℕ} → Small w → EndsIn (endText (listAfter (freshLister p) w)) (verdictLine (verdictOn p w))
 verdict-told p {w} q =
-    let l : Lister = listAfter (freshLister Frames p) w in
-    subst (λ (v : Verdict). EndsIn (endText l) (verdictLine v)) (lister-verdict p Frames q)
-    (end-ends l (holds p Frames q (noFindings p) (freshReader p) fresh (fresh-follows p) .mode-same))
+    let l : FrameLister = listAfter (freshLister p) w in
+    subst (λ (v : Verdict). EndsIn (endText l) (verdictLine v)) (lister-verdict p q) (end-ends l)
+
+-- in whatever pieces they came, and whatever the buffers
+pub pieces-told : (p : Profile) (pieces : List (List ℕ)) → ((i : ℕ) → getD (endToEnd pieces) i 0 < 256) → {m : FrameLister} {text : List ℕ}
+    → PieceCalls listedOf (freshLister p) pieces 0 m text → EndsIn (endText m) (verdictLine (verdictOn p (nibbles (endToEnd pieces))))
+pieces-told p pieces bytes {m} c =
+    let w : List ℕ = nibbles (endToEnd pieces) in
+    subst (λ (l : FrameLister). EndsIn (endText l) (verdictLine (verdictOn p w))) (sym (frames-listed c .0)) (verdict-told p (bytes-small (endToEnd pieces) bytes))
 
 -- a clean stream's nibbles are nibbles
 pub nibbles-small : {w : List ℕ} → AllNibbles w → Small w
@@ -131,8 +132,8 @@ nibbles-small (and-nibble {n} l h) = small-more {n = n} (omega arith) (nibbles-s
 
 -- and of a clean capture that holds a whole frame, in GOOD
 pub good-told : (p : Profile) {fs : List (List Sent)} → AllFrames p fs → AllWritable p (allLines fs) → (i n : ℕ) → HoldsFrame fs i n
-    → EndsIn (endText (listAfter (freshLister Frames p) (cutOut (allLines fs) i n))) (ascii "GOOD\n")
+    → EndsIn (endText (listAfter (freshLister p) (cutOut (allLines fs) i n))) (ascii "GOOD\n")
 good-told p {fs} h g i n c =
     let w : List ℕ = cutOut (allLines fs) i n in
     let small : Small w = small-take (small-drop (nibbles-small (all-changed p g 0 0 no-nibble)) i) n in
-    subst (λ (v : Verdict). EndsIn (endText (listAfter (freshLister Frames p) w)) (verdictLine v)) (clean-good p h g i n c) (verdict-told p small)
+    subst (λ (v : Verdict). EndsIn (endText (listAfter (freshLister p) w)) (verdictLine v)) (clean-good p h g i n c) (verdict-told p small)

@@ -20,14 +20,12 @@ returns-2 c =
     let end = c .before .before in
     let hint = end .before .before .before .before in
     let lost = hint .before .before .before .before .before .before in
-    let periods = lost .before .before .before .before in
-    let repaired = periods .before .before .before .before .before in
-    let refused = repaired .before .before .before .before in
-    let frames = refused .before .before .before .before .before in
+    let signal = lost .before .before .before .before in
+    let frames = signal .before .before .before .before .before in
     let room = frames .before .before .if1 .left in
     let args = frames .before .before .before .before .args in
     simp (le-ltb _ _ room)
-    (puts-front (then (frames .put-frames .ensures) (then (refused .put-refused .ensures) (then (repaired .put-repaired .ensures) (then (periods .put-periods .ensures) (then (lost .put-lost .ensures) (simp (← hint .before .before .in-order .ensures) (then (hint .put-hint .ensures) (end .put-verdict .ensures))))))))
+    (puts-front (then (frames .put-frames .ensures) (then (signal .put-signal .ensures) (then (lost .put-lost .ensures) (simp (← hint .before .before .in-order .ensures) (then (hint .put-hint .ensures) (end .put-verdict .ensures))))))
     (le-trans (report-short (args .findings) (args .lost) (args .verdict)) room))
 
 pub put-report-spec : {M : Type 1} → statement M
@@ -35,8 +33,6 @@ put-report-spec =
     tie.close
     (tie.spec
     returns
-    (λ c κs. search needs)
-    (λ c κs. search needs)
     (λ c κs. search needs)
     (λ c κs. search needs)
     (λ c κs. search needs)

@@ -1,0 +1,2 @@
+pub mod FrameLister
+pub mod FrameListerLaws

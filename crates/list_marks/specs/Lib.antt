@@ -1,0 +1,2 @@
+pub mod MarkLister
+pub mod MarkListerLaws

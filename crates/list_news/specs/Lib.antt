@@ -1,0 +1,2 @@
+pub mod NewsLines
+pub mod NewsLinesLaws

@@ -1,4 +1,0 @@
-pub mod Rows
-pub mod RowLaws
-pub mod Frames
-pub mod FramesLaws

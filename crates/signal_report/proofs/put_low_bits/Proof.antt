@@ -1,0 +1,41 @@
+-- A line for each, one after another.
+use Rattle.signal_report.specs.SignalReport.{lowBits}
+use Rattle.text.specs.PutLaws.{then}
+use borrow.Author.Needs.{needs}
+use Rattle.signal_report.proofs.put_low_bits.Statement.{statement}
+use Rattle.signal_report.proofs.put_low_bits.Tie as tie
+
+returns : tie.Need-returns
+unfolding lowBits
+returns c =
+    let three = c .before .before in
+    let two = three .before .before .before .before .before .before in
+    let one = two .before .before .before .before .before .before in
+    let zero = one .before .before .before .before .before .before in
+    then (zero .put-count .ensures)
+    (then (one .put-count2 .ensures)
+    (then (two .put-count3 .ensures)
+    (three .put-count4 .ensures)))
+
+pub put-low-bits-spec : {M : Type 1} → statement M
+put-low-bits-spec =
+    tie.close
+    (tie.spec
+    (λ c. search needs)
+    (λ c. search needs)
+    (λ c. search needs)
+    (λ c κs. search needs)
+    (λ c. search needs)
+    (λ c. search needs)
+    (λ c. search needs)
+    (λ c κs. search needs)
+    (λ c. search needs)
+    (λ c. search needs)
+    (λ c. search needs)
+    (λ c κs. search needs)
+    (λ c. search needs)
+    (λ c. search needs)
+    (λ c. search needs)
+    (λ c κs. search needs)
+    (λ c. search needs)
+    returns)

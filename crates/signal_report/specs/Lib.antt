@@ -1,0 +1,2 @@
+pub mod SignalReport
+pub mod SignalReportLaws

@@ -1,0 +1,75 @@
+-- What is told of a capture's signal: refused marks, repairs and periods. A count that is 0 has no line.
+use mathlib.Core.Bool.{cond}
+use mathlib.Core.List.{List, [], _++_}
+use Prim.Native.Nat.{ℕ}
+use lib.Dec.{eqb}
+use lib.ListN.{getD}
+use Rattle.text.specs.Text.{ascii, decimal}
+use Rattle.signal.specs.declared.Signal.{Signal}
+use Rattle.signal.specs.declared.Spacing.{Spacing}
+
+-- a line with a count: the words before it, the count, the words after it
+unfoldable pub countLine : List ℕ → ℕ → List ℕ → List ℕ
+countLine before n after = cond (eqb n 0) [] (before ++ (decimal n ++ after))
+
+-- refused marks, by number: by their codes, lines, and ends of lines
+unfoldable pub refusedCodes : List ℕ → List ℕ
+refusedCodes counts =
+    countLine (ascii "refused: 1 x ") (getD counts 1 0) (ascii ", damaged code\n")
+    ++ countLine (ascii "refused: 2 x ") (getD counts 2 0) (ascii ", reserved code\n")
+
+unfoldable pub brokenLines : List ℕ → List ℕ
+brokenLines counts =
+    countLine (ascii "refused: 3 x ") (getD counts 3 0) (ascii ", unfinished line\n")
+    ++ (countLine (ascii "refused: 4 x ") (getD counts 4 0) (ascii ", wrong length\n")
+    ++ (countLine (ascii "refused: 5 x ") (getD counts 5 0) (ascii ", bad number\n")
+    ++ (countLine (ascii "refused: 6 x ") (getD counts 6 0) (ascii ", bad byte in the body\n")
+    ++ countLine (ascii "refused: 7 x ") (getD counts 7 0) (ascii ", no end of line\n"))))
+
+unfoldable pub refusedEnds : List ℕ → List ℕ
+refusedEnds counts =
+    countLine (ascii "refused: 8 x ") (getD counts 8 0) (ascii ", end of line without a line\n")
+    ++ countLine (ascii "refused: 9 x ") (getD counts 9 0) (ascii ", bad gap\n")
+
+unfoldable pub refusedLines : List ℕ → List ℕ
+refusedLines counts = refusedCodes counts ++ (brokenLines counts ++ refusedEnds counts)
+
+-- repaired codes, by bit
+unfoldable pub lowBits : List ℕ → List ℕ
+lowBits counts =
+    countLine (ascii "repaired: bit 0 x ") (getD counts 0 0) (ascii "\n")
+    ++ (countLine (ascii "repaired: bit 1 x ") (getD counts 1 0) (ascii "\n")
+    ++ (countLine (ascii "repaired: bit 2 x ") (getD counts 2 0) (ascii "\n")
+    ++ countLine (ascii "repaired: bit 3 x ") (getD counts 3 0) (ascii "\n")))
+
+unfoldable pub highBits : List ℕ → List ℕ
+highBits counts =
+    countLine (ascii "repaired: bit 4 x ") (getD counts 4 0) (ascii "\n")
+    ++ (countLine (ascii "repaired: bit 5 x ") (getD counts 5 0) (ascii "\n")
+    ++ (countLine (ascii "repaired: bit 6 x ") (getD counts 6 0) (ascii "\n")
+    ++ countLine (ascii "repaired: bit 7 x ") (getD counts 7 0) (ascii "\n")))
+
+unfoldable pub repairedLines : List ℕ → List ℕ
+repairedLines counts = lowBits counts ++ highBits counts
+
+-- the periods of the lines: those with a name, and the others from the least to the greatest
+abbrev pub rangeWords : Spacing → List ℕ
+rangeWords s = decimal (s .least) ++ (ascii " to " ++ (decimal (s .greatest) ++ ascii " nibbles\n"))
+
+abbrev pub othersLine : Spacing → List ℕ
+othersLine s = cond (eqb (s .others) 0) [] (ascii "other periods: " ++ (decimal (s .others) ++ (ascii ", " ++ rangeWords s)))
+
+abbrev pub linesNoun : ℕ → List ℕ
+linesNoun n = cond (eqb n 1) (ascii " line") (ascii " lines")
+
+unfoldable pub periodLine : ℕ → List ℕ → List ℕ
+periodLine n rate = countLine (ascii "period: ") n (linesNoun n ++ rate)
+
+unfoldable pub periodLines : Spacing → List ℕ
+periodLines s =
+    periodLine (s .thirty) (ascii " at 30 frames a second\n")
+    ++ (periodLine (s .twentyfive) (ascii " at 25 frames a second\n") ++ othersLine s)
+
+-- all of it
+unfoldable pub signalLines : Signal → List ℕ
+signalLines s = refusedLines (s .refused) ++ (repairedLines (s .repaired) ++ periodLines (s .spacing))
