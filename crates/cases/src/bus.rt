@@ -15,8 +15,8 @@ use period::Rate;
 use period::WholePeriods;
 use profile::Profile;
 use reader::Fed;
-use reader_head::Head;
 use reader::Reader;
+use reader_head::Head;
 use stream::Answer;
 use stream::Mark;
 

@@ -20,9 +20,9 @@ ghost use Rattle.run.specs.Gives.{RunGives, LentRunGives};
 ghost use Rattle.run.specs.Parts.{ranFrom, Ends, Reaches, isNear, isPair, bytePlace, slideByte, strayAfter, strayKept, byteKept};
 use mark_text::Kept;
 use profile::Profile;
-use reader_head::Head;
 use reader::Reader;
 use reader::Stepped;
+use reader_head::Head;
 use stream::Answer;
 
 // A reader after a run of nibbles, the run's answer, and how many nibbles it took.
