@@ -11,7 +11,6 @@ use Rattle.stream.specs.declared.Answer.{Answer}
 use Rattle.stream.specs.Answers.{Outcome, answerFor}
 use Rattle.reader_head.specs.Head.{passes}
 use Rattle.reader.specs.Reader.{Took, freshReader, feedOf, finishOf}
-use Rattle.verdict.specs.declared.Findings.{Findings}
 use Rattle.verdict.specs.declared.Found.{Found}
 use Rattle.verdict.specs.declared.Verdict.{Verdict}
 use Rattle.verdict.specs.Findings.{noFindings, takeOf, closeOf}

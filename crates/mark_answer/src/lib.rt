@@ -5,7 +5,7 @@
 ghost use mathlib.Core.Path.{_≡_};
 ghost use mathlib.Core.List.{[]};
 ghost use mathlib.Core.Option.{none, some};
-ghost use Prim.Native.Nat.{ℕ, _+_, _*_, _/_, _%_, _<_, min};
+ghost use Prim.Native.Nat.{ℕ, _+_, min};
 ghost use Rattle.line_code.specs.LineCode.{readingOf};
 ghost use Rattle.line_code.specs.declared.Repair.{Repair};
 ghost use Rattle.period.specs.Period.{mostNibbles};

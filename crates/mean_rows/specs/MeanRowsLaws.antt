@@ -20,7 +20,7 @@ use Rattle.half_means.specs.declared.Halves.{Halves}
 use Rattle.half_means.specs.declared.Halves.the-variants.{Given, Refused}
 use Rattle.half_means.specs.HalfMeans.{halfLength, firstSum, secondSum, difference, halvesOf}
 use Rattle.half_means.specs.HalfMeansLaws.{given-exact}
-use Rattle.mean_rows.specs.MeanRows.{places, minusSign, signed, millionths, point, wholePart, fraction, meanText, startWords, meansWords, differencesWords, givenRow, gapRefusalWords, refusedRow, meansRow, meansRoom}
+use Rattle.mean_rows.specs.MeanRows.{places, minusSign, signed, millionths, wholePart, fraction, meanText, startWords, meansWords, differencesWords, givenRow, gapRefusalWords, refusedRow, meansRow, meansRoom}
 
 -- Lengths.
 

@@ -1,7 +1,7 @@
 -- Laws of the tally: it counts each mark, it judges a capture as 01 says, a whole frame is counted complete, and a frame is counted complete
 -- or broken exactly when one was told so.
 use mathlib.Core.Path.{_≡_, refl, sym, ap, _∙_}
-use mathlib.Core.Bool.{Bool, true, false, _||_, not, cond, or-true, or-false, or-assoc}
+use mathlib.Core.Bool.{Bool, true, false, _||_, cond, or-true, or-false, or-assoc}
 use mathlib.Core.List.{List, [], _∷_, _++_}
 use Prim.Native.Nat.{ℕ, _+_}
 use lib.Dec.{eqb, ltb}
