@@ -42,19 +42,19 @@ use Rattle.demands.specs.DemandThreeWrittenLaws.{demand-three-written}
 
 -- The writer writes these lines.
 
-wrote : (p : Profile) (s : Sent) → Writable p s → writeSent p s (roomFor p (s .nulls)) ≡ used (length (written s)) (written s)
-wrote p s g = writes p s (roomFor p (s .nulls)) .1 (g, omega arith)
+pub written-as : (p : Profile) (s : Sent) → Writable p s → writeSent p s (roomFor p (s .nulls)) ≡ used (length (written s)) (written s)
+written-as p s g = writes p s (roomFor p (s .nulls)) .1 (g, omega arith)
 
 four-wrote : (p : Profile) → WroteAll p (four p) (stream (four p))
 four-wrote p =
-    and-wrote _ _ (wrote p (sample p SOF 0) (sample-writable p SOF 0 (lit≤ tt)))
-    (and-wrote _ _ (wrote p (sample p BL 3) (sample-writable p BL 3 (lit≤ tt)))
-    (and-wrote _ _ (wrote p (sample p VL 10) (sample-writable p VL 10 (lit≤ tt)))
-    (and-wrote _ _ (wrote p (sample p EOF 302) (sample-writable p EOF 302 (lit≤ tt))) wrote-none)))
+    and-wrote _ _ (written-as p (sample p SOF 0) (sample-writable p SOF 0 (lit≤ tt)))
+    (and-wrote _ _ (written-as p (sample p BL 3) (sample-writable p BL 3 (lit≤ tt)))
+    (and-wrote _ _ (written-as p (sample p VL 10) (sample-writable p VL 10 (lit≤ tt)))
+    (and-wrote _ _ (written-as p (sample p EOF 302) (sample-writable p EOF 302 (lit≤ tt))) wrote-none)))
 
 -- Single calls of a reader of the profile p that passes its own test.
 
-record At (p : Profile) (r : Reader) : Type 0 where
+pub record At (p : Profile) (r : Reader) : Type 0 where
   ok : Ok (r .head)
   profile-is : r .head .profile ≡ p
 
@@ -132,11 +132,11 @@ module _ (p : Profile) (buffer : List ℕ) (enough : bodyLength p ≤ length buf
       go false = record { one-only = refl; leaves = refl }
 
   -- each nibble in a run that an input above 15 stops, and before it a run with no room and an empty one
-  abbrev runs : List ℕ → List RunCall
+  abbrev pub runs : List ℕ → List RunCall
   runs [] = one done ∷ []
   runs (n ∷ w) = run (n ∷ []) [] ∷ run [] buffer ∷ run (n ∷ 16 ∷ []) buffer ∷ runs w
 
-  runs-last : (w : List ℕ) → FinishLastRun (runs w)
+  pub runs-last : (w : List ℕ) → FinishLastRun (runs w)
   runs-last [] = done-last
   runs-last (n ∷ w) = run-first (run-first (run-first (runs-last w)))
 
@@ -144,7 +144,7 @@ module _ (p : Profile) (buffer : List ℕ) (enough : bodyLength p ≤ length buf
   abbrev ranTakes : List ℕ → List RunCall → Ran → List ℕ
   ranTakes w cs t = take (t .taken) w ++ runsTaken (t .reader) cs
 
-  runs-taken : {w : List ℕ} → AllNibbles w → (r : Reader) → At p r → runsTaken r (runs w) ≡ w
+  pub runs-taken : {w : List ℕ} → AllNibbles w → (r : Reader) → At p r → runsTaken r (runs w) ≡ w
   runs-taken no-nibble r a = refl
   runs-taken (and-nibble {n} {w} l h) r a =
       let cs = runs w in
@@ -163,11 +163,11 @@ changedFour p = changed (four p) (from p) (to p) new
 these-nibbles : (p : Profile) → AllNibbles (changedFour p)
 these-nibbles p = all-changed p (four-writable p) (from p) (to p) new-nibbles
 
-fresh-at : (p : Profile) → At p (freshReader p)
+pub fresh-at : (p : Profile) → At p (freshReader p)
 fresh-at p = record { ok = fresh-ok p; profile-is = refl }
 
 -- the buffer
-abbrev blank : Profile → List ℕ
+abbrev pub blank : Profile → List ℕ
 blank p = replicate (bodyLength p) 0
 
 -- over single calls, with a 10 and a 12 before each nibble
