@@ -1,15 +1,13 @@
 -- Demand 2 at work at the reader's own calls: three lines that the writer writes, bits of the second one's codes flipped, and runs that a 10 stops.
 -- No hypothesis of it is empty.
 use mathlib.Core.Path.{_≡_, refl, _∙_, ap}
-use mathlib.Core.Bool.{Bool, true, _&&_}
+use mathlib.Core.Bool.{Bool, true}
 use mathlib.Core.List.{List, [], _∷_, _++_}
 use Prim.Native.Nat.{ℕ}
 use native.Mathlib.Omega.{arith}
 use lib.Count.{ones}
-use lib.Dec.{leb, lit≤}
+use lib.Dec.{lit≤}
 use lib.ListN.{length, take, drop}
-use borrow.Author.Tests.{leb-true}
-use Rattle.bits.specs.Every.{and-left, and-right}
 use Rattle.refusal.specs.Refusal.{damagedCode, endWithoutLine}
 use Rattle.line_code.specs.declared.Kind.the-variants.{BL, VL, SOF}
 use Rattle.line_code.specs.declared.Repair.the-variants.{Clean, Bit}
@@ -19,33 +17,12 @@ use Rattle.profile.specs.declared.Profile.{Profile}
 use Rattle.profile.specs.declared.Profile.the-variants.{VV5404, VV5300}
 use Rattle.stream.specs.Answers.{refused}
 use Rattle.stream.specs.Written.{Sent, written}
-use Rattle.reader.specs.Reader.{freshReader}
 use Rattle.recovery.specs.CleanAnswers.{lineRead, gapRead}
-use Rattle.recovery.specs.WrittenLaws.{AllNibbles, no-nibble, and-nibble}
-use Rattle.recovery.specs.Examples.{sample, sample-writable, room}
+use Rattle.recovery.specs.Examples.{sample, sample-writable}
 use Rattle.flip_laws.specs.Flips.{Flips, no-bit, one-bit, two-bits, endCodePlace, Arrived, withFlips, unflipped, flipAnswers}
-use Rattle.refinement.specs.Runs.{RunCall}
-use Rattle.refinement.specs.RunAnswers.{runsFinish}
 use Rattle.demands.specs.DemandTwo.{answersTo, AllArrived, none-arrived, and-arrived}
 use Rattle.demands.specs.DemandTwoLaws.{demand-two}
-use Rattle.demands.specs.Examples.{written-as, runs, runs-last, runs-taken, fresh-at, blank}
-
--- Nibbles and calls.
-
-abbrev areNibbles : List ℕ → Bool
-areNibbles [] = true
-areNibbles (n ∷ w) = leb n 15 && areNibbles w
-
-are-nibbles : (w : List ℕ) → areNibbles w ≡ true → AllNibbles w
-are-nibbles [] h = no-nibble
-are-nibbles (n ∷ w) h = and-nibble (leb-true n 15 (and-left (leb n 15) (areNibbles w) h)) (are-nibbles w (and-right (leb n 15) (areNibbles w) h))
-
-abbrev callsOn : Profile → List ℕ → List RunCall
-callsOn p w = runs p (blank p) (room p) w
-
-calls-finish : (p : Profile) (w : List ℕ) → runsFinish (callsOn p w) ≡ true
-calls-finish p [] = refl
-calls-finish p (n ∷ w) = calls-finish p w
+use Rattle.demands.specs.Examples.{written-as, areNibbles, callsOn, calls-last, calls-taken, calls-finish}
 
 -- Three lines, the second with bits of its codes flipped.
 
@@ -77,8 +54,7 @@ module _ (p : Profile) (start end : Flips) where
   three-answers : areNibbles threeNibbles ≡ true → answersTo p (callsOn p threeNibbles) ≡ flipAnswers true three
   three-answers h =
       let w = threeNibbles in
-      demand-two p .lines-read three w three-arrived .alone (callsOn p w) (runs-last p (blank p) (room p) w)
-      (runs-taken p (blank p) (room p) (are-nibbles w h) (freshReader p) (fresh-at p))
+      demand-two p .lines-read three w three-arrived .alone (callsOn p w) (calls-last p w) (calls-taken p w h)
       ∙ ap (λ (b : Bool). flipAnswers b three) (calls-finish p w)
 
 -- Bit 5 of its start code and bit 0 of its end code.
