@@ -1,6 +1,7 @@
 -- Demand 2 as one claim: whatever lines the writer wrote, and whichever bits of their codes were flipped in what it wrote, every list of calls that
 -- takes the outcome is told each line for itself. Definitions only.
 use mathlib.Core.Path.{_≡_}
+use mathlib.Core.Bool.{Bool, cond}
 use mathlib.Core.List.{List, [], _∷_, _++_, map}
 use Prim.Native.Nat.{ℕ, _*_, _<_}
 use lib.ListN.{length, take}
@@ -63,26 +64,29 @@ pub record Accepted (profile kind number : ℕ) (body : List ℕ) (a b nulls n :
   pub count-is : n ≡ length w
   pub reads-back : (start end : Flips) → let line : Arrived = record { sent = sent k number body a b nulls; start = start; end = end } in ReadAs p (line ∷ []) (withFlips p line w)
 
--- Two flips in one code of one line s, and no other bit flipped: what the calls are answered, where another line follows.
+-- Two flips in one code of one line s, and no other bit flipped in any line.
+
+-- an end mark's answer, and those of the lines after it: where there are none, finish brings it
+abbrev pub endThen : Bool → Outcome → List Arrived → List Outcome
+endThen finished o [] = cond finished (o ∷ []) []
+endThen finished o (next ∷ later) = o ∷ flipAnswers finished (next ∷ later)
 
 -- in its start code: 1 for it, then 8 for its end code, no line, and every other line and gap as sent
 abbrev pub StartBeyondRepair : Profile → Type 0
 StartBeyondRepair p =
-    (before : List Sent) (s next : Sent) (later : List Sent) (i j : ℕ) (l : i < 8) (k : j < 8) (d : i ≡ j → ⊥) (v : List ℕ)
-    → AllArrived p (map unflipped before ++ (record { sent = s; start = two-bits i j l k d; end = no-bit } ∷ map unflipped (next ∷ later))) v
+    (before : List Sent) (s : Sent) (later : List Sent) (i j : ℕ) (l : i < 8) (k : j < 8) (d : i ≡ j → ⊥) (v : List ℕ)
+    → AllArrived p (map unflipped before ++ (record { sent = s; start = two-bits i j l k d; end = no-bit } ∷ map unflipped later)) v
     → (cs : List RunCall)
     → FinishLastRun cs
     → runsTaken (freshReader p) cs ≡ v
-    → answersTo p cs
-    ≡ closedAnswers (map unflipped before) ++ (refused damagedCode ∷ refused endWithoutLine ∷ flipAnswers (runsFinish cs) (map unflipped (next ∷ later)))
+    → answersTo p cs ≡ closedAnswers (map unflipped before) ++ (refused damagedCode ∷ endThen (runsFinish cs) (refused endWithoutLine) (map unflipped later))
 
--- in its end code: 7 for the line, then 1 for that code, and every other line and gap as sent
+-- in its end code: 7 for the line, then 1 for that code, no line, and every other line and gap as sent
 abbrev pub EndBeyondRepair : Profile → Type 0
 EndBeyondRepair p =
-    (before : List Sent) (s next : Sent) (later : List Sent) (i j : ℕ) (l : i < 8) (k : j < 8) (d : i ≡ j → ⊥) (v : List ℕ)
-    → AllArrived p (map unflipped before ++ (record { sent = s; start = no-bit; end = two-bits i j l k d } ∷ map unflipped (next ∷ later))) v
+    (before : List Sent) (s : Sent) (later : List Sent) (i j : ℕ) (l : i < 8) (k : j < 8) (d : i ≡ j → ⊥) (v : List ℕ)
+    → AllArrived p (map unflipped before ++ (record { sent = s; start = no-bit; end = two-bits i j l k d } ∷ map unflipped later)) v
     → (cs : List RunCall)
     → FinishLastRun cs
     → runsTaken (freshReader p) cs ≡ v
-    → answersTo p cs
-    ≡ closedAnswers (map unflipped before) ++ (refused noEndOfLine ∷ refused damagedCode ∷ flipAnswers (runsFinish cs) (map unflipped (next ∷ later)))
+    → answersTo p cs ≡ closedAnswers (map unflipped before) ++ (refused noEndOfLine ∷ endThen (runsFinish cs) (refused damagedCode) (map unflipped later))

@@ -1,24 +1,27 @@
 -- Demand 2: what the writer accepts may be written, bits flipped in it change its code bytes alone, the meaning answers each such line for itself,
 -- and the reader's calls answer as the meaning does.
 use mathlib.Core.Path.{_≡_, refl, _∙_, ap, ap₂, subst}
+use mathlib.Core.Bool.{Bool}
 use mathlib.Core.List.{List, [], _∷_, _++_, append-nil, map}
-use Prim.Native.Nat.{ℕ, _*_}
+use Prim.Native.Nat.{ℕ, _*_, _<_}
 use lib.ListN.{length, take}
+use Rattle.refusal.specs.Refusal.{damagedCode, noEndOfLine, endWithoutLine}
 use Rattle.line_code.specs.LineCodeLaws.{two-flips}
 use Rattle.profile.specs.declared.Profile.{Profile}
 use Rattle.lent_buffer.specs.Filled.{used}
+use Rattle.stream.specs.Answers.{Outcome, refused}
 use Rattle.stream.specs.Stream.{fresh}
-use Rattle.stream.specs.Written.{AllWritable, no-lines, and-line, markOf}
+use Rattle.stream.specs.Written.{Sent, AllWritable, no-lines, and-line, markOf}
 use Rattle.writer.specs.Writer.{sent, writeOf}
 use Rattle.writer.specs.WriterLaws.{LineAnswer, line, Answer, of-line, answer, sent-answer}
 use Rattle.recovery.specs.CleanAnswers.{said}
 use Rattle.recovery.specs.CallAnswers.{broughtBy}
-use Rattle.flip_laws.specs.Flips.{no-bit, two-bits, Arrived, withFlips, unflipped, allSent}
+use Rattle.flip_laws.specs.Flips.{no-bit, two-bits, Arrived, withFlips, unflipped, allSent, closedAnswers, flipAnswers}
 use Rattle.flip_laws.specs.FlippedCodesLaws.{flips-are-codes}
 use Rattle.flip_laws.specs.FlipsLaws.{arriving, flip-answers, flip-answers-first, answers-append}
 use Rattle.refinement.specs.RunAnswers.{runsFinish}
 use Rattle.refinement.specs.RunAnswersLaws.{runs-said}
-use Rattle.demands.specs.DemandTwo.{AllArrived, none-arrived, and-arrived, ReadAs, DemandTwo, Accepted, StartBeyondRepair, EndBeyondRepair}
+use Rattle.demands.specs.DemandTwo.{AllArrived, none-arrived, and-arrived, ReadAs, DemandTwo, Accepted, endThen, StartBeyondRepair, EndBeyondRepair}
 use Rattle.demands.specs.DemandThreeWrittenLaws.{wrote}
 
 -- what arrives are lines that may be written, with their code bytes changed
@@ -71,14 +74,29 @@ accepted profile kind number body a b nulls room n w e =
         counted (line g r) = refl
 
 -- two flips in one code
+
+start-then : (b : Bool) (s : Sent) (later : List Sent) (i j : ℕ) (l : i < 8) (k : j < 8) (d : i ≡ j → ⊥)
+    → flipAnswers b (record { sent = s; start = two-bits i j l k d; end = no-bit } ∷ map unflipped later)
+    ≡ refused damagedCode ∷ endThen b (refused endWithoutLine) (map unflipped later)
+start-then b s [] i j l k d = refl
+start-then b s (next ∷ later) i j l k d = refl
+
 pub start-beyond-repair : (p : Profile) → StartBeyondRepair p
-start-beyond-repair p before s next later i j l k d v h cs last taken =
+start-beyond-repair p before s later i j l k d v h cs last taken =
     let a : Arrived = record { sent = s; start = two-bits i j l k d; end = no-bit } in
-    read-as p (map unflipped before ++ (a ∷ map unflipped (next ∷ later))) v h .alone cs last taken
-    ∙ answers-append (runsFinish cs) (map unflipped before) a (map unflipped (next ∷ later))
+    read-as p (map unflipped before ++ (a ∷ map unflipped later)) v h .alone cs last taken
+    ∙ answers-append (runsFinish cs) (map unflipped before) a (map unflipped later)
+    ∙ ap (λ (os : List Outcome). closedAnswers (map unflipped before) ++ os) (start-then (runsFinish cs) s later i j l k d)
+
+end-then : (b : Bool) (s : Sent) (later : List Sent) (i j : ℕ) (l : i < 8) (k : j < 8) (d : i ≡ j → ⊥)
+    → flipAnswers b (record { sent = s; start = no-bit; end = two-bits i j l k d } ∷ map unflipped later)
+    ≡ refused noEndOfLine ∷ endThen b (refused damagedCode) (map unflipped later)
+end-then b s [] i j l k d = refl
+end-then b s (next ∷ later) i j l k d = refl
 
 pub end-beyond-repair : (p : Profile) → EndBeyondRepair p
-end-beyond-repair p before s next later i j l k d v h cs last taken =
+end-beyond-repair p before s later i j l k d v h cs last taken =
     let a : Arrived = record { sent = s; start = no-bit; end = two-bits i j l k d } in
-    read-as p (map unflipped before ++ (a ∷ map unflipped (next ∷ later))) v h .alone cs last taken
-    ∙ answers-append (runsFinish cs) (map unflipped before) a (map unflipped (next ∷ later))
+    read-as p (map unflipped before ++ (a ∷ map unflipped later)) v h .alone cs last taken
+    ∙ answers-append (runsFinish cs) (map unflipped before) a (map unflipped later)
+    ∙ ap (λ (os : List Outcome). closedAnswers (map unflipped before) ++ os) (end-then (runsFinish cs) s later i j l k d)
