@@ -21,7 +21,7 @@ use Rattle.reader.specs.Reader.{freshReader}
 use Rattle.writer.specs.Writer.{sent}
 use Rattle.writer.specs.WriterLaws.{writeSent}
 use Rattle.recovery.specs.CallAnswers.{markCollector}
-use Rattle.flip_laws.specs.Flips.{Flips, no-bit, two-bits, Arrived, withFlips, unflipped, closedAnswers, flipAnswers}
+use Rattle.flip_laws.specs.Flips.{Flips, no-bit, two-bits, Arrived, withFlips, arrivedWith, unflipped, closedAnswers, flipAnswers}
 use Rattle.refinement.specs.Runs.{RunCall, runsTaken, runsCollected, FinishLastRun}
 use Rattle.refinement.specs.RunAnswers.{runsFinish}
 
@@ -62,7 +62,7 @@ pub record Accepted (profile kind number : ℕ) (body : List ℕ) (a b nulls n :
   pub profile-is : profileNumbered profile ≡ numbered.Profile p
   pub kind-is : kindNumbered kind ≡ LineOf k
   pub count-is : n ≡ length w
-  pub reads-back : (start end : Flips) → let line : Arrived = record { sent = sent k number body a b nulls; start = start; end = end } in ReadAs p (line ∷ []) (withFlips p line w)
+  pub reads-back : (start end : Flips) → let line : Arrived = arrivedWith (sent k number body a b nulls) start end in ReadAs p (line ∷ []) (withFlips p line w)
 
 -- Two flips in one code of one line s, and no other bit flipped in any line.
 
@@ -75,7 +75,7 @@ endThen finished o (next ∷ later) = o ∷ flipAnswers finished (next ∷ later
 abbrev pub StartBeyondRepair : Profile → Type 0
 StartBeyondRepair p =
     (before : List Sent) (s : Sent) (later : List Sent) (i j : ℕ) (l : i < 8) (k : j < 8) (d : i ≡ j → ⊥) (v : List ℕ)
-    → AllArrived p (map unflipped before ++ (record { sent = s; start = two-bits i j l k d; end = no-bit } ∷ map unflipped later)) v
+    → AllArrived p (map unflipped before ++ (arrivedWith s (two-bits i j l k d) no-bit ∷ map unflipped later)) v
     → (cs : List RunCall)
     → FinishLastRun cs
     → runsTaken (freshReader p) cs ≡ v
@@ -85,7 +85,7 @@ StartBeyondRepair p =
 abbrev pub EndBeyondRepair : Profile → Type 0
 EndBeyondRepair p =
     (before : List Sent) (s : Sent) (later : List Sent) (i j : ℕ) (l : i < 8) (k : j < 8) (d : i ≡ j → ⊥) (v : List ℕ)
-    → AllArrived p (map unflipped before ++ (record { sent = s; start = no-bit; end = two-bits i j l k d } ∷ map unflipped later)) v
+    → AllArrived p (map unflipped before ++ (arrivedWith s no-bit (two-bits i j l k d) ∷ map unflipped later)) v
     → (cs : List RunCall)
     → FinishLastRun cs
     → runsTaken (freshReader p) cs ≡ v

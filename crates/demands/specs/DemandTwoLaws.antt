@@ -16,9 +16,9 @@ use Rattle.writer.specs.Writer.{sent, writeOf}
 use Rattle.writer.specs.WriterLaws.{LineAnswer, line, Answer, of-line, answer, sent-answer}
 use Rattle.recovery.specs.CleanAnswers.{said}
 use Rattle.recovery.specs.CallAnswers.{broughtBy}
-use Rattle.flip_laws.specs.Flips.{no-bit, two-bits, Arrived, withFlips, unflipped, allSent, closedAnswers, flipAnswers}
+use Rattle.flip_laws.specs.Flips.{no-bit, two-bits, Arrived, withFlips, arrivedWith, unflipped, closedAnswers, flipAnswers}
 use Rattle.flip_laws.specs.FlippedCodesLaws.{flips-are-codes}
-use Rattle.flip_laws.specs.FlipsLaws.{arriving, flip-answers, flip-answers-first, answers-append}
+use Rattle.flip_laws.specs.FlipsLaws.{allSent, arriving, flip-answers, flip-answers-first, answers-append}
 use Rattle.refinement.specs.RunAnswers.{runsFinish}
 use Rattle.refinement.specs.RunAnswersLaws.{runs-said}
 use Rattle.demands.specs.DemandTwo.{AllArrived, none-arrived, and-arrived, ReadAs, DemandTwo, Accepted, endThen, StartBeyondRepair, EndBeyondRepair}
@@ -65,7 +65,7 @@ accepted profile kind number body a b nulls room n w e =
           kind-is = ek;
           count-is = counted t;
           reads-back = λ start end.
-              let one : Arrived = record { sent = sent k number body a b nulls; start = start; end = end } in
+              let one = arrivedWith (sent k number body a b nulls) start end in
               subst (ReadAs p (one ∷ [])) (append-nil (withFlips p one w))
               (read-as p (one ∷ []) (withFlips p one w ++ []) (and-arrived room n (sent-answer p (one .sent) room (used n w) .1 t) none-arrived));
         }
@@ -76,27 +76,27 @@ accepted profile kind number body a b nulls room n w e =
 -- two flips in one code
 
 start-then : (b : Bool) (s : Sent) (later : List Sent) (i j : ℕ) (l : i < 8) (k : j < 8) (d : i ≡ j → ⊥)
-    → flipAnswers b (record { sent = s; start = two-bits i j l k d; end = no-bit } ∷ map unflipped later)
+    → flipAnswers b (arrivedWith s (two-bits i j l k d) no-bit ∷ map unflipped later)
     ≡ refused damagedCode ∷ endThen b (refused endWithoutLine) (map unflipped later)
 start-then b s [] i j l k d = refl
 start-then b s (next ∷ later) i j l k d = refl
 
 pub start-beyond-repair : (p : Profile) → StartBeyondRepair p
 start-beyond-repair p before s later i j l k d v h cs last taken =
-    let a : Arrived = record { sent = s; start = two-bits i j l k d; end = no-bit } in
+    let a = arrivedWith s (two-bits i j l k d) no-bit in
     read-as p (map unflipped before ++ (a ∷ map unflipped later)) v h .alone cs last taken
     ∙ answers-append (runsFinish cs) (map unflipped before) a (map unflipped later)
     ∙ ap (λ (os : List Outcome). closedAnswers (map unflipped before) ++ os) (start-then (runsFinish cs) s later i j l k d)
 
 end-then : (b : Bool) (s : Sent) (later : List Sent) (i j : ℕ) (l : i < 8) (k : j < 8) (d : i ≡ j → ⊥)
-    → flipAnswers b (record { sent = s; start = no-bit; end = two-bits i j l k d } ∷ map unflipped later)
+    → flipAnswers b (arrivedWith s no-bit (two-bits i j l k d) ∷ map unflipped later)
     ≡ refused noEndOfLine ∷ endThen b (refused damagedCode) (map unflipped later)
 end-then b s [] i j l k d = refl
 end-then b s (next ∷ later) i j l k d = refl
 
 pub end-beyond-repair : (p : Profile) → EndBeyondRepair p
 end-beyond-repair p before s later i j l k d v h cs last taken =
-    let a : Arrived = record { sent = s; start = no-bit; end = two-bits i j l k d } in
+    let a = arrivedWith s no-bit (two-bits i j l k d) in
     read-as p (map unflipped before ++ (a ∷ map unflipped later)) v h .alone cs last taken
     ∙ answers-append (runsFinish cs) (map unflipped before) a (map unflipped later)
     ∙ ap (λ (os : List Outcome). closedAnswers (map unflipped before) ++ os) (end-then (runsFinish cs) s later i j l k d)

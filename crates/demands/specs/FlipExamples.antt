@@ -19,7 +19,7 @@ use Rattle.stream.specs.Answers.{refused}
 use Rattle.stream.specs.Written.{Sent, written}
 use Rattle.recovery.specs.CleanAnswers.{lineRead, gapRead}
 use Rattle.recovery.specs.Examples.{sample, sample-writable}
-use Rattle.flip_laws.specs.Flips.{Flips, no-bit, one-bit, two-bits, endCodePlace, Arrived, withFlips, unflipped, flipAnswers}
+use Rattle.flip_laws.specs.Flips.{Flips, no-bit, one-bit, two-bits, endCodePlace, Arrived, withFlips, arrivedWith, unflipped, flipAnswers}
 use Rattle.demands.specs.DemandTwo.{answersTo, AllArrived, none-arrived, and-arrived}
 use Rattle.demands.specs.DemandTwoLaws.{demand-two}
 use Rattle.demands.specs.Examples.{written-as, areNibbles, callsOn, calls-last, calls-taken, calls-finish}
@@ -37,7 +37,7 @@ vl p = sample p VL 10
 
 module _ (p : Profile) (start end : Flips) where
   abbrev second : Arrived
-  second = record { sent = bl p; start = start; end = end }
+  second = arrivedWith (bl p) start end
 
   abbrev three : List Arrived
   three = unflipped (sof p) ∷ second ∷ unflipped (vl p) ∷ []

@@ -2,7 +2,7 @@
 -- Definitions only.
 use mathlib.Core.Path.{_≡_}
 use mathlib.Core.Bool.{Bool, cond}
-use mathlib.Core.List.{List, [], _∷_, map}
+use mathlib.Core.List.{List, [], _∷_}
 use mathlib.Core.Option.{Option, none, some}
 use Prim.Native.Nat.{ℕ, zero, suc, _+_, _-_, _<_}
 use lib.Dec.{ltb}
@@ -34,15 +34,17 @@ flipNibble (suc n) i (x ∷ w) = x ∷ flipNibble n i w
 abbrev pub flipBit : ℕ → ℕ → List ℕ → List ℕ
 flipBit n i w = cond (ltb i 4) (flipNibble (n + 1) i w) (flipNibble n (i - 4) w)
 
+-- with these bits of that byte flipped
 abbrev pub flipBits : ℕ → Flips → List ℕ → List ℕ
 flipBits n no-bit w = w
 flipBits n (one-bit i l) w = flipBit n i w
 flipBits n (two-bits i j l k d) w = flipBit n j (flipBit n i w)
 
--- the places of the two codes in a line as written: each stands after an F F F F 0 0
+-- the place of the code that starts a line as written: after F F F F 0 0
 abbrev pub startCodePlace : ℕ
 startCodePlace = groupNibbles
 
+-- and of the code that ends it: after that mark's text and another F F F F 0 0
 abbrev pub endCodePlace : Profile → ℕ
 endCodePlace p = groupNibbles + lineNibbles p + groupNibbles
 
@@ -56,13 +58,13 @@ pub record Arrived : Type 0 where
 abbrev pub withFlips : Profile → Arrived → List ℕ → List ℕ
 withFlips p a w = flipBits (endCodePlace p) (a .end) (flipBits startCodePlace (a .start) w)
 
--- lines of which no bit was flipped
-abbrev pub unflipped : Sent → Arrived
-unflipped s = record { sent = s; start = no-bit; end = no-bit }
+-- the line s with these bits of its start code and of its end code flipped
+abbrev pub arrivedWith : Sent → Flips → Flips → Arrived
+arrivedWith s start end = record { sent = s; start = start; end = end }
 
--- the lines sent
-abbrev pub allSent : List Arrived → List Sent
-allSent all = map (λ a. a .sent) all
+-- with none flipped
+abbrev pub unflipped : Sent → Arrived
+unflipped s = arrivedWith s no-bit no-bit
 
 -- Answers.
 
@@ -86,6 +88,7 @@ gapBy s (some r) none n = refused damagedCode
 gapBy s none (some q) n = refused endWithoutLine
 gapBy s (some r) (some q) n = gapRead s n
 
+-- the two answers of a line that arrives
 abbrev pub startAnswer : Arrived → Outcome
 startAnswer a = lineBy (a .sent) (repairBy (a .start)) (repairBy (a .end))
 

@@ -27,7 +27,7 @@ use Rattle.recovery.specs.MarkFree.{Lengthens, no-mark, few-no-group, lineText,
 use Rattle.recovery.specs.ReadBack.{run-append, outcomes-append, sevenThen, MarkTold, marked, writtenWith, gapText, line-by-end, line-answer, no-group-gap, gap-answer, written-length}
 use Rattle.recovery.specs.CleanAnswers.{saidIn, said, lineRead, gapRead, cleanAnswers}
 use Rattle.recovery.specs.CallAnswers.{broughtBy}
-use Rattle.flip_laws.specs.Flips.{Arrived, unflipped, allSent, repairBy, lineBy, gapBy, startAnswer, endAnswer, closedAnswers, flipAnswers}
+use Rattle.flip_laws.specs.Flips.{Arrived, unflipped, repairBy, lineBy, gapBy, startAnswer, endAnswer, closedAnswers, flipAnswers}
 use Rattle.flip_laws.specs.FlippedCodesLaws.{readAs, code-small, code-reads, startCode, endingCode}
 
 -- The two answers of a line, by what is repaired of its two codes.
@@ -207,6 +207,10 @@ module _ (p : Profile) (a : Arrived) (g : Writable p (a .sent)) where
   at-finish true = ap (λ (os : List Outcome). os ++ []) (answered none)
 
 -- All lines.
+
+-- what was sent
+abbrev pub allSent : List Arrived → List Sent
+allSent all = map (λ a. a .sent) all
 
 -- their nibbles
 abbrev pub arriving : List Arrived → List ℕ
