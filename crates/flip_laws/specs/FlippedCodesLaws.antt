@@ -38,9 +38,9 @@ flippedCode (one-bit i l) c = flipped c i
 flippedCode (two-bits i j l k d) c = flipped (flipped c i) j
 
 -- the reading of a code of which so much is repaired
-abbrev pub readAs : Meaning → Option Repair → Reading
-readAs m none = Damaged
-readAs m (some r) = Says m r
+abbrev pub readingBy : Meaning → Option Repair → Reading
+readingBy m none = Damaged
+readingBy m (some r) = Says m r
 
 -- two flipped bits of a clean byte never make FF
 abbrev notFF : Meaning → ℕ → ℕ → Bool
@@ -62,16 +62,16 @@ or-right true b h e = absurd (true≢false e)
 or-right false b h e = h
 
 -- a clean byte with bits flipped is a byte other than FF, and is read as its meaning or as damaged
-pub code-small : (m : Meaning) (f : Flips) → flippedCode f (cleanByte m) ≤ 254
-code-small m no-bit = read-small (cleanByte m) Clean m (clean-reading m)
-code-small m (one-bit i l) = read-small (flipped (cleanByte m) i) (Bit i) m (one-flip m i l)
-code-small m (two-bits i j l k d) =
+pub flipped-small : (m : Meaning) (f : Flips) → flippedCode f (cleanByte m) ≤ 254
+flipped-small m no-bit = read-small (cleanByte m) Clean m (clean-reading m)
+flipped-small m (one-bit i l) = read-small (flipped (cleanByte m) i) (Bit i) m (one-flip m i l)
+flipped-small m (two-bits i j l k d) =
     leb-true _ 254 (or-right (eqb i j) _ (each (notFF m i) 8 (each (λ (n : ℕ). every (notFF m n) 8) 8 (never-FF m) i l) j k) (ne-eqb i j d))
 
-pub code-reads : (m : Meaning) (f : Flips) → readingOf (flippedCode f (cleanByte m)) ≡ readAs m (repairBy f)
-code-reads m no-bit = clean-reading m
-code-reads m (one-bit i l) = one-flip m i l
-code-reads m (two-bits i j l k d) = two-damaged m i j l k d
+pub flipped-reads : (m : Meaning) (f : Flips) → readingOf (flippedCode f (cleanByte m)) ≡ readingBy m (repairBy f)
+flipped-reads m no-bit = clean-reading m
+flipped-reads m (one-bit i l) = one-flip m i l
+flipped-reads m (two-bits i j l k d) = two-damaged m i j l k d
 
 -- Nibbles.
 
@@ -119,9 +119,9 @@ bit-flipped u b i w h l = bit-past u (b / 16 ∷ b % 16 ∷ w) i ∙ ap (λ (v :
 code-flipped : (u : List ℕ) (m : Meaning) (f : Flips) (w : List ℕ)
     → flipBits (length u) f (u ++ (cleanByte m / 16 ∷ cleanByte m % 16 ∷ w)) ≡ u ++ (flippedCode f (cleanByte m) / 16 ∷ flippedCode f (cleanByte m) % 16 ∷ w)
 code-flipped u m no-bit w = refl
-code-flipped u m (one-bit i l) w = bit-flipped u (cleanByte m) i w (code-small m no-bit) l
+code-flipped u m (one-bit i l) w = bit-flipped u (cleanByte m) i w (flipped-small m no-bit) l
 code-flipped u m (two-bits i j l k d) w =
-    ap (flipBit (length u) j) (bit-flipped u (cleanByte m) i w (code-small m no-bit) l) ∙ bit-flipped u (flipped (cleanByte m) i) j w (code-small m (one-bit i l)) k
+    ap (flipBit (length u) j) (bit-flipped u (cleanByte m) i w (flipped-small m no-bit) l) ∙ bit-flipped u (flipped (cleanByte m) i) j w (flipped-small m (one-bit i l)) k
 
 -- Lines.
 

@@ -28,7 +28,7 @@ use Rattle.recovery.specs.ReadBack.{run-append, outcomes-append, sevenThen, Mar
 use Rattle.recovery.specs.CleanAnswers.{saidIn, said, lineRead, gapRead, cleanAnswers}
 use Rattle.recovery.specs.CallAnswers.{broughtBy}
 use Rattle.flip_laws.specs.Flips.{Arrived, unflipped, repairBy, lineBy, gapBy, startAnswer, endAnswer, closedAnswers, flipAnswers}
-use Rattle.flip_laws.specs.FlippedCodesLaws.{readAs, code-small, code-reads, startCode, endingCode}
+use Rattle.flip_laws.specs.FlippedCodesLaws.{readingBy, flipped-small, flipped-reads, startCode, endingCode}
 
 -- The two answers of a line, by what is repaired of its two codes.
 
@@ -45,7 +45,7 @@ periodAt n (some code) = n
 
 module _ (p : Profile) (s : Sent) (g : Writable p s) where
   -- the start mark's answer, when the end code comes
-  line-by : (before : Before) (start end : ℕ) (r q : Option Repair) → readingOf start ≡ readAs (Line (s .kind)) r → readingOf end ≡ readAs EndOfLine q
+  line-by : (before : Before) (start end : ℕ) (r q : Option Repair) → readingOf start ≡ readingBy (Line (s .kind)) r → readingOf end ≡ readingBy EndOfLine q
       → answerAt p (Open before start) (lineText start s) (some end) ≡ lineBy s r q
   unfolding answerOf require
   line-by before start end none q hs he = ap (λ x. byReading p before x (lineText start s) (some end)) hs
@@ -53,7 +53,7 @@ module _ (p : Profile) (s : Sent) (g : Writable p s) where
       line-by-end p s g before start end r hs ∙ ap (λ x. require (isEnd x) noEndOfLine (line (facts (s .kind) (s .number) r (repairOf x)) (s .body))) he
   line-by before start end (some r) (some q) hs he = line-answer p s g before start end r q hs he
 
-  left-by : (r q : Option Repair) → beforeBy (kindOf (readAs (Line (s .kind)) r)) (isLine (lineBy s r q)) ≡ leftBy s r q
+  left-by : (r q : Option Repair) → beforeBy (kindOf (readingBy (Line (s .kind)) r)) (isLine (lineBy s r q)) ≡ leftBy s r q
   left-by none q = refl
   left-by (some r) none = refl
   left-by (some r) (some q) = refl
@@ -68,7 +68,7 @@ module _ (p : Profile) (s : Sent) (g : Writable p s) where
   good n = refl
 
   -- the end mark's answer, when the next mark's code comes or finish
-  gap-by : (start end : ℕ) (r q : Option Repair) → readingOf end ≡ readAs EndOfLine q → (next : Option ℕ)
+  gap-by : (start end : ℕ) (r q : Option Repair) → readingOf end ≡ readingBy EndOfLine q → (next : Option ℕ)
       → answerAt p (Open (leftBy s r q) end) (gapText end s) next ≡ gapBy s r q (periodAt (length (writtenWith start end s)) next)
   unfolding answerOf
   gap-by start end none none he next = ap (λ x. byReading p NoLine x (gapText end s) next) he
@@ -112,7 +112,7 @@ pub record LineArrives (p : Profile) (a : Arrived) (x : State) : Type 0 where
       ≡ outcomes p x (markOf (startCode a)) ++ (nothings (content (a .sent)) ++ (sevenThen (startAnswer a) ++ nothings (tail (a .sent))))
   leads : run p x (arrival a) ≡ leaves a
 
-not-end : (s : Sent) (r : Option Repair) → isEnd (readAs (Line (s .kind)) r) ≡ false
+not-end : (s : Sent) (r : Option Repair) → isEnd (readingBy (Line (s .kind)) r) ≡ false
 not-end s none = refl
 not-end s (some r) = refl
 
@@ -123,10 +123,10 @@ line-arrives p a g x =
     let e = endingCode a in
     let r = repairBy (a .start) in
     let q = repairBy (a .end) in
-    let hs = code-reads (Line (s .kind)) (a .start) in
-    let he = code-reads EndOfLine (a .end) in
-    let cs = code-small (Line (s .kind)) (a .start) in
-    let es = code-small EndOfLine (a .end) in
+    let hs = flipped-reads (Line (s .kind)) (a .start) in
+    let he = flipped-reads EndOfLine (a .end) in
+    let cs = flipped-small (Line (s .kind)) (a .start) in
+    let es = flipped-small EndOfLine (a .end) in
     let one : Opens p x (markOf c) c = resync p x c (ap isEnd hs ∙ not-end s r) in
     let m = Open (one .before) c in
     let two : Lengthens p m (c % 16 ∷ c / 16 ∷ []) (content s) = no-inner-mark p s g m c cs in
@@ -192,13 +192,13 @@ module _ (p : Profile) (a : Arrived) (g : Writable p (a .sent)) where
   answered next =
       let r = repairBy (a .start) in
       let q = repairBy (a .end) in
-      ap saidIn (gap-by p (a .sent) g (startCode a) (endingCode a) r q (code-reads EndOfLine (a .end)) next)
+      ap saidIn (gap-by p (a .sent) g (startCode a) (endingCode a) r q (flipped-reads EndOfLine (a .end)) next)
       ∙ gap-said (a .sent) r q (periodAt (length (arrival a)) next)
 
   at-mark : (code : ℕ) → said (outcomes p (leaves a) (markOf code)) ≡ endAnswer a (length (arrival a)) ∷ []
   at-mark code =
       let t = gapText (endingCode a) (a .sent) in
-      ap said (marked p (endOf a) t code (no-group-gap p (a .sent) g (endingCode a) (code-small EndOfLine (a .end))) .told)
+      ap said (marked p (endOf a) t code (no-group-gap p (a .sent) g (endingCode a) (flipped-small EndOfLine (a .end))) .told)
       ∙ append-nil (saidIn (answerAt p (endOf a) t (some code)))
       ∙ answered (some code)
 
