@@ -22,7 +22,7 @@ use Rattle.refinement.specs.ReaderCalls.{readerCall}
 use Rattle.refinement.specs.Runs.{RunCall, runsTaken, runsCollected, allOneByOne, FinishLastRun}
 use Rattle.refinement.specs.RunsLaws.{same-list, same-as-feeds, finish-last}
 use Rattle.refinement.specs.RunAnswersLaws.{goes-on, says-same, lends-same}
-use Rattle.stretch_laws.specs.Stretches.{Segment, unchanged, replaced, cleanOf, changedOf, wholeLines, closedLines, Sublist, toLineStart, SegmentRead, ReadsSegments, ReadsStretches}
+use Rattle.stretch_laws.specs.Stretches.{Segment, unchanged, replaced, cleanOf, changedOf, wholeLines, closedLines, Sublist, toLineStart, SegmentRead, ReadsStretches}
 use Rattle.stretch_laws.specs.StretchesLaws.{past-front, segment-lines, segment-gaps-exactly, stretches-lines, stretches-gaps}
 
 -- One unchanged segment, over single calls.
@@ -143,6 +143,19 @@ module _ (p : Profile) (ss : List Sent) (h : AllWritable p ss) (before : List Se
             let sp = split (meaningCall p) fresh first (length (changedOf before) + startIn ss before) (omega arith) in
             past-both first (sp .first) (sp .rest) here rest (sp .all) all (sp .taken) la lb holds;
       }
+
+module _ {R : Type 0} (on : R → Call → CallResult R) where
+  -- the same of the fresh reader r, of every clean stream and every unchanged segment of it
+  abbrev ReadsSegments : Profile → R → Type 0
+  ReadsSegments p r =
+      (ss : List Sent)
+      → AllWritable p ss
+      → (before : List Segment) (w : List ℕ) (later : List Segment)
+      → cleanOf (before ++ (unchanged w ∷ later)) ≡ stream ss
+      → (cs : List Call)
+      → FinishLast cs
+      → onTaken on r cs ≡ changedOf (before ++ (unchanged w ∷ later))
+      → SegmentRead on p r ss before w cs
 
 -- of every reader that answers alike: Same r s, the reader r stands for the state s, and goes on so at each call
 module _ {R : Type 0} (on : R → Call → CallResult R) (p : Profile) (Same : R → State → Type 0)

@@ -6,7 +6,7 @@ use lib.ListN.{length}
 use Rattle.profile.specs.declared.Profile.{Profile}
 use Rattle.stream.specs.Written.{Sent, AllWritable, stream}
 use Rattle.reader.specs.declared.Reader.{Reader}
-use Rattle.recovery.specs.Calls.{Call, FinishLast, CallResult, asSent, gapAsSent, markNibbles, startFrom, lineCollector, gapCollector, onRun, onTaken, onLines, onGaps}
+use Rattle.recovery.specs.Calls.{Call, CallResult, asSent, gapAsSent, markNibbles, startFrom, lineCollector, gapCollector, onRun, onTaken, onLines, onGaps}
 use Rattle.recovery.specs.CutStream.{wholeBetween, closedBetween}
 use Rattle.refinement.specs.ReaderCalls.{readerCall}
 use Rattle.refinement.specs.Runs.{RunCall, runsTaken, runsCollected, allOneByOne, FinishLastRun, SameAsFeeds}
@@ -79,19 +79,6 @@ module _ {R : Type 0} (on : R → Call → CallResult R) where
         → length (onTaken on r first) ≡ length (changedOf before) + past
         → length (onTaken on (onRun on r first) here) ≡ length w - past
         → onGaps on p (onRun on r first) here ≡ map gapAsSent (closedBetween i (i + length w) ss)
-
-  -- of the fresh reader r: for every clean stream, every unchanged segment of it with any segments before it and after it, and every list of single
-  -- calls that take the changed stream
-  abbrev pub ReadsSegments : Profile → R → Type 0
-  ReadsSegments p r =
-      (ss : List Sent)
-      → AllWritable p ss
-      → (before : List Segment) (w : List ℕ) (later : List Segment)
-      → cleanOf (before ++ (unchanged w ∷ later)) ≡ stream ss
-      → (cs : List Call)
-      → FinishLast cs
-      → onTaken on r cs ≡ changedOf (before ++ (unchanged w ∷ later))
-      → SegmentRead p r ss before w cs
 
 -- All of it, over the reader's own calls.
 
