@@ -11,7 +11,7 @@ use Rattle.refinement.specs.RunsLaws.{runs-demand-three}
 use Rattle.demands.specs.DemandThreeWritten.{WroteAll, wrote-none, and-wrote, MeetsWritten}
 
 -- one line
-wrote : (p : Profile) (s : Sent) (room n : ℕ) (w : List ℕ) → writeSent p s room ≡ used n w → Writable p s × (w ≡ written s)
+pub wrote : (p : Profile) (s : Sent) (room n : ℕ) (w : List ℕ) → writeSent p s room ≡ used n w → Writable p s × (w ≡ written s)
 wrote p s room n w e = go (sent-answer p s room (used n w) .0 e)
   where
     go : {n : ℕ} {w : List ℕ} → LineAnswer p s room (used n w) → Writable p s × (w ≡ written s)

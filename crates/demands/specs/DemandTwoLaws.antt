@@ -1,105 +1,102 @@
--- Demand 2: what the writer accepts may be written, the meaning reads that back, and the reader's calls answer as the meaning does.
-use mathlib.Core.Path.{_≡_, refl, _∙_, ap, ap₂, sym, subst}
-use mathlib.Core.Bool.{Bool, true, false, cond}
-use mathlib.Core.List.{List, [], _∷_, _++_, append-assoc, append-nil}
-use Prim.Native.Nat.{ℕ}
+-- Demand 2: what the writer accepts may be written, bits flipped in it change its code bytes alone, the meaning answers each such line for itself,
+-- and the reader's calls answer as the meaning does.
+use mathlib.Core.Path.{_≡_, refl, _∙_, ap, ap₂, subst}
+use mathlib.Core.Bool.{Bool}
+use mathlib.Core.List.{List, [], _∷_, _++_, append-nil, map}
+use Prim.Native.Nat.{ℕ, _*_, _<_}
 use lib.ListN.{length, take}
+use Rattle.refusal.specs.Refusal.{damagedCode, noEndOfLine, endWithoutLine}
 use Rattle.line_code.specs.LineCodeLaws.{two-flips}
-use Rattle.line_code.specs.declared.Repair.{Repair}
 use Rattle.profile.specs.declared.Profile.{Profile}
 use Rattle.lent_buffer.specs.Filled.{used}
-use Rattle.stream.specs.Answers.{Outcome, goodGap}
-use Rattle.stream.specs.Stream.{fresh, finish, run, outcomes}
-use Rattle.stream.specs.Written.{Sent, Writable, markOf, content, tail, written}
+use Rattle.stream.specs.Answers.{Outcome, refused}
+use Rattle.stream.specs.Stream.{fresh}
+use Rattle.stream.specs.Written.{Sent, AllWritable, no-lines, and-line, markOf}
 use Rattle.writer.specs.Writer.{sent, writeOf}
-use Rattle.writer.specs.WriterLaws.{line, Answer, of-line, answer}
-use Rattle.recovery.specs.Collected.{nothings, collected-append, collected-nothings}
-use Rattle.recovery.specs.ReadBack.{outcomes-append, sevenThen, ReadsBack, read-back, start-flipped, end-flipped}
-use Rattle.recovery.specs.CleanAnswers.{saidIn, said, lineRead, gapRead}
+use Rattle.writer.specs.WriterLaws.{LineAnswer, line, Answer, of-line, answer, sent-answer}
+use Rattle.recovery.specs.CleanAnswers.{said}
 use Rattle.recovery.specs.CallAnswers.{broughtBy}
+use Rattle.flip_laws.specs.Flips.{no-bit, two-bits, Arrived, withFlips, arrivedWith, unflipped, closedAnswers, flipAnswers}
+use Rattle.flip_laws.specs.FlippedCodesLaws.{flips-are-codes}
+use Rattle.flip_laws.specs.FlipsLaws.{allSent, arriving, flip-answers, flip-answers-first, answers-append}
 use Rattle.refinement.specs.RunAnswers.{runsFinish}
 use Rattle.refinement.specs.RunAnswersLaws.{runs-said}
-use Rattle.demands.specs.DemandTwo.{ReadAs, DemandTwo, Accepted}
+use Rattle.demands.specs.DemandTwo.{AllArrived, none-arrived, and-arrived, ReadAs, DemandTwo, Accepted, endThen, StartBeyondRepair, EndBeyondRepair}
+use Rattle.demands.specs.DemandThreeWrittenLaws.{wrote}
 
--- what is brought, and what finish brings
-last-part : (p : Profile) (w : List ℕ) (b : Bool) → broughtBy p fresh w b ≡ outcomes p fresh w ++ cond b (finish p (run p fresh w) .outcome ∷ []) []
-last-part p w true = refl
-last-part p w false = sym (append-nil (outcomes p fresh w))
+-- what arrives are lines that may be written, with their code bytes changed
+arrived-codes : (p : Profile) (all : List Arrived) (v : List ℕ) → AllArrived p all v → AllWritable p (allSent all) × (v ≡ arriving all)
+arrived-codes p all v none-arrived = (no-lines, refl)
+arrived-codes p all v (and-arrived {a} {later} {w} {v = rest} room n e h) =
+    let one = wrote p (a .sent) room n w e in
+    let more = arrived-codes p later rest h in
+    (and-line (one .0) (more .0), ap₂ _++_ (ap (withFlips p a) (one .1) ∙ flips-are-codes p a (one .0)) (more .1))
 
-good : (n a b : ℕ) (s : Sent) → s .gap-one ≡ a → s .gap-two ≡ b → goodGap n a b ≡ gapRead s n
-unfolding goodGap
-good n a b s e f = cc
-
--- a line that reads back is said alone, and then its gap
-line-said : {p : Profile} {s : Sent} {w : List ℕ} {r q : Repair} → ReadsBack p s w r q → said (outcomes p fresh w) ≡ lineRead s r q ∷ []
-line-said {s = s} {r = r} {q = q} h =
-    ap said (h .line-told)
-    ∙ collected-append saidIn (nothings (content s)) _
-    ∙ ap₂ _++_ (collected-nothings saidIn refl (content s)) (ap {B = List Outcome} (λ l. lineRead s r q ∷ l) (collected-nothings saidIn refl (tail s)))
-
--- so the reader's calls read it
-read-as : (p : Profile) (s : Sent) (w : List ℕ) (r q : Repair) → ReadsBack p s w r q → ReadAs p s w r q
-read-as p s w r q h =
+read-as : (p : Profile) (all : List Arrived) (v : List ℕ) → AllArrived p all v → ReadAs p all v
+read-as p all v h =
+    let k = arrived-codes p all v h in
     record {
-      alone = λ cs fl e.
-          runs-said p fl
-          ∙ ap (λ (v : List ℕ). said (broughtBy p fresh v (runsFinish cs))) e
-          ∙ alone (runsFinish cs);
-      before-mark = λ code later cs fl e.
-          ap (take 2)
-          (runs-said p fl
-          ∙ ap (λ (v : List ℕ). said (broughtBy p fresh v (runsFinish cs))) e
-          ∙ marked code later (runsFinish cs));
-    }
-  where
-    alone : (b : Bool) → said (broughtBy p fresh w b) ≡ lineRead s r q ∷ cond b (gapRead s 0 ∷ []) []
-    alone false = line-said h
-    alone true =
-        collected-append saidIn (outcomes p fresh w) _
-        ∙ ap₂ (λ (os : List Outcome) (o : Outcome). os ++ said (o ∷ [])) (line-said h) (h .gap-at-finish ∙ good 0 _ _ s refl refl)
-
-    marked : (code : ℕ) (later : List ℕ) (b : Bool)
-        → said (broughtBy p fresh (w ++ (markOf code ++ later)) b)
-        ≡ lineRead s r q
-        ∷ gapRead s (length w)
-        ∷ said
-        (outcomes p (run p (run p fresh w) (markOf code)) later ++ cond b (finish p (run p fresh (w ++ (markOf code ++ later))) .outcome ∷ []) [])
-    marked code later b =
-        let x = run p fresh w in
-        let v = w ++ (markOf code ++ later) in
-        let L = outcomes p (run p x (markOf code)) later in
-        let F = cond b (finish p (run p fresh v) .outcome ∷ []) [] in
-        let G = outcomes p x (markOf code) in
-        ap said
-        (last-part p v b
-        ∙ ap (λ (os : List Outcome). os ++ F) (outcomes-append p fresh w (markOf code ++ later) ∙ ap (λ (os : List Outcome). outcomes p fresh w ++ os) (outcomes-append p x (markOf code) later))
-        ∙ append-assoc (outcomes p fresh w) (G ++ L) F
-        ∙ ap (λ (os : List Outcome). outcomes p fresh w ++ os) (append-assoc G L F))
-        ∙ collected-append saidIn (outcomes p fresh w) (G ++ (L ++ F))
-        ∙ ap₂ (λ (os g : List Outcome). os ++ said (g ++ (L ++ F))) (line-said h) (h .gap-at-mark code ∙ ap sevenThen (good (length w) _ _ s refl refl))
-
-demand-two-of : (p : Profile) (s : Sent) → Writable p s → DemandTwo p s (written s)
-demand-two-of p s g =
-    record {
-      as-written = read-as p s _ _ _ (read-back p s g);
-      start-flipped = λ i h. read-as p s _ _ _ (start-flipped p s g i h);
-      end-flipped = λ i h. read-as p s _ _ _ (end-flipped p s g i h);
-      two-flipped = two-flips;
+      alone = λ cs last taken.
+          runs-said p last
+          ∙ ap (λ (u : List ℕ). said (broughtBy p fresh u (runsFinish cs))) (taken ∙ k .1)
+          ∙ flip-answers p all (k .0) (runsFinish cs);
+      before-mark = λ code w cs last taken.
+          ap (take (2 * length all))
+          (runs-said p last ∙ ap (λ (u : List ℕ). said (broughtBy p fresh u (runsFinish cs))) (taken ∙ ap (λ (u : List ℕ). u ++ (markOf code ++ w)) (k .1)))
+          ∙ flip-answers-first p all (k .0) code w (runsFinish cs);
     }
 
--- the law: whatever the writer accepts, demand 2 holds of it
-pub demand-two : (profile kind number : ℕ) (body : List ℕ) (a b nulls room n : ℕ) (w : List ℕ)
+-- the law
+pub demand-two : (p : Profile) → DemandTwo p
+demand-two p = record { lines-read = read-as p; two-flipped = two-flips }
+
+-- of one line, by the numbers that the writer was given: whatever it accepts
+pub accepted : (profile kind number : ℕ) (body : List ℕ) (a b nulls room n : ℕ) (w : List ℕ)
     → writeOf profile kind number body a b nulls room ≡ used n w → Accepted profile kind number body a b nulls n w
-demand-two profile kind number body a b nulls room n w e =
+accepted profile kind number body a b nulls room n w e =
     go (subst (Answer profile kind number body a b nulls room) e (answer profile kind number body a b nulls room))
   where
     go : {n : ℕ} {w : List ℕ} → Answer profile kind number body a b nulls room (used n w) → Accepted profile kind number body a b nulls n w
-    go (of-line p k ep ek (line g r)) =
+    go {n} {w} (of-line p k ep ek t) =
         record {
           p = p;
           k = k;
           profile-is = ep;
           kind-is = ek;
-          count-is = refl;
-          reads-back = demand-two-of p (sent k number body a b nulls) g;
+          count-is = counted t;
+          reads-back = λ start end.
+              let one = arrivedWith (sent k number body a b nulls) start end in
+              subst (ReadAs p (one ∷ [])) (append-nil (withFlips p one w))
+              (read-as p (one ∷ []) (withFlips p one w ++ []) (and-arrived room n (sent-answer p (one .sent) room (used n w) .1 t) none-arrived));
         }
+      where
+        counted : {n : ℕ} {w : List ℕ} → LineAnswer p (sent k number body a b nulls) room (used n w) → n ≡ length w
+        counted (line g r) = refl
+
+-- two flips in one code
+
+start-then : (b : Bool) (s : Sent) (later : List Sent) (i j : ℕ) (l : i < 8) (k : j < 8) (d : i ≡ j → ⊥)
+    → flipAnswers b (arrivedWith s (two-bits i j l k d) no-bit ∷ map unflipped later)
+    ≡ refused damagedCode ∷ endThen b (refused endWithoutLine) (map unflipped later)
+start-then b s [] i j l k d = refl
+start-then b s (next ∷ later) i j l k d = refl
+
+pub start-beyond-repair : (p : Profile) → StartBeyondRepair p
+start-beyond-repair p before s later i j l k d v h cs last taken =
+    let a = arrivedWith s (two-bits i j l k d) no-bit in
+    read-as p (map unflipped before ++ (a ∷ map unflipped later)) v h .alone cs last taken
+    ∙ answers-append (runsFinish cs) (map unflipped before) a (map unflipped later)
+    ∙ ap (λ (os : List Outcome). closedAnswers (map unflipped before) ++ os) (start-then (runsFinish cs) s later i j l k d)
+
+end-then : (b : Bool) (s : Sent) (later : List Sent) (i j : ℕ) (l : i < 8) (k : j < 8) (d : i ≡ j → ⊥)
+    → flipAnswers b (arrivedWith s no-bit (two-bits i j l k d) ∷ map unflipped later)
+    ≡ refused noEndOfLine ∷ endThen b (refused damagedCode) (map unflipped later)
+end-then b s [] i j l k d = refl
+end-then b s (next ∷ later) i j l k d = refl
+
+pub end-beyond-repair : (p : Profile) → EndBeyondRepair p
+end-beyond-repair p before s later i j l k d v h cs last taken =
+    let a = arrivedWith s no-bit (two-bits i j l k d) in
+    read-as p (map unflipped before ++ (a ∷ map unflipped later)) v h .alone cs last taken
+    ∙ answers-append (runsFinish cs) (map unflipped before) a (map unflipped later)
+    ∙ ap (λ (os : List Outcome). closedAnswers (map unflipped before) ++ os) (end-then (runsFinish cs) s later i j l k d)

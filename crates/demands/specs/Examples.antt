@@ -1,13 +1,14 @@
 -- Demand 3 at work at the reader's own calls: the lines and the stretch of recovery's example, with refused calls between all nibbles. No hypothesis
 -- of demand 3 is empty: the writer writes such lines, and such lists of calls there are, of singles and of runs.
 use mathlib.Core.Path.{_≡_, refl, _∙_, ap, ap₂, sym, subst}
-use mathlib.Core.Bool.{Bool, true, false, cond}
+use mathlib.Core.Bool.{Bool, true, false, _&&_, cond}
 use mathlib.Core.List.{List, [], _∷_, _++_}
 use Prim.Native.Nat.{ℕ, _+_, _≤_, _<_}
 use native.Mathlib.Omega.{arith}
-use lib.Dec.{lit≤}
+use lib.Dec.{leb, lit≤}
 use lib.ListN.{length, take, replicate}
-use borrow.Author.Tests.{le-leb, lt-leb}
+use borrow.Author.Tests.{leb-true, le-leb, lt-leb}
+use Rattle.bits.specs.Every.{and-left, and-right}
 use Rattle.refusal.specs.Refusal.{notANibble, noRoom}
 use Rattle.lent_buffer.specs.Filled.{used}
 use Rattle.line_code.specs.declared.Kind.the-variants.{BL, VL, SOF, EOF}
@@ -36,21 +37,22 @@ use Rattle.refinement.specs.CallTableLaws.{feeds-by-table}
 use Rattle.refinement.specs.ReaderCalls.{gives, readerCall, reader-demand-three}
 use Rattle.refinement.specs.Runs.{RunCall, run, one, runsTaken, allOneByOne, FinishLastRun, done-last, feed-first, run-first, SameAsFeeds}
 use Rattle.refinement.specs.RunsLaws.{takes-it}
+use Rattle.refinement.specs.RunAnswers.{runsFinish}
 use Rattle.refinement.specs.RunBySingles.{untouched}
 use Rattle.demands.specs.DemandThreeWritten.{WroteAll, wrote-none, and-wrote}
 use Rattle.demands.specs.DemandThreeWrittenLaws.{demand-three-written}
 
 -- The writer writes these lines.
 
-wrote : (p : Profile) (s : Sent) → Writable p s → writeSent p s (roomFor p (s .nulls)) ≡ used (length (written s)) (written s)
-wrote p s g = writes p s (roomFor p (s .nulls)) .1 (g, omega arith)
+pub written-as : (p : Profile) (s : Sent) → Writable p s → writeSent p s (roomFor p (s .nulls)) ≡ used (length (written s)) (written s)
+written-as p s g = writes p s (roomFor p (s .nulls)) .1 (g, omega arith)
 
-four-wrote : (p : Profile) → WroteAll p (four p) (stream (four p))
+pub four-wrote : (p : Profile) → WroteAll p (four p) (stream (four p))
 four-wrote p =
-    and-wrote _ _ (wrote p (sample p SOF 0) (sample-writable p SOF 0 (lit≤ tt)))
-    (and-wrote _ _ (wrote p (sample p BL 3) (sample-writable p BL 3 (lit≤ tt)))
-    (and-wrote _ _ (wrote p (sample p VL 10) (sample-writable p VL 10 (lit≤ tt)))
-    (and-wrote _ _ (wrote p (sample p EOF 302) (sample-writable p EOF 302 (lit≤ tt))) wrote-none)))
+    and-wrote _ _ (written-as p (sample p SOF 0) (sample-writable p SOF 0 (lit≤ tt)))
+    (and-wrote _ _ (written-as p (sample p BL 3) (sample-writable p BL 3 (lit≤ tt)))
+    (and-wrote _ _ (written-as p (sample p VL 10) (sample-writable p VL 10 (lit≤ tt)))
+    (and-wrote _ _ (written-as p (sample p EOF 302) (sample-writable p EOF 302 (lit≤ tt))) wrote-none)))
 
 -- Single calls of a reader of the profile p that passes its own test.
 
@@ -183,3 +185,26 @@ pub runs-recovered : (p : Profile)
 runs-recovered p =
     demand-three-written p (four p) (stream (four p)) (four-wrote p) (from p) (to p) (stretch-ordered p) (stretch-within p) new (runs p (blank p) (room p) (changedFour p))
     (runs-last p (blank p) (room p) (changedFour p)) (runs-taken p (blank p) (room p) (these-nibbles p) (freshReader p) (fresh-at p))
+
+-- Calls that take any nibbles, for the other examples: runs that a 10 stops, with a 12 before each, and finish.
+
+abbrev pub areNibbles : List ℕ → Bool
+areNibbles [] = true
+areNibbles (n ∷ w) = leb n 15 && areNibbles w
+
+are-nibbles : (w : List ℕ) → areNibbles w ≡ true → AllNibbles w
+are-nibbles [] h = no-nibble
+are-nibbles (n ∷ w) h = and-nibble (leb-true n 15 (and-left (leb n 15) (areNibbles w) h)) (are-nibbles w (and-right (leb n 15) (areNibbles w) h))
+
+abbrev pub callsOn : Profile → List ℕ → List RunCall
+callsOn p w = runs p (blank p) (room p) w
+
+pub calls-last : (p : Profile) (w : List ℕ) → FinishLastRun (callsOn p w)
+calls-last p w = runs-last p (blank p) (room p) w
+
+pub calls-taken : (p : Profile) (w : List ℕ) → areNibbles w ≡ true → runsTaken (freshReader p) (callsOn p w) ≡ w
+calls-taken p w h = runs-taken p (blank p) (room p) (are-nibbles w h) (freshReader p) (fresh-at p)
+
+pub calls-finish : (p : Profile) (w : List ℕ) → runsFinish (callsOn p w) ≡ true
+calls-finish p [] = refl
+calls-finish p (n ∷ w) = calls-finish p w

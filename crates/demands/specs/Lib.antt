@@ -1,7 +1,11 @@
-pub mod DemandTwo
-pub mod DemandTwoLaws
 pub mod DemandThreeWritten
 pub mod DemandThreeWrittenLaws
+pub mod StretchesWritten
+pub mod StretchesWrittenLaws
+pub mod DemandTwo
+pub mod DemandTwoLaws
 pub mod Examples
+pub mod FlipExamples
+pub mod StretchExamples
 pub mod Captures
 pub mod CapturesLaws

@@ -125,7 +125,7 @@ start-above : (j o : ℕ) (ss : List Sent) → o ≤ startFrom j o ss
 start-above j o [] = omega arith
 start-above j o (s ∷ ss) = by-test (λ n. o ≤ n) (leb j o) (λ e. omega arith) (λ e. omega (arith, start-above j (o + length (written s)) ss))
 
-start-after : (j o : ℕ) (ss : List Sent) → j ≤ o + length (stream ss) → j ≤ startFrom j o ss
+pub start-after : (j o : ℕ) (ss : List Sent) → j ≤ o + length (stream ss) → j ≤ startFrom j o ss
 start-after j o [] h = omega arith
 start-after j o (s ∷ ss) h =
     by-test (λ n. j ≤ n) (leb j o) (λ e. leb-true j o e)
@@ -146,7 +146,7 @@ drop-zero : (o : ℕ) (c : List ℕ) → drop (o - o) c ≡ c
 drop-zero o c = let e : o - o ≡ 0 = omega arith in ap (λ (n : ℕ). drop n c) e
 
 -- what stands in a clean stream from a line start on
-drop-start : (j o : ℕ) (ss : List Sent) → drop (startFrom j o ss - o) (stream ss) ≡ stream (linesFrom j o ss)
+pub drop-start : (j o : ℕ) (ss : List Sent) → drop (startFrom j o ss - o) (stream ss) ≡ stream (linesFrom j o ss)
 drop-start j o [] = drop-nil (o - o)
 drop-start j o (s ∷ ss) = go (leb j o) (drop-start j (o + length (written s)) ss)
   where

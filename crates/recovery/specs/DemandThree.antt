@@ -81,12 +81,12 @@ no-line-said p (line f body) buffer h = cc
 no-line-said p (gap g) buffer h = h
 no-line-said p (refused n) buffer h = h
 
-calls-lines : (p : Profile) {cs : List Call} → FinishLast cs → (s : State) → onLines (meaningCall p) p s cs ≡ lines p s (onTaken (meaningCall p) s cs)
+pub calls-lines : (p : Profile) {cs : List Call} → FinishLast cs → (s : State) → onLines (meaningCall p) p s cs ≡ lines p s (onTaken (meaningCall p) s cs)
 calls-lines p h s =
     calls-collected p lineCollector refl (λ n. refl)
     (λ s. no-line-said p (finish p s .outcome) [] (no-line p (s .at) (s .text) none refl)) h s
 
-calls-gaps : (p : Profile) {cs : List Call} → FinishLast cs → (s : State) → onGaps (meaningCall p) p s cs ≡ gaps p s (onTaken (meaningCall p) s cs)
+pub calls-gaps : (p : Profile) {cs : List Call} → FinishLast cs → (s : State) → onGaps (meaningCall p) p s cs ≡ gaps p s (onTaken (meaningCall p) s cs)
 calls-gaps p h s = calls-collected p gapCollector refl (λ n. refl) (λ s. refl) h s
 
 -- Parts of a list of calls.
@@ -108,12 +108,12 @@ rest-done : (first rest : List Call) → first ++ rest ≡ [] → FinishLast res
 rest-done [] rest h = subst FinishLast (sym h) no-call
 rest-done (c ∷ first) rest h = absurd (not-empty c (first ++ rest) h)
 
-first-part : (first rest : List Call) → FinishLast (first ++ rest) → FinishLast first
+pub first-part : (first rest : List Call) → FinishLast (first ++ rest) → FinishLast first
 first-part [] rest h = no-call
 first-part (feed n buffer ∷ first) rest h = feed-first (first-part first rest (feed-rest h))
 first-part (done ∷ first) rest h = first-done first rest (done-rest h)
 
-rest-part : (first rest : List Call) → FinishLast (first ++ rest) → FinishLast rest
+pub rest-part : (first rest : List Call) → FinishLast (first ++ rest) → FinishLast rest
 rest-part [] rest h = h
 rest-part (feed n buffer ∷ first) rest h = rest-part first rest (feed-rest h)
 rest-part (done ∷ first) rest h = rest-done first rest (done-rest h)
@@ -205,7 +205,7 @@ head-same x u v h = ap (λ l. after-first u l) h
     after-first d [] = d
     after-first d (y ∷ l) = l
 
-cancel : {A : Type 0} (u v w : List A) → u ++ v ≡ u ++ w → v ≡ w
+pub cancel : {A : Type 0} (u v w : List A) → u ++ v ≡ u ++ w → v ≡ w
 cancel [] v w h = h
 cancel (x ∷ u) v w h = cancel u v w (head-same x (u ++ v) (u ++ w) h)
 

@@ -1,5 +1,5 @@
--- Demand 2, read-back: a line as written comes out once, as it was given to the writer, when its end code is complete; then its gap.
--- The same line with one of the eight bits of a code flipped comes out the same, and that bit is named.
+-- Demand 2, read-back: a line as written comes out once, as it was given to the writer, when its end code is complete; then its gap. So does the
+-- same line with other code bytes that are read as its kind and as end of line.
 use mathlib.Core.Path.{_≡_, refl, _∙_, ap, ap₂, sym}
 use mathlib.Core.Bool.{Bool, true, false, _&&_, true≢false}
 use mathlib.Core.List.{List, [], _∷_, _++_, append-nil}
@@ -9,7 +9,6 @@ use native.Mathlib.Omega.{arith}
 use lib.Dec.{eqb, leb}
 use lib.ListN.{length, replicate, length-append, length-replicate}
 use borrow.Author.Tests.{leb-true, leb-false, eqb-true, eqb-false, eq-eqb}
-use Rattle.bits.specs.Bits.{flipped}
 use Rattle.bits.specs.Every.{and-left, and-right, and-both}
 use Rattle.refusal.specs.Refusal.{wrongLength, badNumber, badBody, noEndOfLine, badGap}
 use Rattle.line_code.specs.declared.Kind.{Kind}
@@ -18,9 +17,9 @@ use Rattle.line_code.specs.declared.Meaning.{Meaning}
 use Rattle.line_code.specs.declared.Meaning.the-variants.{EndOfLine, Line}
 use Rattle.line_code.specs.declared.Reading.the-variants.{Says}
 use Rattle.line_code.specs.declared.Repair.{Repair}
-use Rattle.line_code.specs.declared.Repair.the-variants.{Clean, Bit}
-use Rattle.line_code.specs.LineCode.{cleanByte, readingOf, kindOf, isEnd, isDamaged}
-use Rattle.line_code.specs.LineCodeLaws.{clean-reading, one-flip, damaged-far}
+use Rattle.line_code.specs.declared.Repair.the-variants.{Clean}
+use Rattle.line_code.specs.LineCode.{readingOf, kindOf, isEnd, repairOf, isDamaged}
+use Rattle.line_code.specs.LineCodeLaws.{clean-reading, damaged-far}
 use Rattle.line_number.specs.LineNumber.{numberByte, numberGood, numberFrom}
 use Rattle.profile.specs.declared.Profile.{Profile}
 use Rattle.profile.specs.declared.Profile.the-variants.{VV5404, VV5300}
@@ -122,23 +121,31 @@ gapText c s = onto (c % 16 ∷ c / 16 ∷ []) (tail s)
 pub body-long : (p : Profile) (s : Sent) → Writable p s → eqb (length (s .body)) (bodyLength p) ≡ true
 body-long p s g = eq-eqb (length (s .body)) (bodyLength p) (fits-length (rules p (s .kind)) (s .body) (g .body-fits) ∙ rules-length p (s .kind))
 
-pub line-answer : (p : Profile) (s : Sent) → Writable p s → (before : Before) (start end : ℕ) (r q : Repair)
-    → readingOf start ≡ Says (Line (s .kind)) r → readingOf end ≡ Says EndOfLine q
-    → answerAt p (Open before start) (lineText start s) (some end) ≡ line (facts (s .kind) (s .number) r q) (s .body)
+-- the answer of a line as written, whatever the next mark's code is: the line where that is end of line, else 7
+pub line-by-end : (p : Profile) (s : Sent) → Writable p s → (before : Before) (start end : ℕ) (r : Repair) → readingOf start ≡ Says (Line (s .kind)) r
+    → answerAt p (Open before start) (lineText start s) (some end)
+    ≡ require (isEnd (readingOf end)) noEndOfLine (line (facts (s .kind) (s .number) r (repairOf (readingOf end))) (s .body))
 unfolding answerOf
-line-answer p s g before start end r q hs he =
+line-by-end p s g before start end r hs =
     let high : s .number / 64 < 64 = omega (arith, g .number-small) in
     let low : s .number % 64 < 64 = omega arith in
     let number : numberFrom (numberByte (s .number / 64)) (numberByte (s .number % 64)) ≡ s .number
     = omega (arith, byte-value (s .number / 64) high, byte-value (s .number % 64) low) in
     ap (λ x. byReading p before x (lineText start s) (some end)) hs
-    ∙ ap₂ (λ bs x. lineFrom p (s .kind) r bs x) (line-bytes start s) he
+    ∙ ap (λ bs. lineFrom p (s .kind) r bs (readingOf end)) (line-bytes start s)
     ∙ passes (eqb (length (s .body)) (bodyLength p)) wrongLength _ (body-long p s g)
     ∙ passes (numberGood (numberByte (s .number / 64)) && numberGood (numberByte (s .number % 64))) badNumber _
     (and-both (numberGood (numberByte (s .number / 64))) _ (byte-good (s .number / 64) high) (byte-good (s .number % 64) low))
     ∙ passes (fits (rules p (s .kind)) (s .body)) badBody _ (g .body-fits)
+    ∙ ap (λ n. require (isEnd (readingOf end)) noEndOfLine (line (facts (s .kind) n r (repairOf (readingOf end))) (s .body))) number
+
+pub line-answer : (p : Profile) (s : Sent) → Writable p s → (before : Before) (start end : ℕ) (r q : Repair)
+    → readingOf start ≡ Says (Line (s .kind)) r → readingOf end ≡ Says EndOfLine q
+    → answerAt p (Open before start) (lineText start s) (some end) ≡ line (facts (s .kind) (s .number) r q) (s .body)
+line-answer p s g before start end r q hs he =
+    line-by-end p s g before start end r hs
+    ∙ ap (λ x. require (isEnd x) noEndOfLine (line (facts (s .kind) (s .number) r (repairOf x)) (s .body))) he
     ∙ passes true noEndOfLine _ refl
-    ∙ ap (λ n. line (facts (s .kind) n r q) (s .body)) number
 
 -- The gap.
 
@@ -328,16 +335,6 @@ read-back-with p s g start end r q hs he =
           ∙ gap-told p s g start end q he code;
       gap-at-finish = ap (λ (y : State). finish p y .outcome) (b .state) ∙ gap-answer p s g end q he none;
     }
-
--- one of the eight bits of the start code flipped: the same line, that bit named
-pub start-flipped : (p : Profile) (s : Sent) → Writable p s → (i : ℕ) → i < 8
-    → ReadsBack p s (writtenWith (flipped (cleanByte (Line (s .kind))) i) (cleanByte EndOfLine) s) (Bit i) Clean
-start-flipped p s g i h = read-back-with p s g _ _ (Bit i) Clean (one-flip (Line (s .kind)) i h) (clean-reading EndOfLine)
-
--- one of the eight bits of the end code flipped: the same
-pub end-flipped : (p : Profile) (s : Sent) → Writable p s → (i : ℕ) → i < 8
-    → ReadsBack p s (writtenWith (cleanByte (Line (s .kind))) (flipped (cleanByte EndOfLine) i) s) Clean (Bit i)
-end-flipped p s g i h = read-back-with p s g _ _ Clean (Bit i) (clean-reading (Line (s .kind))) (one-flip EndOfLine i h)
 
 -- whatever is written is read back: the same kind, number and body, neither code repaired; then the gap's two bytes
 pub read-back : (p : Profile) (s : Sent) → Writable p s → ReadsBack p s (written s) Clean Clean

@@ -41,13 +41,13 @@ same-finish (run w buffer ∷ cs) r = go (starts r (length buffer)) (allOneByOne
     go false ds = refl
 
 -- each call of the reader goes on as the meaning's, with its answer and its buffer
-goes-on : (p : Profile) (r : Reader) (s : State) (c : Call) → Follows p r s → Follows p (readerCall r c .reader) (meaningCall p s c .reader)
+pub goes-on : (p : Profile) (r : Reader) (s : State) (c : Call) → Follows p r s → Follows p (readerCall r c .reader) (meaningCall p s c .reader)
 goes-on p r s c f = alike p r s c f .follows
 
-says-same : (p : Profile) (r : Reader) (s : State) (c : Call) → Follows p r s → readerCall r c .answer ≡ meaningCall p s c .answer
+pub says-same : (p : Profile) (r : Reader) (s : State) (c : Call) → Follows p r s → readerCall r c .answer ≡ meaningCall p s c .answer
 says-same p r s c f = alike p r s c f .same-answer
 
-lends-same : (p : Profile) (r : Reader) (s : State) (c : Call) → Follows p r s → readerCall r c .buffer ≡ meaningCall p s c .buffer
+pub lends-same : (p : Profile) (r : Reader) (s : State) (c : Call) → Follows p r s → readerCall r c .buffer ≡ meaningCall p s c .buffer
 lends-same p r s c f = alike p r s c f .same-buffer
 
 -- calls without finish leave a fresh reader where the meaning is after the nibbles that they take

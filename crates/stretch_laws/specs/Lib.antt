@@ -1,0 +1,5 @@
+pub mod Stretches
+pub mod StretchesLaws
+pub mod StretchCallsLaws
+pub mod WholeLinesLaws
+pub mod Examples
