@@ -7,4 +7,5 @@ pub mod StandsFor
 pub mod Explained
 pub mod RunsExplained
 pub mod RunsExplainedLaws
+pub mod LentCalls
 pub mod Examples
