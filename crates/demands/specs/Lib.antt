@@ -7,5 +7,7 @@ pub mod DemandTwoLaws
 pub mod Examples
 pub mod FlipExamples
 pub mod StretchExamples
+pub mod WrongPrograms
+pub mod WrongProgramsLaws
 pub mod Captures
 pub mod CapturesLaws
