@@ -16,7 +16,8 @@ use Rattle.mark_text.specs.MarkText.{nothingKept}
 use Rattle.reader.specs.declared.Reader.{Reader}
 use Rattle.reader_head.specs.Head.{isMark, passes}
 use Rattle.explained.specs.Interchangeable.{headWith}
-use Rattle.explained.specs.Explained.{Explained, explained}
+use Rattle.explained.specs.Explained.{Explained}
+use Rattle.explained.specs.ExplainedLaws.{explained}
 
 -- a mark with the clean code of BL, and none before it
 abbrev openBL : Mark

@@ -26,7 +26,8 @@ use Rattle.reader.specs.Reader.{Took, takeHead, takeOutcome, taking, freshReade
 use Rattle.reader_laws.specs.Passes.{finished, fresh-ok, feed-ok, passes-test}
 use Rattle.reader_laws.specs.Passing.{Ok}
 use Rattle.refinement.specs.Refine.{no-body, finish-passed}
-use Rattle.explained.specs.Used.{Store, endsLine, SameUsed, no-nibbles, used-fewer, used-commit, answer-same}
+use Rattle.explained.specs.Explained.{Store}
+use Rattle.explained.specs.Used.{endsLine, SameUsed, no-nibbles, used-fewer, used-commit, answer-same}
 
 -- Readers.
 

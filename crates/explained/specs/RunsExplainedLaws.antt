@@ -25,7 +25,8 @@ use Rattle.refinement.specs.Refine.{fresh-follows, fedReader, fed-follows}
 use Rattle.refinement.specs.ReaderCalls.{gives, readerCall, calls-ok}
 use Rattle.refinement.specs.Runs.{RunCall, run, one, runResult}
 use Rattle.refinement.specs.RunsLaws.{fed-taken, run-starts, run-short}
-use Rattle.explained.specs.Explained.{Out, outs, TypedReader, explained}
+use Rattle.explained.specs.Explained.{Out, outs, TypedReader}
+use Rattle.explained.specs.ExplainedLaws.{explained}
 use Rattle.explained.specs.RunsExplained.{RunOut, runCount, runOuts, RunsExplained}
 
 -- Readers of one profile that pass the test and answer all later single calls alike.

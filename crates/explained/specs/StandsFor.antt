@@ -6,7 +6,7 @@ use mathlib.Core.List.{List, [], _∷_, _++_}
 use Prim.Native.Nat.{ℕ, zero, suc, _+_, _*_, _-_, _/_, _%_, _≤_, _<_, _^_}
 use native.Mathlib.Omega.{arith}
 use lib.Dec.{eqb, leb, ltb}
-use lib.ListN.{length, take, drop, getD, drop-of-length-le}
+use lib.ListN.{length, take, drop, drop-of-length-le}
 use lib.Seq.{take-all}
 use borrow.Author.Tests.{eqb-true, eqb-false, le-leb, lt-leb, leb-true, leb-false, lt-ltb, le-ltb}
 use Rattle.profile.specs.declared.Profile.{Profile}
@@ -22,16 +22,10 @@ use Rattle.reader_laws.specs.Passing.{Small, small-none, small-more, Byte, Fits
 use Rattle.reader_laws.specs.SmallLaws.{small-append}
 use Rattle.refinement.specs.Stored.{storedKept, storedBody, stored-length}
 use Rattle.explained.specs.Equivalent.{baseOf}
-use Rattle.explained.specs.Used.{Store, commit, byteNumbered, nibbleOf, commit-new, commit-old, endsLine, SameNibbles, SameUsed, no-nibbles}
+use Rattle.explained.specs.Explained.{Store, Typed}
+use Rattle.explained.specs.Used.{commit, byteNumbered, nibbleOf, commit-new, commit-old, endsLine, SameNibbles, SameUsed, no-nibbles}
 
 -- The nibbles kept.
-
--- what the fields' types say of a store: bytes, and so many of them
-pub record Typed (s : Store) : Type 0 where
-  pub first-byte : s .kept .first < 256
-  pub second-byte : s .kept .second < 256
-  pub size : length (s .body) ≡ longest
-  pub bytes : (i : ℕ) → getD (s .body) i 0 < 256
 
 byte-small : (s : Store) → Typed s → (j : ℕ) → byteNumbered s j < 256
 byte-small s h zero = omega arith

@@ -28,18 +28,14 @@ use Rattle.stream.specs.declared.Before.the-variants.{NoLine, RefusedLine, Hand
 use Rattle.stream.specs.declared.Mark.{Mark}
 use Rattle.stream.specs.declared.Mark.the-variants.{NoMark, Open}
 use Rattle.stream.specs.Answers.{facts, Outcome, line, goodGap, require}
-use Rattle.mark_text.specs.declared.Kept.{Kept}
 use Rattle.mark_text.specs.MarkText.{bodyPlace, strayAt, keptAt, bodyAt}
 use Rattle.mark_answer.specs.KeptAnswer.{keptLine, keptGap, keptByMeaning, keptByReading, keptAnswer}
 use Rattle.profile.specs.LayoutLaws.{body-small}
 use Rattle.refinement.specs.Stored.{byte-high, byte-low, byte-keep, body-high, body-low, refuses, wrong-length}
 use Rattle.reader_laws.specs.Bodies.{bodyBy, length-body}
+use Rattle.explained.specs.Explained.{Store}
 
 -- What is kept of a text, as one.
-
-pub record Store : Type 0 where
-  pub kept : Kept
-  pub body : List ℕ
 
 -- the nibble v of number k is kept
 abbrev pub commit : Profile → ℕ → ℕ → Store → Store
