@@ -2,8 +2,9 @@
 //! on purpose: a text is a vector of nibbles, and a mark is looked for at its end.
 //!
 //! The proved code is called through its safe wrapper (rust/), in types, and in numbers where no type lets a wrong call through. `random` and
-//! `streams` make what both are run on; `check` ends a run at the first difference.
+//! `streams` make what both are run on; `check` ends a run at the first difference. `c_reader` calls a reader in C that was written for speed.
 
+pub mod c_reader;
 pub mod check;
 pub mod judge;
 pub mod layout;

@@ -87,7 +87,7 @@ pub fn clean(random: &mut Random, profile: Profile, lines: usize) -> Vec<u8> {
 }
 
 /// Nibbles with many F and 0, in which marks come by chance.
-pub fn noise(random: &mut Random, length: usize) -> Vec<u8> {
+pub fn biased_noise(random: &mut Random, length: usize) -> Vec<u8> {
     (0..length)
         .map(|_| match random.below(4) {
             0 => 15,
@@ -95,6 +95,16 @@ pub fn noise(random: &mut Random, length: usize) -> Vec<u8> {
             _ => random.below(16) as u8,
         })
         .collect()
+}
+
+/// Nibbles of which each is any of the sixteen, alike.
+pub fn uniform_noise(random: &mut Random, length: usize) -> Vec<u8> {
+    (0..length).map(|_| random.below(16) as u8).collect()
+}
+
+/// The bytes of nibbles, the high one of each first; the last has an F more, where they are odd.
+pub fn packed(nibbles: &[u8]) -> Vec<u8> {
+    nibbles.chunks(2).map(|pair| pair[0] << 4 | pair.get(1).unwrap_or(&15)).collect()
 }
 
 /// A code byte: clean, with a bit or two flipped, or any.
@@ -194,7 +204,7 @@ pub fn stream(random: &mut Random, sort: Sort, profile: Profile) -> Vec<u8> {
                 let at = random.below(w.len());
                 let to = (at + random.below(10) * random.below(80)).min(w.len());
                 let new = random.below(3) * random.below(12);
-                let new = noise(random, new);
+                let new = biased_noise(random, new);
                 w.splice(at..to, new);
                 if w.is_empty() {
                     break;
@@ -211,7 +221,7 @@ pub fn stream(random: &mut Random, sort: Sort, profile: Profile) -> Vec<u8> {
         Sort::Broken => (0..lines).flat_map(|_| broken_line(random, profile)).collect(),
         Sort::Noisy => {
             let length = random.below(4000);
-            noise(random, length)
+            biased_noise(random, length)
         }
         Sort::Dense => {
             let spacing = random.below(24);

@@ -75,7 +75,7 @@ fn inputs(size: usize) -> Vec<(&'static str, Vec<u8>)> {
         let number = random.below(4096) as u16;
         pixels.extend(streams::written(Profile::P0, &streams::line(&mut random, Profile::P0, 3, number)));
     }
-    let noise = streams::noise(&mut random, size);
+    let noise = streams::biased_noise(&mut random, size);
     let dense = streams::dense(&mut random, size / 16, 16);
     vec![("clean frames", frames), ("random pixels", pixels), ("noise", noise), ("dense marks", dense)]
 }

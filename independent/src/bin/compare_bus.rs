@@ -208,7 +208,7 @@ fn compare_refused_states(random: &mut Random, count: &mut Count) {
     for turn in 0..20_000 {
         let mut state = if turn % 2 == 0 { vec![0; n] } else { (0..n).map(|_| random.byte()).collect() };
         raw::open((turn % 4 / 2) as u8, &mut state);
-        let nibbles = streams::noise(random, 40);
+        let nibbles = streams::biased_noise(random, 40);
         raw::feed(&mut state, &nibbles, &mut [0; LONGEST]);
         for _ in 0..random.below(4) + 1 {
             let place = random.below(14);
@@ -218,7 +218,7 @@ fn compare_refused_states(random: &mut Random, count: &mut Count) {
         let mut line = [0x44; LONGEST];
         let (empty, none) = raw::feed(&mut state, &[], &mut line);
         same("what no nibbles leave", &before, (&state, none, line), (&before, 0, [0x44; LONGEST]));
-        let nibbles = streams::noise(random, 400);
+        let nibbles = streams::biased_noise(random, 400);
         let (answer, taken) = raw::feed(&mut state, &nibbles, &mut line);
         same("11 for no nibbles", &before, empty == 11, answer == 11);
         if answer == 11 {

@@ -236,7 +236,7 @@ fn compare_any_bytes(random: &mut Random, times: usize, counted: &mut Counted) {
                 continue;
             }
             reader::open(random.pick(&[0, 1]), &mut place[1..]);
-            reader::feed(&mut place[1..], &streams::noise(random, 40), &mut [0; LONGEST]);
+            reader::feed(&mut place[1..], &streams::biased_noise(random, 40), &mut [0; LONGEST]);
             for _ in 0..random.below(3) {
                 place[1 + random.below(14)] = random.pick(&[0, 1, 2, 3, 6, 7, 255, 0x9D, 0x80]);
             }
@@ -247,7 +247,7 @@ fn compare_any_bytes(random: &mut Random, times: usize, counted: &mut Counted) {
                 0 => Call::Open(any_profile(random)),
                 1 => Call::Finish(place),
                 2 => Call::Close(place),
-                _ => Call::Feed(place, streams::noise(random, 400), line_buffer(random, Profile::P0)),
+                _ => Call::Feed(place, streams::biased_noise(random, 400), line_buffer(random, Profile::P0)),
             };
             let before = bytes.clone();
             let mut apart = bytes.clone();
