@@ -1,16 +1,17 @@
 -- At each turn the run from here on is the run from the start; past the body only a stray nibble is noted, and the places left fall.
-use mathlib.Core.Path.{refl}
+use mathlib.Core.Path.{sym, _∙_}
 use mathlib.Core.List.{List}
 use Prim.Native.Nat.{ℕ, _-_, _≤_}
 use native.Mathlib.Omega.{arith}
 use lib.ListN.{length}
 use denote.Ref.{now}
 use borrow.Author.Needs.{needs}
-use Rattle.reader.specs.ReaderLaws.{bump-more}
-use Rattle.run.specs.Parts.{Leads, strayed}
-use Rattle.run.proofs.Pairs.{head, Stands, Turn, turn, reads, fewer, stands-next, leads-past, leads-here, leads-on, here, reaches}
-use Rattle.run.proofs.past_body.Statement.{statement}
-use Rattle.run.proofs.past_body.Tie as tie
+use Rattle.reader_head.specs.HeadLaws.{bump-more}
+use Rattle.run_ahead.specs.Ahead.{pastBody}
+use Rattle.run_ahead.specs.Parts.{Leads, strayed}
+use Rattle.run_ahead.proofs.Pairs.{head, Stands, Turn, turn, reads, fewer, stands-next, leads-past, leads-here, leads-on, leads-to-end, not-here}
+use Rattle.run_ahead.proofs.past_body.Statement.{statement}
+use Rattle.run_ahead.proofs.past_body.Tie as tie
 
 abbrev Inv-loop : tie.InvT-loop
 Inv-loop s from profile at kept end count₀ window₀ stray₀ i₀ count window stray i =
@@ -21,7 +22,8 @@ abbrev μ-loop : tie.MeasureT-loop
 μ-loop s from profile at kept end count₀ window₀ stray₀ i₀ count window stray i = end - i
 
 returns : tie.Need-returns Inv-loop μ-loop
-returns c = let a = c .before .before .before .args in λ B. here (now (a .s)) (a .h) B (a .from) (search needs)
+returns c = let a = c .before .before .before .args in λ B.
+    leads-to-end _ _ _ _ _ _ _ (leads-here (now (a .s)) (a .h) B (a .from)) (not-here pastBody (now (a .s)) (a .h) (a .from) (c .before .before .before .pre .1) (c .if1 .taken))
 
 loop-holds : tie.Need-loop-holds Inv-loop μ-loop
 loop-holds c =
@@ -58,7 +60,7 @@ loop-again c =
     )
 
 returns-2 : tie.Need-returns-2 Inv-loop μ-loop
-returns-2 c = let l = c .before .before .loop in λ B. reaches (l .inv .0 B) refl (l .inv .1)
+returns-2 c = let l = c .before .before .loop in λ B. leads-to-end _ _ _ _ _ _ _ (l .inv .0 B) (sym (c .before .is-pair .ensures) ∙ c .if2 .left)
 
 pub past-body-spec : {M : Type 1} → statement M
 past-body-spec =

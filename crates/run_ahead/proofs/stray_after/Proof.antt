@@ -1,8 +1,8 @@
 -- Any byte below 255 has a nibble that is not F.
 use borrow.Author.Tests.{lt-ltb, le-ltb}
-use Rattle.run.specs.Parts.{strayAfter}
-use Rattle.run.proofs.stray_after.Statement.{statement}
-use Rattle.run.proofs.stray_after.Tie as tie
+use Rattle.run_ahead.specs.Parts.{strayAfter}
+use Rattle.run_ahead.proofs.stray_after.Statement.{statement}
+use Rattle.run_ahead.proofs.stray_after.Tie as tie
 
 returns : tie.Need-returns
 unfolding strayAfter

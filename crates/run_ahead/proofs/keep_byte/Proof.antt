@@ -1,9 +1,9 @@
 -- The byte that leaves at count 10 is the first after the code, at 12 the second; before that it is the code's own.
 use borrow.Author.Needs.{needs}
 use borrow.Author.Tests.{lt-ltb, le-ltb, eq-eqb, ne-eqb}
-use Rattle.run.specs.Parts.{byteKept}
-use Rattle.run.proofs.keep_byte.Statement.{statement}
-use Rattle.run.proofs.keep_byte.Tie as tie
+use Rattle.run_ahead.specs.Parts.{byteKept}
+use Rattle.run_ahead.proofs.keep_byte.Statement.{statement}
+use Rattle.run_ahead.proofs.keep_byte.Tie as tie
 
 returns : tie.Need-returns
 unfolding byteKept

@@ -1,8 +1,8 @@
 -- F at the nibbles 5, 4 and 3 of the window are one number, and the 0 at nibble 1 another.
 use borrow.Author.Tests.{eq-eqb, ne-eqb}
-use Rattle.run.specs.Parts.{isNear}
-use Rattle.run.proofs.is_near.Statement.{statement}
-use Rattle.run.proofs.is_near.Tie as tie
+use Rattle.run_ahead.specs.Ahead.{isNear}
+use Rattle.run_ahead.proofs.is_near.Statement.{statement}
+use Rattle.run_ahead.proofs.is_near.Tie as tie
 
 returns : tie.Need-returns
 unfolding isNear

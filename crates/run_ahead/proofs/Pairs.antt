@@ -1,41 +1,47 @@
 -- Two nibbles taken at once, where no mark can end in them, are two taken one by one: and the two that leave the window are one byte of
 -- the text, where the count is even.
 use mathlib.Core.Path.{_≡_, refl, sym, ap, ap₂, _∙_, subst}
-use mathlib.Core.Bool.{Bool, true, false, _||_, not, cond, true≢false}
-use mathlib.Core.List.{List}
+use mathlib.Core.Bool.{Bool, true, false, _||_, _&&_, not, cond}
+use mathlib.Core.List.{List, _∷_}
 use mathlib.Core.Logic.{_⊎_, inl, inr, ⊎-elim}
 use Prim.Native.Nat.{ℕ, _+_, _-_, _*_, _/_, _%_, _≤_, _<_}
 use native.Mathlib.Nat.{lt-of-not-le}
 use native.Mathlib.Decide.{decLe}
+use native.Mathlib.Numerals.{add-one}
 use native.Mathlib.Omega.{arith}
 use borrow.Author.Tests.{lt-ltb, le-ltb, le-leb, lt-leb, leb-true, eq-eqb, ne-eqb, not-true}
 use lib.Dec.{eqb, leb}
-use lib.ListN.{length, getD, set, drop}
-use lib.Seq.{set-set, getD-set-same}
+use lib.ListN.{length, getD, set, drop, drop-of-length-le}
+use lib.Seq.{set-set, getD-set-same, drop-cons}
 use Rattle.bits.specs.Every.{and-left, and-right}
 use Rattle.profile.specs.declared.Profile.{Profile}
 use Rattle.profile.specs.declared.Profile.the-variants.{VV5404, VV5300}
 use Rattle.profile.specs.Profile.{longest, gapStart}
 use Rattle.stream.specs.declared.Mark.{Mark}
-use Rattle.stream.specs.Answers.{nothing, answerFor, isAnswer}
 use Rattle.mark_text.specs.declared.Kept.{Kept}
 use Rattle.mark_text.specs.MarkText.{bodyPlace, byteAt, strayAt, keptAt, bodyAt}
 use Rattle.mark_text.specs.MarkTextLaws.{gap-start-small}
 use Rattle.reader_head.specs.declared.Head.{Head}
-use Rattle.reader.specs.declared.Reader.{Reader}
-use Rattle.reader_head.specs.Head.{topPlace, groupNumber, isMark, slide, countStop, bump, leaveKept, leaveBody, shifted}
-use Rattle.reader.specs.Reader.{Took, takeHead, takeOutcome, taking, readerOf}
-use Rattle.reader.specs.ReaderLaws.{bump-more}
-use Rattle.run.specs.declared.Reached.{Reached}
-use Rattle.run.specs.Run.{onward}
-use Rattle.run.specs.RunLaws.{onward-on}
-use Rattle.run.specs.Parts.{isNear, isPair, bytePlace, slideByte, strayAfter, strayKept, byteKept, strayed, Leads, Reaches}
+use Rattle.reader_head.specs.Head.{topPlace, slide, countStop, bump, leaveKept, leaveBody, shifted}
+use Rattle.reader_head.specs.HeadLaws.{bump-more}
+use Rattle.run_ahead.specs.declared.Reached.{Reached}
+use Rattle.run_ahead.specs.Ahead.{TakenAhead, aheadTo, isNear, arePair, takePairs, pastBody, aheadOf, AheadGives}
+use Rattle.run_ahead.specs.Parts.{isPair, bytePlace, slideByte, strayAfter, strayKept, byteKept, strayed, Leads, LeadsTo, Through, Reaches}
 
 abbrev pub high : List ℕ → ℕ → ℕ
 high s i = getD s i 0
 
 abbrev pub low : List ℕ → ℕ → ℕ
 low s i = getD s (i + 1) 0
+
+-- A number is below another, or not.
+
+from-dec : {l k : ℕ} → Dec (k ≤ l) → (l < k) ⊎ (k ≤ l)
+from-dec (yes a) = inr a
+from-dec (no h) = inl (lt-of-not-le h)
+
+lt-or-ge : (l k : ℕ) → (l < k) ⊎ (k ≤ l)
+lt-or-ge l k = from-dec (decLe k l)
 
 -- A loop over pairs.
 
@@ -91,69 +97,48 @@ module _ {s : List ℕ} {from end w i : ℕ} (t : Turn s from end w i) where
         within = t .stands .within;
       }
 
--- No mark ends in it.
-
--- a window that is near
-near-is : (w : ℕ) → w / 4096 % 4096 ≡ 4095 → w / 16 % 16 ≡ 0 → isNear w ≡ true
-unfolding isNear
-near-is w e f = simp (eq-eqb _ _ e, eq-eqb _ _ f)
-
-not-both : (b : Bool) → b ≡ false → b ≡ true → ⊥
-not-both b e f = true≢false (sym f ∙ e)
-
-far-one : (w x : ℕ) → x < 16 → isNear w ≡ false → isMark (slide w x) ≡ false
-unfolding isMark slide
-far-one w x l f = ne-eqb _ _ (λ (e : (w % topPlace * 16 + x) / 256 ≡ groupNumber). not-both _ f (near-is w (omega arith) (omega arith)))
+-- Two nibbles at a place.
 
 pub slide-two : (w x y : ℕ) → x < 16 → y < 16 → slide (slide w x) y ≡ slideByte w x y
 unfolding slide
 slide-two w x y l m = omega arith
 
-far-two : (w x y : ℕ) → x < 16 → y < 16 → isNear w ≡ false → isMark (slide (slide w x) y) ≡ false
-unfolding isMark
-far-two w x y l m f =
-    ap isMark (slide-two w x y l m)
-    ∙ ne-eqb _ _ (λ (e : (w % bytePlace * 256 + 16 * x + y) / 256 ≡ groupNumber). not-both _ f (near-is w (omega arith) (omega arith)))
-
--- One nibble that completes no mark, and two.
-
-abbrev quietly : Reader → ℕ → Took
-quietly r n = record { reader = record { head = shifted (r .head) n; body = leaveBody (r .head) (r .body) }; outcome = nothing }
-
-quiet : (r : Reader) (n : ℕ) → isMark (slide (r .head .window) n) ≡ false → taking r n ≡ quietly r n
-unfolding takeHead takeOutcome
-quiet r n e = simp e
-
 plus-two : (i : ℕ) → i + 1 + 1 ≡ i + 2
 plus-two i = omega arith
 
-one-on : (r : Reader) (s : List ℕ) (i : ℕ) → i < length s → getD s i 0 < 16 → isMark (slide (r .head .window) (getD s i 0)) ≡ false
-    → onward r (drop i s) i ≡ onward (quietly r (getD s i 0) .reader) (drop (i + 1) s) (i + 1)
-one-on r s i l h e =
-    let q = quiet r (getD s i 0) e in
-    onward-on r s i l h (ap (λ t. isAnswer (answerFor (t .outcome))) q) ∙ ap (λ t. onward (t .reader) (drop (i + 1) s) (i + 1)) q
+-- one stands there
+one-there : (s : List ℕ) (i : ℕ) → i < length s → drop i s ≡ getD s i 0 ∷ drop (i + 1) s
+one-there s i l = drop-cons s i 0 l ∙ ap (λ (k : ℕ). getD s i 0 ∷ drop k s) (sym (add-one i))
 
-module _ (r : Reader) {s : List ℕ} {from end i : ℕ} (t : Turn s from end (r .head .window) i) where
-  abbrev h₁ : Head
-  h₁ = shifted (r .head) (high s i)
+-- two stand there
+two-there : (s : List ℕ) (i : ℕ) → i + 2 ≤ length s → drop i s ≡ high s i ∷ (low s i ∷ drop (i + 2) s)
+two-there s i l =
+    one-there s i (omega arith)
+    ∙ ap (λ (t : List ℕ). getD s i 0 ∷ t) (one-there s (i + 1) (omega arith) ∙ ap (λ (k : ℕ). getD s (i + 1) 0 ∷ drop k s) (plus-two i))
 
-  pub two-on : onward r (drop i s) i
-      ≡ onward (readerOf (shifted h₁ (low s i)) (leaveBody h₁ (leaveBody (r .head) (r .body)))) (drop (i + 2) s) (i + 2)
+-- where they are a pair they are taken
+module _ (h : Head) (B : List ℕ) {s : List ℕ} {from end i : ℕ} (t : Turn s from end (h .window) i) where
+  pub two-on : takePairs h B (drop i s) i
+      ≡ takePairs (shifted (shifted h (high s i)) (low s i)) (leaveBody (shifted h (high s i)) (leaveBody h B)) (drop (i + 2) s) (i + 2)
   two-on =
-      let f = reads t .0 in
-      let w = r .head .window in
-      one-on r s i (omega arith) (t .high-small) (far-one w (high s i) (t .high-small) (t .far))
-      ∙ one-on (readerOf h₁ (leaveBody (r .head) (r .body))) s (i + 1) (omega arith) (t .low-small) (far-two w (high s i) (low s i) (t .high-small) (t .low-small) (t .far))
-      ∙ ap (λ (k : ℕ). onward (readerOf (shifted h₁ (low s i)) (leaveBody h₁ (leaveBody (r .head) (r .body)))) (drop k s) k) (plus-two i)
+      ap (λ (w : List ℕ). takePairs h B w i) (two-there s i (reads t .0))
+      ∙ simp (t .far, le-leb (high s i) 15 (let z = t .high-small in omega arith), le-leb (low s i) 15 (let z = t .low-small in omega arith))
+
+-- and where none stands the pairs end
+none-there : (s : List ℕ) (h : Head) (B : List ℕ) (i : ℕ) → isPair (h .window) s i (length s) ≡ false → takePairs h B (drop i s) i ≡ aheadTo h B i
+unfolding isPair
+none-there s h B i e =
+    ⊎-elim
+    (λ (a : length s < i + 1). ap (λ (w : List ℕ). takePairs h B w i) (drop-of-length-le s {i = i} (omega arith)))
+    (λ (a : i + 1 ≤ length s). ⊎-elim
+    (λ (b : length s < i + 2). ap (λ (w : List ℕ). takePairs h B w i)
+    (one-there s i (omega arith) ∙ ap (λ (w : List ℕ). getD s i 0 ∷ w) (drop-of-length-le s {i = i + 1} (omega arith))))
+    (λ (b : i + 2 ≤ length s). ap (λ (w : List ℕ). takePairs h B w i) (two-there s i b)
+    ∙ (let z : arePair (h .window) (high s i) (low s i) ≡ false = simp (le-leb 2 (length s - i) (omega arith)) at e in simp z))
+    (lt-or-ge (length s) (i + 2)))
+    (lt-or-ge (length s) (i + 1))
 
 -- What leaves the window.
-
-from-dec : {l k : ℕ} → Dec (k ≤ l) → (l < k) ⊎ (k ≤ l)
-from-dec (yes a) = inr a
-from-dec (no h) = inl (lt-of-not-le h)
-
-lt-or-ge : (l k : ℕ) → (l < k) ⊎ (k ≤ l)
-lt-or-ge l k = from-dec (decLe k l)
 
 -- the oldest nibble once one more has come
 next-top : (w x : ℕ) → x < 16 → slide w x / topPlace ≡ w / bytePlace % 16
@@ -305,9 +290,6 @@ body-two j u v B l k =
 
 -- Where a pair leads.
 
-abbrev state : Profile → Mark → Kept → List ℕ → ℕ → ℕ → Reader
-state p m t B c w = readerOf (head p m c w t) B
-
 module _ (p : Profile) (m : Mark) (c : ℕ) {w : ℕ} (t : Kept) (B : List ℕ) {s : List ℕ} {from end i : ℕ} (q : Turn s from end w i) where
   abbrev h₀ : Head
   h₀ = head p m c w t
@@ -317,9 +299,9 @@ module _ (p : Profile) (m : Mark) (c : ℕ) {w : ℕ} (t : Kept) (B : List ℕ) 
       → Leads s h₀ B i (head p m c′ (slideByte w (high s i) (low s i)) t′) B′ (i + 2)
   unfolding Leads
   leads-to c′ t′ B′ e f g =
-      two-on (state p m t B c w) q
-      ∙ ap₂ (λ n k. onward (readerOf (head p m n (slide (slide w (high s i)) (low s i)) k) (leaveBody (shifted h₀ (high s i)) (leaveBody h₀ B))) (drop (i + 2) s) (i + 2)) e f
-      ∙ ap₂ (λ n b. onward (readerOf (head p m c′ n t′) b) (drop (i + 2) s) (i + 2)) (slide-two w (high s i) (low s i) (q .high-small) (q .low-small)) g
+      two-on h₀ B q
+      ∙ ap₂ (λ n k. takePairs (head p m n (slide (slide w (high s i)) (low s i)) k) (leaveBody (shifted h₀ (high s i)) (leaveBody h₀ B)) (drop (i + 2) s) (i + 2)) e f
+      ∙ ap₂ (λ n b. takePairs (head p m c′ n t′) b (drop (i + 2) s) (i + 2)) (slide-two w (high s i) (low s i) (q .high-small) (q .low-small)) g
 
   pub leads-before : c < 14 → c % 2 ≡ 0 → Leads s h₀ B i (head p m (c + 2) (slideByte w (high s i) (low s i)) (byteKept p c (w / bytePlace) t)) B (i + 2)
   leads-before a even =
@@ -338,13 +320,14 @@ module _ (p : Profile) (m : Mark) (c : ℕ) {w : ℕ} (t : Kept) (B : List ℕ) 
       ∙ body-two j (w / topPlace) (w / bytePlace % 16) B a k
       ∙ ap (set B j) (let z : 16 * (w / topPlace) + w / bytePlace % 16 ≡ w / bytePlace = omega arith in z))
 
-  pub leads-in : (j : ℕ) → c ≡ 14 + 2 * j → j < longest → longest ≤ length B
-      → Leads s h₀ B i (head p m (14 + 2 * (j + 1)) (slideByte w (high s i) (low s i)) (strayed t (strayAfter (t .stray) (w / bytePlace)))) (set B j (w / bytePlace)) (i + 2)
-  leads-in j e a k =
+  -- what is put into the body is the byte that leaves the window
+  pub leads-in : (j v : ℕ) → c ≡ 14 + 2 * j → j < longest → longest ≤ length B → v ≡ w / bytePlace
+      → Leads s h₀ B i (head p m (14 + 2 * (j + 1)) (slideByte w (high s i) (low s i)) (strayed t (strayAfter (t .stray) (w / bytePlace)))) (set B j v) (i + 2)
+  leads-in j v e a k f =
       let b = bump-one c (omega arith) in
       let d = bump-one (c + 1) (omega arith) in
-      leads-to (14 + 2 * (j + 1)) (strayed t (strayAfter (t .stray) (w / bytePlace))) (set B j (w / bytePlace))
-      (ap bump b ∙ d ∙ (let z : c + 1 + 1 ≡ 14 + 2 * (j + 1) = omega arith in z)) (kept-after p m w t (high s i) (q .stands .small) (q .high-small) c (omega arith)) (stored-two j e a k b)
+      leads-to (14 + 2 * (j + 1)) (strayed t (strayAfter (t .stray) (w / bytePlace))) (set B j v)
+      (ap bump b ∙ d ∙ (let z : c + 1 + 1 ≡ 14 + 2 * (j + 1) = omega arith in z)) (kept-after p m w t (high s i) (q .stands .small) (q .high-small) c (omega arith)) (stored-two j e a k b ∙ ap (set B j) (sym f))
 
   pub leads-past : 726 ≤ c
       → Leads s h₀ B i (head p m (bump (bump c)) (slideByte w (high s i) (low s i)) (strayed t (strayAfter (t .stray) (w / bytePlace)))) B (i + 2)
@@ -364,20 +347,90 @@ pub leads-on : (s : List ℕ) (h : Head) (B : List ℕ) (i : ℕ) (h′ : Head) 
 unfolding Leads
 leads-on s h B i h′ B′ i′ h″ B″ i″ e f = e ∙ f
 
--- and in all
-pub here : (s : List ℕ) (h : Head) (B : List ℕ) (i : ℕ) → i ≤ length s → Reaches s h B i (record { head = h; at = i }) B
-here s h B i l = record { leads = leads-here s h B i; same-profile = refl; from-on = omega arith; within = l }
+-- up to a place where no pair stands
+pub leads-to-end : (s : List ℕ) (h : Head) (B : List ℕ) (i : ℕ) (h′ : Head) (B′ : List ℕ) (i′ : ℕ)
+    → Leads s h B i h′ B′ i′ → isPair (h′ .window) s i′ (length s) ≡ false → LeadsTo s h B i h′ B′ i′
+unfolding Leads LeadsTo
+leads-to-end s h B i h′ B′ i′ e f = e ∙ none-there s h′ B′ i′ f
 
-pub reaches : {s : List ℕ} {h : Head} {B : List ℕ} {from end w i : ℕ} {h′ : Head} {B′ : List ℕ} → Leads s h B from h′ B′ i → h′ .profile ≡ h .profile → Stands s from end w i
-    → Reaches s h B from (record { head = h′; at = i }) B′
-reaches e p st = record { leads = e; same-profile = p; from-on = st .from-on; within = omega (arith, st .up-to, st .within) }
+pub nothing-ahead : (s : List ℕ) (h : Head) (B : List ℕ) (i : ℕ) → length s ≤ i → LeadsTo s h B i h B i
+unfolding LeadsTo
+nothing-ahead s h B i l = ap (λ (w : List ℕ). takePairs h B w i) (drop-of-length-le s l)
 
-pub reaches-on : {s : List ℕ} {h : Head} {B : List ℕ} {from : ℕ} {r : Reached} {B′ : List ℕ} {r′ : Reached} {B″ : List ℕ} → Reaches s h B from r B′
-    → Reaches s (r .head) B′ (r .at) r′ B″ → Reaches s h B from r′ B″
-reaches-on {s} e f =
+pub led-to : (s : List ℕ) (h : Head) (B : List ℕ) (i : ℕ) (h′ : Head) (B′ : List ℕ) (i′ : ℕ) (h″ : Head) (B″ : List ℕ) (i″ : ℕ)
+    → Leads s h B i h′ B′ i′ → LeadsTo s h′ B′ i′ h″ B″ i″ → LeadsTo s h B i h″ B″ i″
+unfolding Leads LeadsTo
+led-to s h B i h′ B′ i′ h″ B″ i″ e f = e ∙ f
+
+-- A part of a text.
+
+-- that does not begin here
+pub not-here : (bound : ℕ) (s : List ℕ) (h : Head) (i : ℕ) → Through bound s h i → h .count < bound → isPair (h .window) s i (length s) ≡ false
+not-here bound s h i (inl a) l = absurd (omega (arith, a, l))
+not-here bound s h i (inr e) l = e
+
+-- where two inputs stand that are no pair, none stands up to a later end either
+shorter : (s : List ℕ) (w end i : ℕ) → isPair w s i end ≡ false → 2 ≤ end - i → end ≤ length s → isPair w s i (length s) ≡ false
+unfolding isPair
+shorter s w end i g b l =
+    let z : arePair w (high s i) (low s i) ≡ false = simp (le-leb 2 (end - i) b) at g in
+    simp (le-leb 2 (length s - i) (omega arith), z)
+
+-- whose loop ends: its end is the run's or the part's, whose nibbles are whole bytes
+pub ended : {s : List ℕ} {from end w i : ℕ} {t : Bool} (bound count : ℕ) → Stands s from end w i → t ≡ isPair w s i end → t ≡ false → bound % 2 ≡ count % 2
+    → (end ≡ length s) ⊎ (end + count ≡ i + bound) → (bound ≤ count) ⊎ (isPair w s i (length s) ≡ false)
+ended {s} {w = w} {i} bound count st e f even (inl a) = inr (ap (isPair w s i) (sym a) ∙ sym e ∙ f)
+ended {s} {end = end} {w} {i} bound count st e f even (inr a) =
+    ⊎-elim
+    (λ (b : end - i < 2). inl (omega (arith, st .up-to)))
+    (λ (b : 2 ≤ end - i). inr (shorter s w end i (sym e ∙ f) b (st .within)))
+    (lt-or-ge (end - i) 2)
+
+-- what it gives where it takes nothing, and where its loop ends
+pub here : {bound : ℕ} (s : List ℕ) (h : Head) (B : List ℕ) (i : ℕ) → i ≤ length s → Through bound s h i → Reaches bound s h B i (record { head = h; at = i }) B
+here s h B i l t = record { leads = leads-here s h B i; within = l; through = t }
+
+pub reaches : {bound : ℕ} {s : List ℕ} {h : Head} {B : List ℕ} {from end w i : ℕ} {h′ : Head} {B′ : List ℕ} → Leads s h B from h′ B′ i → Stands s from end w i
+    → Through bound s h′ i → Reaches bound s h B from (record { head = h′; at = i }) B′
+reaches e st t = record { leads = e; within = omega (arith, st .up-to, st .within); through = t }
+
+-- All of it.
+
+module _ (s : List ℕ) (h : Head) (B : List ℕ) (from : ℕ) where
+  pub wrong-body : (length B ≡ longest → ⊥) → aheadOf h B s from ≡ aheadTo h B from
+  unfolding aheadOf
+  wrong-body e = simp (ne-eqb (length B) longest e)
+
+  pub odd-count : h .count < pastBody → h .count % 2 ≡ 1 → aheadOf h B s from ≡ aheadTo h B from
+  unfolding aheadOf
+  odd-count l e = simp (lt-leb pastBody (h .count) l, e) (both (eqb (length B) longest))
+    where
+      both : (b : Bool) → cond (b && false) (takePairs h B (drop from s) from) (aheadTo h B from) ≡ aheadTo h B from
+      both true = refl
+      both false = refl
+
+  pub past-it : {h′ : Head} {B′ : List ℕ} {i′ : ℕ} → length B ≡ longest → pastBody ≤ h .count → LeadsTo s h B from h′ B′ i′ → aheadOf h B s from ≡ aheadTo h′ B′ i′
+  unfolding aheadOf LeadsTo
+  past-it e l f = simp (eq-eqb (length B) longest e, le-leb pastBody (h .count) l) f
+
+  pub even-count : {h′ : Head} {B′ : List ℕ} {i′ : ℕ} → length B ≡ longest → h .count % 2 ≡ 0 → LeadsTo s h B from h′ B′ i′ → aheadOf h B s from ≡ aheadTo h′ B′ i′
+  unfolding aheadOf LeadsTo
+  even-count e l f = simp (eq-eqb (length B) longest e, l, or-true) f
+
+  -- whatever the count and the body
+  pub wherever : LeadsTo s h B from h B from → aheadOf h B s from ≡ aheadTo h B from
+  unfolding aheadOf LeadsTo
+  wherever f = go (eqb (length B) longest && (leb pastBody (h .count) || eqb (h .count % 2) 0))
+    where
+      go : (b : Bool) → cond b (takePairs h B (drop from s) from) (aheadTo h B from) ≡ aheadTo h B from
+      go true = f
+      go false = refl
+
+-- what the call then gives
+pub gives-ahead : {t : TakenAhead} {r : Reached} {B : List ℕ} → t ≡ aheadTo (r .head) B (r .at) → AheadGives t r B
+gives-ahead e =
     record {
-      leads = leads-on s _ _ _ _ _ _ _ _ _ (e .leads) (f .leads);
-      same-profile = f .same-profile ∙ e .same-profile;
-      from-on = omega (arith, e .from-on, f .from-on);
-      within = f .within;
+      next = ap (λ (t : TakenAhead). t .head) (sym e);
+      keeps = ap (λ (t : TakenAhead). t .body) (sym e);
+      place = ap (λ (t : TakenAhead). t .at) (sym e);
     }

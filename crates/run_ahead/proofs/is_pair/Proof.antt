@@ -1,9 +1,9 @@
 -- Four tests, each of which ends the pair; past them two nibbles stand there, and no mark can end in them.
 use borrow.Author.Needs.{needs}
 use borrow.Author.Tests.{le-leb, lt-leb}
-use Rattle.run.specs.Parts.{isPair}
-use Rattle.run.proofs.is_pair.Statement.{statement}
-use Rattle.run.proofs.is_pair.Tie as tie
+use Rattle.run_ahead.specs.Parts.{isPair}
+use Rattle.run_ahead.proofs.is_pair.Statement.{statement}
+use Rattle.run_ahead.proofs.is_pair.Tie as tie
 
 returns : tie.Need-returns
 unfolding isPair

@@ -1,7 +1,7 @@
 -- In profile 0 each byte after the code must be F F; in profile 1 the two bytes are the gap's own, and nothing is noted.
 use borrow.Author.Needs.{needs}
-use Rattle.run.proofs.stray_kept.Statement.{statement}
-use Rattle.run.proofs.stray_kept.Tie as tie
+use Rattle.run_ahead.proofs.stray_kept.Statement.{statement}
+use Rattle.run_ahead.proofs.stray_kept.Tie as tie
 
 returns : tie.Need-returns
 returns c = simp (c .before .enum-told .given .1, c .stray-after .ensures)
