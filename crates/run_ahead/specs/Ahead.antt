@@ -18,6 +18,7 @@ pub record TakenAhead : Type 0 where
   pub body : List ℕ
   pub at : ℕ
 
+-- of these parts
 abbrev pub aheadTo : Head → List ℕ → ℕ → TakenAhead
 aheadTo h body i = record { head = h; body = body; at = i }
 

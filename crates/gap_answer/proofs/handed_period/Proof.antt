@@ -2,8 +2,8 @@
 use native.Mathlib.Omega.{arith}
 use Rattle.profile.specs.LayoutLaws.{body-small}
 use borrow.Author.Needs.{needs}
-use Rattle.mark_answer.proofs.handed_period.Statement.{statement}
-use Rattle.mark_answer.proofs.handed_period.Tie as tie
+use Rattle.gap_answer.proofs.handed_period.Statement.{statement}
+use Rattle.gap_answer.proofs.handed_period.Tie as tie
 
 mul-line : tie.Need-mul-line
 mul-line c = omega (arith, c .body-length .ensures, body-small (c .before .args .profile))

@@ -1,7 +1,7 @@
 -- By what the mark before was: after no line it is 8; after a line, refused or handed out, the gap decides, by that line's kind.
 use borrow.Author.Needs.{needs}
-use Rattle.mark_answer.proofs.end_answer.Statement.{statement}
-use Rattle.mark_answer.proofs.end_answer.Tie as tie
+use Rattle.gap_answer.proofs.end_answer.Statement.{statement}
+use Rattle.gap_answer.proofs.end_answer.Tie as tie
 
 returns : tie.Need-returns
 returns c = simp (c .enum-told .given .1)

@@ -8,12 +8,12 @@ use Rattle.profile.specs.declared.Profile.{Profile}
 use Rattle.profile.specs.declared.Profile.the-variants.{VV5404, VV5300}
 use Rattle.stream.specs.Answers.{refused}
 use Rattle.mark_text.specs.declared.Kept.{Kept}
-use Rattle.mark_answer.specs.KeptAnswer.{keptGap}
+use Rattle.gap_answer.specs.KeptGap.{keptGap}
 use borrow.Author.Tests.{le-leb, lt-leb}
 use Rattle.stream.specs.Answers.{require, goodGap}
 use borrow.Author.Needs.{needs}
-use Rattle.mark_answer.proofs.gap_answer.Statement.{statement}
-use Rattle.mark_answer.proofs.gap_answer.Tie as tie
+use Rattle.gap_answer.proofs.gap_answer.Statement.{statement}
+use Rattle.gap_answer.proofs.gap_answer.Tie as tie
 
 stray-refused : (p : Profile) (k : Kind) (n len : ℕ) (t : Kept) → t .stray ≡ true → keptGap p k n len t ≡ refused badGap
 unfolding require

@@ -1,8 +1,8 @@
 -- By what the mark before was: only a line that was handed out has a period.
 use borrow.Author.Needs.{needs}
 use Rattle.stream.specs.Answers.{periodOf}
-use Rattle.mark_answer.proofs.line_period.Statement.{statement}
-use Rattle.mark_answer.proofs.line_period.Tie as tie
+use Rattle.gap_answer.proofs.line_period.Statement.{statement}
+use Rattle.gap_answer.proofs.line_period.Tie as tie
 
 returns : tie.Need-returns
 unfolding periodOf

@@ -9,8 +9,8 @@ use borrow.Author.Tests.{eq-eqb, ne-eqb}
 use Rattle.profile.specs.LayoutLaws.{body-small}
 use Rattle.stream.specs.Answers.{require}
 use borrow.Author.Needs.{needs}
-use Rattle.mark_answer.proofs.line_answer.Statement.{statement}
-use Rattle.mark_answer.proofs.line_answer.Tie as tie
+use Rattle.line_answer.proofs.line_answer.Statement.{statement}
+use Rattle.line_answer.proofs.line_answer.Tie as tie
 
 -- what decoding says of the two bytes
 known : (a b n : ℕ) → decodeOf a b ≡ Number n → ((numberGood a && numberGood b) ≡ true) × (numberFrom a b ≡ n)

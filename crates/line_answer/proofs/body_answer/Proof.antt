@@ -14,8 +14,8 @@ use Rattle.profile.specs.Layout.{rules, fits}
 use Rattle.profile.specs.LayoutLaws.{rules-length, fits-length}
 use Rattle.stream.specs.Answers.{require}
 use borrow.Author.Needs.{needs}
-use Rattle.mark_answer.proofs.body_answer.Statement.{statement}
-use Rattle.mark_answer.proofs.body_answer.Tie as tie
+use Rattle.line_answer.proofs.body_answer.Statement.{statement}
+use Rattle.line_answer.proofs.body_answer.Tie as tie
 
 -- a body that is too short doesn't fit
 short : (p : Profile) (k : Kind) (body : List ℕ) → length body < bodyLength p → fits (rules p k) (take (bodyLength p) body) ≡ false
