@@ -27,7 +27,9 @@ use Rattle.stream.specs.declared.Mark.{Mark}
 use Rattle.stream.specs.declared.Mark.the-variants.{NoMark, Open}
 use Rattle.stream.specs.Answers.{facts, Outcome, nothing, line, gap, refused, require, goodGap, endsAt}
 use Rattle.mark_text.specs.declared.Kept.{Kept}
-use Rattle.mark_answer.specs.KeptAnswer.{keptAnswer, keptByReading, keptByMeaning, keptEnd, keptGap, keptLine}
+use Rattle.gap_answer.specs.KeptGap.{keptGap, keptEnd}
+use Rattle.line_answer.specs.KeptLine.{keptLine}
+use Rattle.mark_answer.specs.KeptAnswer.{keptAnswer, keptByReading, keptByMeaning}
 
 module _ (P : Outcome → Type 0) (p : Profile) (body : List ℕ) (next : Option ℕ) (of-nothing : P nothing)
     (of-refused : (n : ℕ) → 1 ≤ n → n ≤ 9 → P (refused n)) (of-gap : (g : GapFacts) → P (gap g))

@@ -1,19 +1,18 @@
--- What holds of any nibble taken: the profile stays, the count does not fall, and what is answered is
--- nothing or a mark's answer, and can be read off the answer and the lent buffer.
+-- What holds of any nibble taken: the profile stays, and what is answered is nothing or a mark's answer, and can be read off the answer and the
+-- lent buffer.
 use mathlib.Core.Path.{_≡_, refl}
 use mathlib.Core.Bool.{Bool, true, false, cond}
 use mathlib.Core.List.{List}
 use mathlib.Core.Option.{some}
-use Prim.Native.Nat.{ℕ, _+_, _-_, _%_, _≤_}
-use native.Mathlib.Omega.{arith}
-use lib.Dec.{leb, ltb}
+use Prim.Native.Nat.{ℕ, _-_, _%_}
+use lib.Dec.{leb}
 use Rattle.refusal.specs.Refusal.{badState, notANibble, noRoom}
 use Rattle.profile.specs.Profile.{bodyLength}
 use Rattle.stream.specs.Answers.{nothing}
 use Rattle.mark_answer.specs.Sound.{Sound, sound-nothing, kept-sound, Legible, legible}
 use Rattle.reader_head.specs.declared.Head.{Head}
 use Rattle.reader.specs.declared.Reader.{Reader}
-use Rattle.reader_head.specs.Head.{isMark, slide, countStop, bump, leaveKept, leaveBody, shifted, opened, passes}
+use Rattle.reader_head.specs.Head.{isMark, slide, leaveKept, leaveBody, shifted, opened, passes}
 use Rattle.reader.specs.Reader.{refusing, completeOutcome, takeHead, takeOutcome, taking, feedOf}
 
 pub take-profile : (h : Head) (handed : Bool) (n : ℕ) → takeHead h handed n .profile ≡ h .profile
@@ -23,14 +22,6 @@ take-profile h handed n = go (isMark (slide (h .window) n)) (slide (h .window) n
     go : (b : Bool) (c : ℕ) → cond b (opened h c handed) (shifted h n) .profile ≡ h .profile
     go true c = refl
     go false c = refl
-
-pub bump-more : (c : ℕ) → c ≤ bump c
-unfolding bump
-bump-more c = go (ltb c countStop)
-  where
-    go : (b : Bool) → c ≤ cond b (c + 1) c
-    go true = omega arith
-    go false = omega arith
 
 pub take-sound : (h : Head) (body : List ℕ) (n : ℕ) → Sound (h .profile) (takeOutcome h body n)
 unfolding takeOutcome

@@ -27,7 +27,8 @@ use Rattle.reader.specs.Reader.{Took, freshReader, refusing, takeHead, takeOutc
 use Rattle.reader_laws.specs.Passing.{Fits, Passed, Byte, Ok}
 use Rattle.mark_text.specs.MarkTextLaws.{gap-start-small}
 use Rattle.mark_answer.specs.Sound.{Sound, line-ends, kept-sound, refusalOf, at-most-nine}
-use Rattle.reader.specs.ReaderLaws.{bump-more, take-sound}
+use Rattle.reader_head.specs.HeadLaws.{bump-more}
+use Rattle.reader.specs.ReaderLaws.{take-sound}
 
 -- The test and its facts.
 

@@ -30,7 +30,9 @@ use Rattle.stream.specs.Answers.{Outcome, nothing, isLine, require, goodGap, pe
 use Rattle.stream.specs.Stream.{State, Step, Completed, not-yet, mark, detect, fresh, kindAt, beforeBy, answerAt, advance, step, finish, run, outcomes}
 use Rattle.mark_text.specs.declared.Kept.{Kept}
 use Rattle.mark_text.specs.MarkText.{bodyPlace, byteAt, strayAt, keptAt, bodyAt}
-use Rattle.mark_answer.specs.KeptAnswer.{keptLine, keptGap, keptEnd, keptByMeaning, keptByReading, keptAnswer}
+use Rattle.gap_answer.specs.KeptGap.{keptGap, keptEnd}
+use Rattle.line_answer.specs.KeptLine.{keptLine}
+use Rattle.mark_answer.specs.KeptAnswer.{keptByMeaning, keptByReading, keptAnswer}
 use Rattle.reader_head.specs.declared.Head.{Head}
 use Rattle.reader.specs.declared.Reader.{Reader}
 use Rattle.reader_head.specs.Head.{topPlace, isMark, slide, countStop, bump, leaveKept, leaveBody, shifted, opened, flushed}

@@ -32,7 +32,9 @@ use Rattle.stream.specs.Stream.{answerAt}
 use Rattle.mark_text.specs.declared.Kept.{Kept}
 use Rattle.reader_laws.specs.Bodies.{bodyBy, length-body}
 use Rattle.mark_text.specs.MarkText.{bodyPlace, nothingKept, byteAt, strayAt, keptAt, bodyAt}
-use Rattle.mark_answer.specs.KeptAnswer.{keptLine, keptGap, keptByMeaning, keptByReading, keptAnswer}
+use Rattle.gap_answer.specs.KeptGap.{keptGap}
+use Rattle.line_answer.specs.KeptLine.{keptLine}
+use Rattle.mark_answer.specs.KeptAnswer.{keptByMeaning, keptByReading, keptAnswer}
 use Rattle.profile.specs.LayoutLaws.{body-small}
 
 -- What is kept of a text, newest first, that has all left the window: the number of a nibble is the count of those older.

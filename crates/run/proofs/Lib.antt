@@ -1,3 +1,2 @@
 pub mod LegibleRuns
-pub mod Pairs
 pub mod Running

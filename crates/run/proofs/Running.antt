@@ -20,6 +20,16 @@ use Rattle.run.specs.declared.RunStepped.{RunStepped}
 use Rattle.run.specs.Gives.{RunGives, LentRunGives}
 use Rattle.run.specs.Parts.{ranFrom, Ends, Leads}
 
+-- from one place to the next, and on
+pub leads-here : (s : List ℕ) (h : Head) (B : List ℕ) (i : ℕ) → Leads s h B i h B i
+unfolding Leads
+leads-here s h B i = refl
+
+pub leads-on : (s : List ℕ) (h : Head) (B : List ℕ) (i : ℕ) (h′ : Head) (B′ : List ℕ) (i′ : ℕ) (h″ : Head) (B″ : List ℕ) (i″ : ℕ)
+    → Leads s h B i h′ B′ i′ → Leads s h′ B′ i′ h″ B″ i″ → Leads s h B i h″ B″ i″
+unfolding Leads
+leads-on s h B i h′ B′ i′ h″ B″ i″ e f = e ∙ f
+
 -- a turn that brings no answer
 pub leads-one : (s : List ℕ) (h : Head) (B : List ℕ) (i : ℕ) {h′ : Head} {B′ : List ℕ} → i < length s → getD s i 0 < 16 → h′ ≡ takeHead h (isLine (takeOutcome h B (getD s i 0))) (getD s i 0)
     → B′ ≡ leaveBody h B → isAnswer (answerFor (takeOutcome h B (getD s i 0))) ≡ false → Leads s h B i h′ B′ (i + 1)

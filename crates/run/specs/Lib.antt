@@ -2,3 +2,4 @@ pub mod Run
 pub mod RunLaws
 pub mod Gives
 pub mod Parts
+pub mod AheadLaws

@@ -1,6 +1,6 @@
 -- At each turn the run from here on is the run from the start and the buffer is as lent; a turn takes one nibble and the pairs after it.
 use mathlib.Core.Path.{_≡_, refl, sym, ap, _∙_}
-use Prim.Native.Nat.{_-_, _≤_}
+use Prim.Native.Nat.{_+_, _-_, _≤_}
 use native.Mathlib.Omega.{arith}
 use lib.ListN.{length, getD}
 use denote.Ref.{now}
@@ -10,10 +10,10 @@ use Rattle.stream.specs.Answers.{Outcome, bufferAfter, isAnswer}
 use Rattle.stream.specs.AnswersLaws.{no-answer}
 use Rattle.reader_head.specs.declared.Head.{Head}
 use Rattle.reader.specs.Reader.{takeOutcome}
-use Rattle.run.specs.Parts.{Leads}
 use Rattle.reader.specs.ReaderLaws.{take-profile}
-use Rattle.run.proofs.Pairs.{leads-here, leads-on}
-use Rattle.run.proofs.Running.{leads-one, stops-end, stops-above, stops-answered, ends, ends-as}
+use Rattle.run.specs.Parts.{Leads}
+use Rattle.run.specs.AheadLaws.{ahead-reaches}
+use Rattle.run.proofs.Running.{leads-here, leads-on, leads-one, stops-end, stops-above, stops-answered, ends, ends-as}
 use Rattle.run.proofs.up_to_stop.Statement.{statement}
 use Rattle.run.proofs.up_to_stop.Tie as tie
 
@@ -25,26 +25,30 @@ abbrev μ-loop : tie.MeasureT-loop
 μ-loop body₀ nibbles buffer₀ h₀ i₀ body buffer h i = length nibbles - i
 
 loop-holds : tie.Need-loop-holds Inv-loop μ-loop
-loop-holds c = (leads-here _ _ _ _, search needs, refl, search needs, refl)
+loop-holds c =
+    let a = c .before .before .before .before .before .before .before .before .args in
+    let first = ahead-reaches (now (a .nibbles)) (a .start) (now (a .body)) 0 (omega arith) (c .before .before .before .ahead .ensures) in
+    (leads-here _ _ _ _, first .within, refl, search needs, refl)
 
 same-length-2 : tie.Need-same-length-2 Inv-loop μ-loop
 same-length-2 c = ap length (c .before .before .before .before .loop .inv .2)
 
 returns : tie.Need-returns Inv-loop μ-loop
 returns c =
-    let ahead = c .before .before .before .before .before .before .before .before .ahead in
     let a = c .before .before .before .before .before .before .before .before .before .before .before .before .before .args in
+    let first = ahead-reaches (now (a .nibbles)) (a .start) (now (a .body)) 0 (omega arith) (c .before .before .before .before .before .before .before .before .ahead .ensures) in
     let l = c .before .before .before .before .loop in
     let e = c .refuse .ensures in
     let s = now (a .nibbles) in
-    let led = leads-on s _ _ _ _ _ _ _ _ _ (ahead .ensures .leads) (l .inv .0) in
+    let led = leads-on s _ _ _ _ _ _ _ _ _ (first .leads) (l .inv .0) in
     ends-as (ends (now (a .buffer)) (stops-above s _ _ _ _ _ led (c .before .before .before .loop-test .taken) (c .before .if1 .taken)) (e .1) (l .inv .2)) (e .0) refl (e .2)
 
 take-requires : tie.Need-take-requires Inv-loop μ-loop
 take-requires c κs =
-    let ahead = c .before .before .before .before .before .before .before .before .before .ahead in
+    let a = c .before .before .before .before .before .before .before .before .before .before .before .before .before .before .args in
+    let first = ahead-reaches (now (a .nibbles)) (a .start) (now (a .body)) 0 (omega arith) (c .before .before .before .before .before .before .before .before .before .ahead .ensures) in
     let l = c .before .before .before .before .before .loop in
-    let p = ap bodyLength (l .inv .4 ∙ ahead .ensures .same-profile) in
+    let p = ap bodyLength (l .inv .4 ∙ first .same-profile) in
     (omega arith, omega (arith, p, ap length (l .inv .2)), l .inv .3)
 
 add-i : tie.Need-add-i Inv-loop μ-loop
@@ -61,20 +65,23 @@ same-length-4 c =
 
 returns-2 : tie.Need-returns-2 Inv-loop μ-loop
 returns-2 c =
-    let ahead = c .before .before .before .before .before .before .before .before .before .before .before .before .before .before .before .before .before .ahead in
     let loop-test = c .before .before .before .before .before .before .before .before .before .before .before .before .loop-test in
     let a = c .before .before .before .before .before .before .before .before .before .before .before .before .before .before .before .before .before .before .before .before .before .before .args in
+    let first = ahead-reaches (now (a .nibbles)) (a .start) (now (a .body)) 0 (omega arith) (c .before .before .before .before .before .before .before .before .before .before .before .before .before .before .before .before .before .ahead .ensures) in
     let l = c .before .before .before .before .before .before .before .before .before .before .before .before .before .loop in
     let e = c .before .before .before .before .before .before .before .take .ensures in
     let s = now (a .nibbles) in
-    let led = leads-on s _ _ _ _ _ _ _ _ _ (ahead .ensures .leads) (l .inv .0) in
+    let led = leads-on s _ _ _ _ _ _ _ _ _ (first .leads) (l .inv .0) in
     let some = sym (c .before .is-answer .ensures ∙ ap isAnswer (e .says)) ∙ c .if2 .taken in
     ends-as (ends (now (a .buffer)) (stops-answered s _ _ _ _ _ led (loop-test .taken) (omega arith) some) (e .says) (e .leaves ∙ ap (bufferAfter (takeOutcome (l .h) (l .body) (getD s (l .i) 0))) (l .inv .2))) (e .next) (e .keeps) refl
 
 loop-less : tie.Need-loop-less Inv-loop μ-loop
 loop-less c =
     let loop-test = c .before .before .before .before .before .before .before .before .before .before .before .before .before .before .before .before .before .loop-test in
-    omega (arith, loop-test .taken, c .before .before .before .ahead2 .ensures .from-on, c .before .before .before .ahead2 .ensures .within)
+    let a = c .before .before .before .before .before .before .before .before .before .before .before .before .before .before .before .before .before .before .before .before .before .before .before .before .before .before .before .args in
+    let l = c .before .before .before .before .before .before .before .before .before .before .before .before .before .before .before .before .before .before .loop in
+    let f = ahead-reaches (now (a .nibbles)) _ _ (l .i + 1) (omega (arith, loop-test .taken)) (c .before .before .before .ahead2 .ensures) in
+    omega (arith, loop-test .taken, f .from-on, f .within)
 
 loop-again : tie.Need-loop-again Inv-loop μ-loop
 loop-again c =
@@ -82,8 +89,8 @@ loop-again c =
     let a = c .before .before .before .before .before .before .before .before .before .before .before .before .before .before .before .before .before .before .before .before .before .before .before .before .before .before .before .args in
     let l = c .before .before .before .before .before .before .before .before .before .before .before .before .before .before .before .before .before .before .loop in
     let e = c .before .before .before .before .before .before .before .before .before .before .before .before .take .ensures in
-    let f = c .before .before .before .ahead2 .ensures in
     let s = now (a .nibbles) in
+    let f = ahead-reaches s _ _ (l .i + 1) (omega (arith, loop-test .taken)) (c .before .before .before .ahead2 .ensures) in
     let quiet = sym (c .before .before .before .before .before .before .is-answer .ensures ∙ ap isAnswer (e .says)) ∙ c .before .before .before .before .before .if2 .left in (
       leads-on s _ _ _ _ _ _ _ _ _ (l .inv .0)
           (leads-on s _ _ _ _ _ _ _ _ _ (leads-one s (l .h) (l .body) (l .i) (loop-test .taken) (omega arith) (e .next) (e .keeps) quiet) (f .leads)),
@@ -101,7 +108,8 @@ returns-3 c =
     let a = c .before .before .before .before .before .before .before .before .before .before .args in
     let l = c .before .loop in
     let s = now (a .nibbles) in
-    let led = leads-on s _ _ _ _ _ _ _ _ _ (c .before .before .before .before .before .ahead .ensures .leads) (l .inv .0) in
+    let first = ahead-reaches s (a .start) (now (a .body)) 0 (omega arith) (c .before .before .before .before .before .ahead .ensures) in
+    let led = leads-on s _ _ _ _ _ _ _ _ _ (first .leads) (l .inv .0) in
     ends (now (a .buffer)) (stops-end s _ _ _ _ _ led (c .loop-test .left)) refl (l .inv .2)
 
 pub up-to-stop-spec : {M : Type 1} → statement M
