@@ -3,7 +3,7 @@ use mathlib.Core.Bool.{Bool, true, false, _&&_, cond}
 use mathlib.Core.List.{List, [], _∷_, _++_}
 use Prim.Native.Nat.{ℕ, zero, suc, _+_, _-_, _*_, _%_}
 use lib.Dec.{eqb, ltb, leb}
-use lib.ListN.{length, drop, getD, set, replicate}
+use lib.ListN.{drop, getD, set, replicate}
 use Rattle.text.specs.Text.{ascii, newline, decimal}
 use Rattle.saved_setting.specs.declared.SavedSetting.{SavedSetting}
 use Rattle.saved_setting.specs.SavedSettings.{isSavedList}
@@ -43,32 +43,33 @@ settingsText list = placeLines 8 list
 
 -- ---- the numbers of a text
 
--- the last numbers of a line, and what is gathered of a text, by names that laws elsewhere can say
+-- the last five numbers of a line, and what is gathered of a text, by names that laws elsewhere can say
 abbrev pub LineFields : Type 0
 LineFields = Fields
 
 abbrev pub TextGathered : Type 0
 TextGathered = Gathered
 
+-- before a line's first number
 abbrev pub noFields : Fields
-noFields = record { version = 0; fine = 0; coarse = 0; gain = 0; divisor = 0 }
+noFields = record { fifth = 0; fourth = 0; third = 0; second = 0; last = 0 }
 
 -- a digit more of the last number, which starts again from 0 after 65,535
 abbrev pub withDigit : Fields → ℕ → Fields
-withDigit f c = record { version = f .version; fine = f .fine; coarse = f .coarse; gain = f .gain; divisor = (10 * f .divisor + (c - 0x30)) % 65536 }
+withDigit f c = record { fifth = f .fifth; fourth = f .fourth; third = f .third; second = f .second; last = (10 * f .last + (c - 0x30)) % 65536 }
 
--- a number more, 0 so far
+-- a number more, 0 so far: it is the last now, the one before it the second from the end, and so on
 abbrev pub withField : Fields → Fields
-withField f = record { version = f .fine; fine = f .coarse; coarse = f .gain; gain = f .divisor; divisor = 0 }
+withField f = record { fifth = f .fourth; fourth = f .third; third = f .second; second = f .last; last = 0 }
 
 -- a digit makes the last number longer, a colon or a comma ends it
 unfoldable pub fieldsAfter : Fields → ℕ → Fields
 fieldsAfter f c =
     cond (leb 0x30 c) (cond (leb c 0x39) (withDigit f c) (cond (eqb c 0x3A) (withField f) f)) (cond (eqb c 0x2C) (withField f) f)
 
--- the setting of a line's last five numbers
+-- the setting of a line's five numbers, in the order of its text
 abbrev pub settingOfFields : Fields → SavedSetting
-settingOfFields f = record { version = f .version; fine = f .fine; coarse = f .coarse; gain = f .gain % 256; divisor = f .divisor % 256 }
+settingOfFields f = record { version = f .fifth; fine = f .fourth; coarse = f .third; gain = f .second % 256; divisor = f .last % 256 }
 
 -- a line's setting in its place; lines past the eighth have none
 abbrev pub withSettingLine : Gathered → Gathered
@@ -109,9 +110,15 @@ startsBy c (d ∷ text) = eqb d c
 unfoldable pub mayStand : ℕ → List ℕ → Bool
 mayStand c whole = cond (eqb c carriageReturn) true (startsBy c whole)
 
--- a text is another, but for its carriage returns and the other's last newline
+-- what may be left of the other at the text's end: nothing, or its last newline
+abbrev pub atMostNewline : List ℕ → Bool
+atMostNewline [] = true
+atMostNewline (c ∷ []) = eqb c newline
+atMostNewline (c ∷ d ∷ whole) = false
+
+-- a text is another: its carriage returns don't count, and the other's last newline may be missing
 abbrev pub isLike : List ℕ → List ℕ → Bool
-isLike [] whole = leb (length whole) 1
+isLike [] whole = atMostNewline whole
 isLike (c ∷ text) whole = mayStand c whole && isLike text (drop (coverOf c) whole)
 
 -- a text is a list's: that of the list of its numbers, and that list is ordered as it should be

@@ -11,7 +11,7 @@ ghost use Prim.Native.Nat.{_≤_};
 ghost use lib.ListN.{drop};
 ghost use Rattle.text.specs.Put.{Puts};
 ghost use Rattle.saved_setting.specs.SavedSettings.{isSavedList};
-ghost use Rattle.saved_text.specs.SettingsText.{field, settingLine, placeLine, settingsText, withDigit, withField, fieldsAfter, settingOfFields, noFields, withSettingLine, nothingGathered, gatheredAfter, numbersOf, coverOf, mayStand, isLike, restored};
+ghost use Rattle.saved_text.specs.SettingsText.{field, settingLine, placeLine, settingsText, withDigit, withField, fieldsAfter, settingOfFields, noFields, withSettingLine, nothingGathered, gatheredAfter, numbersOf, coverOf, mayStand, atMostNewline, isLike, restored};
 use saved_setting::Held;
 use saved_setting::SavedSetting;
 use saved_settings::find_held;
@@ -30,13 +30,13 @@ pub struct Restored {
     pub valid: bool,
 }
 
-// The last five numbers of a line, the newest last.
+// The last five numbers of a line, counted from its end: the last one is still being read.
 struct Fields {
-    version: u16,
-    fine: u16,
-    coarse: u16,
-    gain: u16,
-    divisor: u16,
+    fifth: u16,
+    fourth: u16,
+    third: u16,
+    second: u16,
+    last: u16,
 }
 
 // The settings of the lines so far, how many they are, and the numbers of the line that stands open.
@@ -196,11 +196,11 @@ fn no_fields() -> Fields
     ensures { λ r. ⌜ r ≡ noFields ⌝ }
 {
     Fields {
-        version: 0,
-        fine: 0,
-        coarse: 0,
-        gain: 0,
-        divisor: 0,
+        fifth: 0,
+        fourth: 0,
+        third: 0,
+        second: 0,
+        last: 0,
     }
 }
 
@@ -208,11 +208,11 @@ fn setting_of(fields: Fields) -> SavedSetting
     ensures { λ r. ⌜ r ≡ settingOfFields fields ⌝ }
 {
     SavedSetting {
-        version: fields.version,
-        fine: fields.fine,
-        coarse: fields.coarse,
-        gain: (fields.gain % 256) as u8,
-        divisor: (fields.divisor % 256) as u8,
+        version: fields.fifth,
+        fine: fields.fourth,
+        coarse: fields.third,
+        gain: (fields.second % 256) as u8,
+        divisor: (fields.last % 256) as u8,
     }
 }
 
@@ -239,13 +239,13 @@ fn with_digit(fields: Fields, c: u8) -> Fields
     requires { ⌜ 0x30 ≤ c ⌝ }
     ensures { λ r. ⌜ r ≡ withDigit fields c ⌝ }
 {
-    let number = (10 * fields.divisor as u32 + (c - b'0') as u32) % 65536;
+    let number = (10 * fields.last as u32 + (c - b'0') as u32) % 65536;
     Fields {
-        version: fields.version,
-        fine: fields.fine,
-        coarse: fields.coarse,
-        gain: fields.gain,
-        divisor: number as u16,
+        fifth: fields.fifth,
+        fourth: fields.fourth,
+        third: fields.third,
+        second: fields.second,
+        last: number as u16,
     }
 }
 
@@ -253,15 +253,15 @@ fn with_field(fields: Fields) -> Fields
     ensures { λ r. ⌜ r ≡ withField fields ⌝ }
 {
     Fields {
-        version: fields.fine,
-        fine: fields.coarse,
-        coarse: fields.gain,
-        gain: fields.divisor,
-        divisor: 0,
+        fifth: fields.fourth,
+        fourth: fields.third,
+        third: fields.second,
+        second: fields.last,
+        last: 0,
     }
 }
 
-// Whether a text is another, but for its carriage returns and the other's last newline.
+// Whether a text is another: its carriage returns don't count, and the other's last newline may be missing.
 fn is_like(text: &[u8], whole: &[u8]) -> bool
     ensures { λ r. ⌜ r ≡ isLike (now (text .entry)) (now (whole .entry)) ⌝ }
 {
@@ -276,8 +276,18 @@ fn is_like(text: &[u8], whole: &[u8]) -> bool
             return false;
         }
     }
-    if whole.len() <= at + 1 {
+    at_most_newline(whole, at)
+}
+
+// Whether nothing is left of the other text from a place on, or its last newline.
+fn at_most_newline(whole: &[u8], at: usize) -> bool
+    ensures { λ r. ⌜ r ≡ atMostNewline (drop at (now (whole .entry))) ⌝ }
+{
+    if whole.len() <= at {
         return true;
+    }
+    if whole.len() == at + 1 {
+        return whole[at] == b'\n';
     }
     false
 }

@@ -11,24 +11,24 @@ use Rattle.saved_text.specs.SettingsText.{LineFields, TextGathered, unused, noF
 use Rattle.saved_text_laws.specs.SettingsRead.{InFields, AllInFields}
 
 record InLine (f : LineFields) : Type 0 where
-  version : f .version ≤ 65535
-  fine : f .fine ≤ 65535
-  coarse : f .coarse ≤ 65535
-  gain : f .gain ≤ 65535
-  divisor : f .divisor ≤ 65535
+  fifth : f .fifth ≤ 65535
+  fourth : f .fourth ≤ 65535
+  third : f .third ≤ 65535
+  second : f .second ≤ 65535
+  last : f .last ≤ 65535
 
 record InText (g : TextGathered) : Type 0 where
   list : AllInFields (g .list)
   fields : InLine (g .fields)
 
 none-in : InLine noFields
-none-in = record { version = omega arith; fine = omega arith; coarse = omega arith; gain = omega arith; divisor = omega arith }
+none-in = record { fifth = omega arith; fourth = omega arith; third = omega arith; second = omega arith; last = omega arith }
 
 digit-in : (f : LineFields) (c : ℕ) → InLine f → InLine (withDigit f c)
-digit-in f c r = record { version = r .version; fine = r .fine; coarse = r .coarse; gain = r .gain; divisor = omega arith }
+digit-in f c r = record { fifth = r .fifth; fourth = r .fourth; third = r .third; second = r .second; last = omega arith }
 
 field-in : (f : LineFields) → InLine f → InLine (withField f)
-field-in f r = record { version = r .fine; fine = r .coarse; coarse = r .gain; gain = r .divisor; divisor = omega arith }
+field-in f r = record { fifth = r .fourth; fourth = r .third; third = r .second; second = r .last; last = omega arith }
 
 after-in : (f : LineFields) (c : ℕ) → InLine f → InLine (fieldsAfter f c)
 unfolding fieldsAfter
@@ -43,7 +43,7 @@ set-in (x ∷ list) zero s r h = (h, r .1)
 set-in (x ∷ list) (suc i) s r h = (r .0, set-in list i s (r .1) h)
 
 setting-in : (f : LineFields) → InLine f → InFields (settingOfFields f)
-setting-in f r = record { version = r .version; fine = r .fine; coarse = r .coarse; gain = omega arith; divisor = omega arith }
+setting-in f r = record { version = r .fifth; fine = r .fourth; coarse = r .third; gain = omega arith; divisor = omega arith }
 
 line-in : (g : TextGathered) → InText g → InText (withSettingLine g)
 line-in g r =

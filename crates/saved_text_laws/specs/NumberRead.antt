@@ -18,7 +18,7 @@ gatheredWith g f = record { list = g .list; count = g .count; fields = f }
 
 -- numbers, with another last one
 abbrev withLast : LineFields → ℕ → LineFields
-withLast f n = record { version = f .version; fine = f .fine; coarse = f .coarse; gain = f .gain; divisor = n }
+withLast f n = record { fifth = f .fifth; fourth = f .fourth; third = f .third; second = f .second; last = n }
 
 -- over one text after another
 pub over-append : (g : TextGathered) (s t : List ℕ) → gatheredOver g (s ++ t) ≡ gatheredOver (gatheredOver g s) t
@@ -69,7 +69,7 @@ module _ (g : TextGathered) (f : LineFields) where
 
 -- the numbers of a setting
 abbrev pub fieldsOf : SavedSetting → LineFields
-fieldsOf s = record { version = s .version; fine = s .fine; coarse = s .coarse; gain = s .gain; divisor = s .divisor }
+fieldsOf s = record { fifth = s .version; fourth = s .fine; third = s .coarse; second = s .gain; last = s .divisor }
 
 pub setting-back : (s : SavedSetting) → InFields s → settingOfFields (fieldsOf s) ≡ s
 setting-back s r =
@@ -83,10 +83,10 @@ over-two g h s t e d = over-append g s t ∙ ap (λ (x : TextGathered). gathered
 pub line-read : (g : TextGathered) (s : SavedSetting) → InFields s → gatheredOver (gatheredWith g noFields) (settingLine s) ≡ withSettingLine (gatheredWith g (fieldsOf s))
 unfolding gatheredAfter fieldsAfter
 line-read g s r =
-    let f1 : LineFields = record { version = 0; fine = 0; coarse = 0; gain = 0; divisor = s .version } in
-    let f2 : LineFields = record { version = 0; fine = 0; coarse = 0; gain = s .version; divisor = s .fine } in
-    let f3 : LineFields = record { version = 0; fine = 0; coarse = s .version; gain = s .fine; divisor = s .coarse } in
-    let f4 : LineFields = record { version = 0; fine = s .version; coarse = s .fine; gain = s .coarse; divisor = s .gain } in
+    let f1 : LineFields = record { fifth = 0; fourth = 0; third = 0; second = 0; last = s .version } in
+    let f2 : LineFields = record { fifth = 0; fourth = 0; third = 0; second = s .version; last = s .fine } in
+    let f3 : LineFields = record { fifth = 0; fourth = 0; third = s .version; second = s .fine; last = s .coarse } in
+    let f4 : LineFields = record { fifth = 0; fourth = s .version; third = s .fine; second = s .coarse; last = s .gain } in
     over-two (gatheredWith g noFields) (gatheredWith g f1) (field (ascii "version ") (s .version)) _
     (field-read g f1 (gatheredWith g noFields) (ascii "version ") (s .version) (r .version) refl)
     (over-two (gatheredWith g f1) (gatheredWith g f2) (field (ascii ": fine ") (s .fine)) _
