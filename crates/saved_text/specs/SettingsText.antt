@@ -7,6 +7,8 @@ use lib.ListN.{drop, getD, set, replicate}
 use Rattle.text.specs.Text.{ascii, newline, decimal}
 use Rattle.saved_setting.specs.declared.SavedSetting.{SavedSetting}
 use Rattle.saved_setting.specs.SavedSettings.{isSavedList}
+use Rattle.saved_text.specs.declared.FieldName.{FieldName}
+use Rattle.saved_text.specs.declared.FieldName.the-variants.{Version, Fine, Coarse, Gain, Divisor}
 use Rattle.saved_text.specs.declared.Fields.{Fields}
 use Rattle.saved_text.specs.declared.Gathered.{Gathered}
 use Rattle.saved_text.specs.declared.Restored.{Restored}
@@ -43,33 +45,61 @@ settingsText list = placeLines 8 list
 
 -- ---- the numbers of a text
 
--- the last five numbers of a line, and what is gathered of a text, by names that laws elsewhere can say
+-- the five numbers of a line, with the name of the one that is being read, and what is gathered of a text, by names that laws elsewhere can say
 abbrev pub LineFields : Type 0
 LineFields = Fields
 
 abbrev pub TextGathered : Type 0
 TextGathered = Gathered
 
--- before a line's first number
+-- at a line's start
 abbrev pub noFields : Fields
-noFields = record { fifth = 0; fourth = 0; third = 0; second = 0; last = 0 }
+noFields = record { version = 0; fine = 0; coarse = 0; gain = 0; divisor = 0; name = Version }
 
--- a digit more of the last number, which starts again from 0 after 65,535
+-- the number of a name
+abbrev pub numberOf : FieldName → Fields → ℕ
+numberOf Version f = f .version
+numberOf Fine f = f .fine
+numberOf Coarse f = f .coarse
+numberOf Gain f = f .gain
+numberOf Divisor f = f .divisor
+
+-- with another number of a name, which is being read
+abbrev pub withNumber : FieldName → Fields → ℕ → Fields
+withNumber Version f n = record { version = n; fine = f .fine; coarse = f .coarse; gain = f .gain; divisor = f .divisor; name = Version }
+withNumber Fine f n = record { version = f .version; fine = n; coarse = f .coarse; gain = f .gain; divisor = f .divisor; name = Fine }
+withNumber Coarse f n = record { version = f .version; fine = f .fine; coarse = n; gain = f .gain; divisor = f .divisor; name = Coarse }
+withNumber Gain f n = record { version = f .version; fine = f .fine; coarse = f .coarse; gain = n; divisor = f .divisor; name = Gain }
+withNumber Divisor f n = record { version = f .version; fine = f .fine; coarse = f .coarse; gain = f .gain; divisor = n; name = Divisor }
+
+-- a number with a digit more; it starts again from 0 after 65,535
+abbrev pub withOneMore : ℕ → ℕ → ℕ
+withOneMore n c = (10 * n + (c - 0x30)) % 65536
+
+-- a digit more of the number that is being read
 abbrev pub withDigit : Fields → ℕ → Fields
-withDigit f c = record { fifth = f .fifth; fourth = f .fourth; third = f .third; second = f .second; last = (10 * f .last + (c - 0x30)) % 65536 }
+withDigit f c = withNumber (f .name) f (withOneMore (numberOf (f .name) f) c)
 
--- a number more, 0 so far: it is the last now, the one before it the second from the end, and so on
+-- the numbers of a line in the order of its text; the divisor is the last
+abbrev pub nextName : FieldName → FieldName
+nextName Version = Fine
+nextName Fine = Coarse
+nextName Coarse = Gain
+nextName Gain = Divisor
+nextName Divisor = Divisor
+
+-- the next number is read
 abbrev pub withField : Fields → Fields
-withField f = record { fifth = f .fourth; fourth = f .third; third = f .second; second = f .last; last = 0 }
+withField f = record { version = f .version; fine = f .fine; coarse = f .coarse; gain = f .gain; divisor = f .divisor; name = nextName (f .name) }
 
--- a digit makes the last number longer, a colon or a comma ends it
+-- a digit makes the number that is being read longer, a colon or a comma ends it
 unfoldable pub fieldsAfter : Fields → ℕ → Fields
 fieldsAfter f c =
     cond (leb 0x30 c) (cond (leb c 0x39) (withDigit f c) (cond (eqb c 0x3A) (withField f) f)) (cond (eqb c 0x2C) (withField f) f)
 
--- the setting of a line's five numbers, in the order of its text
+-- the setting of a line's five numbers
 abbrev pub settingOfFields : Fields → SavedSetting
-settingOfFields f = record { version = f .fifth; fine = f .fourth; coarse = f .third; gain = f .second % 256; divisor = f .last % 256 }
+settingOfFields f = record { version = f .version; fine = f .fine; coarse = f .coarse; gain = f .gain % 256; divisor = f .divisor % 256 }
 
 -- a line's setting in its place; lines past the eighth have none
 abbrev pub withSettingLine : Gathered → Gathered
