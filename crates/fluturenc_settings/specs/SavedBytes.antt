@@ -14,12 +14,8 @@ use Rattle.two_wire_write.specs.Writing.{writeOf}
 use Rattle.setting_registers.specs.SettingRegisters.{settingPairs}
 use Rattle.saved_setting.specs.declared.SavedSetting.{SavedSetting}
 use Rattle.saved_setting.specs.declared.Wanted.{Wanted}
-use Rattle.saved_setting.specs.declared.Saved.{Saved}
-use Rattle.saved_setting.specs.declared.Saved.the-variants as saved
-use Rattle.saved_setting.specs.declared.Held.{Held}
-use Rattle.saved_setting.specs.declared.Held.the-variants as held
-use Rattle.saved_setting.specs.declared.SavedList.{SavedList}
-use Rattle.saved_setting.specs.SavedSettings.{settingPlaces}
+use Rattle.saved_setting.specs.SavedSettings as reply
+use Rattle.saved_setting.specs.SavedSettings.{Reply, settingPlaces, ListReply}
 use Rattle.fluturenc_settings.specs.declared.FourPlaces.{FourPlaces}
 
 -- the bytes of a place, and of a list
@@ -72,31 +68,31 @@ wantedOf fine coarse gain divisor rate = record { fine = fine; coarse = coarse; 
 
 -- Saving, and going back: 0 or the refusal; the new version, 0 where nothing is saved; the list.
 
-abbrev pub savedNumber : Saved → ℕ
-savedNumber (saved.Version v) = 0
-savedNumber (saved.Refused n) = n
+abbrev pub savedNumber : Reply ℕ → ℕ
+savedNumber (reply.yields v) = 0
+savedNumber (reply.refused n) = n
 
-abbrev pub savedVersion : Saved → ℕ
-savedVersion (saved.Version v) = v
-savedVersion (saved.Refused n) = 0
+abbrev pub savedVersion : Reply ℕ → ℕ
+savedVersion (reply.yields v) = v
+savedVersion (reply.refused n) = 0
 
 -- the list afterwards: a refusal leaves the bytes as they were
-abbrev pub bytesAfter : Saved → List SavedSetting → List ℕ → List ℕ
-bytesAfter (saved.Version v) list before = listBytes list
-bytesAfter (saved.Refused n) list before = before
+abbrev pub bytesAfter : Reply ℕ → List SavedSetting → List ℕ → List ℕ
+bytesAfter (reply.yields v) list before = listBytes list
+bytesAfter (reply.refused n) list before = before
 
-pub record SaveGives (said : SavedList) (answer version : ℕ) (before after : List ℕ) : Type 0 where
-  pub says : answer ≡ savedNumber (said .answer)
-  pub gives : version ≡ savedVersion (said .answer)
-  pub leaves : after ≡ bytesAfter (said .answer) (said .list) before
+pub record SaveGives (said : ListReply) (answer version : ℕ) (before after : List ℕ) : Type 0 where
+  pub says : answer ≡ savedNumber (said .reply)
+  pub gives : version ≡ savedVersion (said .reply)
+  pub leaves : after ≡ bytesAfter (said .reply) (said .list) before
 
 -- Finding: the setting's bytes at the front of what is lent for them, or 12, and the refusal where nothing is found.
-abbrev pub foundCall : Held → List ℕ → Called
-foundCall (held.Setting s) b =
+abbrev pub foundCall : Reply SavedSetting → List ℕ → Called
+foundCall (reply.yields s) b =
     cond (leb placeSize (length b)) (record { answer = 0; state = placeBytes s ++ drop placeSize b }) (record { answer = noRoom; state = b })
-foundCall (held.Refused n) b = record { answer = n; state = b }
+foundCall (reply.refused n) b = record { answer = n; state = b }
 
 -- The messages of what is found, of the room.
-abbrev pub messagesOf : Held → ℕ → Output
-messagesOf (held.Setting s) room = writeOf (settingPairs s) room
-messagesOf (held.Refused n) room = refused n
+abbrev pub messagesOf : Reply SavedSetting → ℕ → Output
+messagesOf (reply.yields s) room = writeOf (settingPairs s) room
+messagesOf (reply.refused n) room = refused n

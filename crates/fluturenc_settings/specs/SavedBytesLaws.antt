@@ -13,10 +13,7 @@ use Rattle.bits.specs.Every.{and-left}
 use Rattle.refusal.specs.Refusal.{notSavedSettings}
 use Rattle.line_list.specs.Lines.{fromTwo}
 use Rattle.saved_setting.specs.declared.SavedSetting.{SavedSetting}
-use Rattle.saved_setting.specs.declared.Saved.{Saved}
-use Rattle.saved_setting.specs.declared.Saved.the-variants as saved
-use Rattle.saved_setting.specs.declared.SavedList.{SavedList}
-use Rattle.saved_setting.specs.SavedSettings.{mayFollow, settingPlaces, versionsInOrder, isSavedList, keepingList, savedWanted, foundIn, savedAgain}
+use Rattle.saved_setting.specs.SavedSettings.{Reply, yields, refused, mayFollow, settingPlaces, versionsInOrder, isSavedList, ListReply, keepingList, savedWanted, foundIn, savedAgain}
 use Rattle.saved_settings_laws.specs.Histories.{usedOf, SettingCall, saving, goingBack, calledOn, afterCalls}
 use Rattle.saved_settings_laws.specs.OrderLaws.{sides}
 use Rattle.saved_settings_laws.specs.HistoryLaws.{refusal-keeps, stays-ordered}
@@ -99,16 +96,16 @@ fresh-list = (refl, refl)
 
 -- the bytes after a call, and after some
 abbrev pub bytesCalled : List ℕ → SettingCall → List ℕ
-bytesCalled b c = bytesAfter (calledOn (listIn b) c .answer) (calledOn (listIn b) c .list) b
+bytesCalled b c = bytesAfter (calledOn (listIn b) c .reply) (calledOn (listIn b) c .list) b
 
 abbrev pub bytesAfterCalls : List ℕ → List SettingCall → List ℕ
 bytesAfterCalls b [] = b
 bytesAfterCalls b (c ∷ calls) = bytesAfterCalls (bytesCalled b c) calls
 
-left-by : (b : List ℕ) (list : List SavedSetting) (a : Saved) → length list ≡ settingPlaces → ((n : ℕ) → a ≡ saved.Refused n → list ≡ listIn b)
+left-by : (b : List ℕ) (list : List SavedSetting) (a : Reply ℕ) → length list ≡ settingPlaces → ((n : ℕ) → a ≡ refused n → list ≡ listIn b)
     → listIn (bytesAfter a list b) ≡ list
-left-by b list (saved.Version v) long same = list-back list long
-left-by b list (saved.Refused n) long same = sym (same n refl)
+left-by b list (yields v) long same = list-back list long
+left-by b list (refused n) long same = sym (same n refl)
 
 out-of-order : (list : List SavedSetting) (c : SettingCall) → isSavedList list ≡ false → calledOn list c ≡ keepingList notSavedSettings list
 unfolding savedWanted savedAgain foundIn
@@ -121,10 +118,10 @@ call-left b c =
     sides (isSavedList (listIn b))
     (λ ok.
     let after : List SavedSetting = calledOn (listIn b) c .list in
-    left-by b after (calledOn (listIn b) c .answer)
+    left-by b after (calledOn (listIn b) c .reply)
     (eqb-true (length after) settingPlaces (and-left (eqb (length after) settingPlaces) (versionsInOrder after) (stays-ordered (listIn b) c ok)))
     (refusal-keeps (listIn b) c))
-    (λ no. subst (λ (o : SavedList). listIn (bytesAfter (o .answer) (o .list) b) ≡ o .list) (sym (out-of-order (listIn b) c no)) refl)
+    (λ no. subst (λ (o : ListReply). listIn (bytesAfter (o .reply) (o .list) b) ≡ o .list) (sym (out-of-order (listIn b) c no)) refl)
 
 -- whatever calls are made, what the bytes hold is the list that the same calls leave
 pub calls-left : (b : List ℕ) (calls : List SettingCall) → listIn (bytesAfterCalls b calls) ≡ afterCalls (listIn b) calls

@@ -20,7 +20,7 @@ ghost use lib.Seq.{sets};
 ghost use Rattle.lent_call.specs.LentCall.{StateGives, WriteGives};
 ghost use Rattle.lent_buffer.specs.Filled.{Gives};
 ghost use Rattle.line_list.specs.Lines.{fromTwo};
-ghost use Rattle.saved_setting.specs.SavedSettings.{savedWanted, foundIn, savedAgain, placesOf};
+ghost use Rattle.saved_setting.specs.SavedSettings.{savedReply, heldReply, savedWanted, foundIn, savedAgain, placesOf};
 ghost use Rattle.fluturenc_settings.specs.SavedBytes.{placeSize, listSize, placeBytes, listBytes, frontSetting, firstSettings, fourOf, listIn, wantedOf, SaveGives, foundCall, messagesOf};
 use lent_buffer::Filled;
 use saved_setting::EightPlaces;
@@ -125,7 +125,7 @@ pub extern "C" fn fluturenc_settings_messages(
 
 // The messages of what is found, or why nothing is.
 fn put_found(found: Held, messages: &mut [u8]) -> Filled
-    ensures { λ r. ⌜ Gives (messagesOf found (length (now (messages .entry)))) r (now (messages .entry)) (now (messages .exit)) ⌝ }
+    ensures { λ r. ⌜ Gives (messagesOf (heldReply found) (length (now (messages .entry)))) r (now (messages .entry)) (now (messages .exit)) ⌝ }
 {
     match found {
         Held::Setting(s) => {
@@ -140,7 +140,7 @@ fn put_found(found: Held, messages: &mut [u8]) -> Filled
 
 // The setting under a version of a list in bytes.
 fn held_in(list: &[u8], version: u16) -> Held
-    ensures { λ r. ⌜ r ≡ foundIn (listIn (now (list .entry))) version ⌝ }
+    ensures { λ r. ⌜ heldReply r ≡ foundIn (listIn (now (list .entry))) version ⌝ }
 {
     if list.len() == LIST {
         let places = places_in(list);
@@ -152,7 +152,7 @@ fn held_in(list: &[u8], version: u16) -> Held
 // Stores the places that are saved, and tells the new version; or tells why nothing is, and the version is 0.
 fn store_saved(saved: SavedPlaces, list: &mut [u8], version: &mut u16) -> u8
     requires { ⌜ length (now list) ≡ listSize ⌝ }
-    ensures { λ r. ⌜ SaveGives (record { answer = saved .answer; list = placesOf (saved .places) }) r (now (version .exit)) (now (list .entry)) (now (list .exit)) ⌝ }
+    ensures { λ r. ⌜ SaveGives (record { reply = savedReply (saved .answer); list = placesOf (saved .places) }) r (now (version .exit)) (now (list .entry)) (now (list .exit)) ⌝ }
 {
     let places = saved.places;
     let answer = saved.answer;

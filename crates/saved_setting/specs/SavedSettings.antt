@@ -13,8 +13,24 @@ use Rattle.saved_setting.specs.declared.Saved.{Saved}
 use Rattle.saved_setting.specs.declared.Saved.the-variants as saved
 use Rattle.saved_setting.specs.declared.Held.{Held}
 use Rattle.saved_setting.specs.declared.Held.the-variants as held
-use Rattle.saved_setting.specs.declared.SavedList.{SavedList}
 use Rattle.saved_setting.specs.declared.EightPlaces.{EightPlaces}
+
+-- ---- what a call says
+
+-- what it was asked for, or a refusal with its number
+pub data Reply (A : Type 0) : Type 0 where
+  yields : A → Reply A
+  refused : ℕ → Reply A
+
+-- the paper's number and values of each case of the program's answers: of saving and going back, the new version
+abbrev pub savedReply : Saved → Reply ℕ
+savedReply (saved.Version v) = yields v
+savedReply (saved.Refused n) = refused n
+
+-- of finding, the setting: its version, fine, coarse, gain and clock divisor
+abbrev pub heldReply : Held → Reply SavedSetting
+heldReply (held.Setting s) = yields s
+heldReply (held.Refused n) = refused n
 
 -- ---- one setting
 
@@ -69,11 +85,11 @@ newestVersion [] = 0
 newestVersion (s ∷ list) = laterVersion (s .version) (newestVersion list)
 
 -- the setting that has a version
-unfoldable pub heldHere : SavedSetting → ℕ → Held → Held
-heldHere s v rest = cond (eqb (s .version) v) (held.Setting s) rest
+unfoldable pub heldHere : SavedSetting → ℕ → Reply SavedSetting → Reply SavedSetting
+heldHere s v rest = cond (eqb (s .version) v) (yields s) rest
 
-unfoldable pub lookUp : ℕ → List SavedSetting → Held
-lookUp v [] = held.Refused versionNotHeld
+unfoldable pub lookUp : ℕ → List SavedSetting → Reply SavedSetting
+lookUp v [] = refused versionNotHeld
 lookUp v (s ∷ list) = heldHere s v (lookUp v list)
 
 -- ---- a setting is put into the list: where all places are used the oldest is dropped
@@ -90,30 +106,34 @@ putIn s (t ∷ list) = cond (isUnused t) (s ∷ list) (t ∷ putIn s list)
 unfoldable pub savedInto : SavedSetting → List SavedSetting → List SavedSetting
 savedInto s list = putIn s (cond (allUsed list) (drop 1 list) list)
 
--- ---- what the calls answer, and the list that they leave
+-- ---- what the calls say, and the list that they leave
 
-abbrev pub keepingList : ℕ → List SavedSetting → SavedList
-keepingList n list = record { answer = saved.Refused n; list = list }
+pub record ListReply : Type 0 where
+  pub reply : Reply ℕ
+  pub list : List SavedSetting
+
+abbrev pub keepingList : ℕ → List SavedSetting → ListReply
+keepingList n list = record { reply = refused n; list = list }
 
 -- a setting is saved as it is, under one more than the newest version held
-unfoldable pub savedNext : List SavedSetting → SavedSetting → SavedList
+unfoldable pub savedNext : List SavedSetting → SavedSetting → ListReply
 savedNext list s =
     cond (eqb (newestVersion list) lastVersion) (keepingList noVersionLeft list)
-    (record { answer = saved.Version (newestVersion list + 1); list = savedInto (renumbered s (newestVersion list + 1)) list })
+    (record { reply = yields (newestVersion list + 1); list = savedInto (renumbered s (newestVersion list + 1)) list })
 
-unfoldable pub savedWanted : List SavedSetting → Wanted → SavedList
+unfoldable pub savedWanted : List SavedSetting → Wanted → ListReply
 savedWanted list w =
     cond (isSavedList list) (cond (isAllowed w) (savedNext list (clipped w)) (keepingList badSetting list)) (keepingList notSavedSettings list)
 
-unfoldable pub foundIn : List SavedSetting → ℕ → Held
-foundIn list v = cond (isSavedList list) (cond (eqb v 0) (held.Refused versionNotHeld) (lookUp v list)) (held.Refused notSavedSettings)
+unfoldable pub foundIn : List SavedSetting → ℕ → Reply SavedSetting
+foundIn list v = cond (isSavedList list) (cond (eqb v 0) (refused versionNotHeld) (lookUp v list)) (refused notSavedSettings)
 
 -- going back: what is found is saved as it stands
-abbrev pub savedFound : List SavedSetting → Held → SavedList
-savedFound list (held.Setting s) = savedNext list s
-savedFound list (held.Refused n) = keepingList n list
+abbrev pub savedFound : List SavedSetting → Reply SavedSetting → ListReply
+savedFound list (yields s) = savedNext list s
+savedFound list (refused n) = keepingList n list
 
-unfoldable pub savedAgain : List SavedSetting → ℕ → SavedList
+unfoldable pub savedAgain : List SavedSetting → ℕ → ListReply
 savedAgain list v = savedFound list (foundIn list v)
 
 -- ---- contracts
@@ -123,6 +143,6 @@ abbrev pub placesOf : EightPlaces → List SavedSetting
 placesOf p = p .a ∷ p .b ∷ p .c ∷ p .d ∷ p .e ∷ p .f ∷ p .g ∷ p .h ∷ []
 
 -- a call that answers, and leaves the list, as said
-pub record Leaves (said : SavedList) (answer : Saved) (after : List SavedSetting) : Type 0 where
-  pub answers : answer ≡ said .answer
+pub record Leaves (said : ListReply) (answer : Saved) (after : List SavedSetting) : Type 0 where
+  pub answers : savedReply answer ≡ said .reply
   pub leaves : after ≡ said .list

@@ -6,7 +6,7 @@
 ghost use mathlib.Core.Path.{_≡_};
 ghost use mathlib.Core.Bool.{_&&_};
 ghost use mathlib.Core.List.{[], _∷_};
-ghost use Rattle.saved_setting.specs.SavedSettings.{isAllowed, lesser, clipped, renumbered, mayFollow, versionsInOrder, laterVersion, newestVersion, heldHere, lookUp, savedInto, savedNext, savedWanted, foundIn, savedAgain, placesOf, Leaves};
+ghost use Rattle.saved_setting.specs.SavedSettings.{heldReply, isAllowed, lesser, clipped, renumbered, mayFollow, versionsInOrder, laterVersion, newestVersion, heldHere, lookUp, savedInto, savedNext, savedWanted, foundIn, savedAgain, placesOf, Leaves};
 
 // The places of a list.
 pub const PLACES: usize = 8;
@@ -83,7 +83,7 @@ pub fn save_in(places: EightPlaces, wanted: Wanted) -> SavedPlaces
 
 // The setting under a version.
 pub fn find_in(places: EightPlaces, version: u16) -> Held
-    ensures { λ r. ⌜ r ≡ foundIn (placesOf places) version ⌝ }
+    ensures { λ r. ⌜ heldReply r ≡ foundIn (placesOf places) version ⌝ }
 {
     if in_order(places) {
         if version == 0 {
@@ -235,7 +235,7 @@ fn newest_version(places: EightPlaces) -> u16
 
 // A setting, where it has the version; or what else there is.
 fn held_here(setting: SavedSetting, version: u16, rest: Held) -> Held
-    ensures { λ r. ⌜ r ≡ heldHere setting version rest ⌝ }
+    ensures { λ r. ⌜ heldReply r ≡ heldHere setting version (heldReply rest) ⌝ }
 {
     if setting.version == version {
         return Held::Setting(setting);
@@ -245,7 +245,7 @@ fn held_here(setting: SavedSetting, version: u16, rest: Held) -> Held
 
 // The first setting that has the version.
 fn look_up(places: EightPlaces, version: u16) -> Held
-    ensures { λ r. ⌜ r ≡ lookUp version (placesOf places) ⌝ }
+    ensures { λ r. ⌜ heldReply r ≡ lookUp version (placesOf places) ⌝ }
 {
     let rest = Held::Refused(refusal::VERSION_NOT_HELD);
     let rest = held_here(places.h, version, rest);

@@ -5,7 +5,7 @@
 // divisor or a frame rate other than 25 or 30, 30 version not held (0 never is), 31 no version number left.
 // Each function copies the eight places, leaves the work to its namesake of crate `saved_setting`, and stores what that gives.
 ghost use mathlib.Core.Path.{_≡_};
-ghost use Rattle.saved_setting.specs.SavedSettings.{savedWanted, foundIn, savedAgain, Leaves};
+ghost use Rattle.saved_setting.specs.SavedSettings.{heldReply, savedWanted, foundIn, savedAgain, Leaves};
 use saved_setting::EightPlaces;
 use saved_setting::Held;
 use saved_setting::PLACES;
@@ -50,7 +50,7 @@ pub fn save(list: &mut [SavedSetting], wanted: Wanted) -> Saved
 
 // The setting under a version.
 pub fn find(list: &[SavedSetting], version: u16) -> Held
-    ensures { λ r. ⌜ r ≡ foundIn (now (list .entry)) version ⌝ }
+    ensures { λ r. ⌜ heldReply r ≡ foundIn (now (list .entry)) version ⌝ }
 {
     if list.len() != PLACES {
         return Held::Refused(refusal::NOT_SAVED_SETTINGS);
@@ -115,7 +115,7 @@ pub fn save_held(held: [SavedSetting; PLACES], wanted: Wanted) -> SavedList
 
 // `find` for a list by value. A list is in order exactly where version 0 is answered 30, not 37.
 pub fn find_held(held: [SavedSetting; PLACES], version: u16) -> Held
-    ensures { λ r. ⌜ r ≡ foundIn held version ⌝ }
+    ensures { λ r. ⌜ heldReply r ≡ foundIn held version ⌝ }
 {
     find(&held, version)
 }

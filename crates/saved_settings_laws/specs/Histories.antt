@@ -5,11 +5,7 @@ use mathlib.Core.List.{List, [], _∷_}
 use Prim.Native.Nat.{ℕ, _+_}
 use Rattle.saved_setting.specs.declared.SavedSetting.{SavedSetting}
 use Rattle.saved_setting.specs.declared.Wanted.{Wanted}
-use Rattle.saved_setting.specs.declared.Saved.{Saved}
-use Rattle.saved_setting.specs.declared.Saved.the-variants as saved
-use Rattle.saved_setting.specs.declared.Held.the-variants as held
-use Rattle.saved_setting.specs.declared.SavedList.{SavedList}
-use Rattle.saved_setting.specs.SavedSettings.{isUnused, clipped, savedWanted, foundIn, savedAgain}
+use Rattle.saved_setting.specs.SavedSettings.{Reply, yields, refused, isUnused, clipped, ListReply, savedWanted, foundIn, savedAgain}
 
 -- the used places, which come first
 unfoldable pub usedOf : List SavedSetting → List SavedSetting
@@ -21,25 +17,25 @@ pub data SettingCall : Type 0 where
   saving : Wanted → SettingCall
   goingBack : ℕ → SettingCall
 
--- what a call answers, and the list that it leaves
-abbrev pub calledOn : List SavedSetting → SettingCall → SavedList
+-- what a call says, and the list that it leaves
+abbrev pub calledOn : List SavedSetting → SettingCall → ListReply
 calledOn list (saving w) = savedWanted list w
 calledOn list (goingBack v) = savedAgain list v
 
 -- the setting that a call is to save: what is wanted, clipped; or what is found, as it stands
 abbrev pub ToSave : List SavedSetting → SettingCall → SavedSetting → Type 0
 ToSave list (saving w) s = clipped w ≡ s
-ToSave list (goingBack v) s = foundIn list v ≡ held.Setting s
+ToSave list (goingBack v) s = foundIn list v ≡ yields s
 
 -- the list after some calls, and how many of them saved
 abbrev pub afterCalls : List SavedSetting → List SettingCall → List SavedSetting
 afterCalls list [] = list
 afterCalls list (c ∷ calls) = afterCalls (calledOn list c .list) calls
 
-abbrev pub savesOf : Saved → ℕ
-savesOf (saved.Version v) = 1
-savesOf (saved.Refused n) = 0
+abbrev pub savesOf : Reply ℕ → ℕ
+savesOf (yields v) = 1
+savesOf (refused n) = 0
 
 abbrev pub laterSaves : List SavedSetting → List SettingCall → ℕ
 laterSaves list [] = 0
-laterSaves list (c ∷ calls) = savesOf (calledOn list c .answer) + laterSaves (calledOn list c .list) calls
+laterSaves list (c ∷ calls) = savesOf (calledOn list c .reply) + laterSaves (calledOn list c .list) calls

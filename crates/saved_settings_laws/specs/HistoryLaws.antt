@@ -11,12 +11,7 @@ use borrow.Author.Tests.{ne-eqb, eqb-true, eqb-false, ltb-true, ltb-false}
 use Rattle.bits.specs.Every.{and-left, and-right}
 use Rattle.refusal.specs.Refusal.{notSavedSettings, badSetting, versionNotHeld, noVersionLeft}
 use Rattle.saved_setting.specs.declared.SavedSetting.{SavedSetting}
-use Rattle.saved_setting.specs.declared.Saved.{Saved}
-use Rattle.saved_setting.specs.declared.Saved.the-variants as saved
-use Rattle.saved_setting.specs.declared.Held.{Held}
-use Rattle.saved_setting.specs.declared.Held.the-variants as held
-use Rattle.saved_setting.specs.declared.SavedList.{SavedList}
-use Rattle.saved_setting.specs.SavedSettings.{isAllowed, clipped, renumbered, versionsInOrder, settingPlaces, isSavedList, lastVersion, newestVersion, lookUp, allUsed, savedInto, keepingList, savedNext, savedWanted, foundIn, savedFound, savedAgain}
+use Rattle.saved_setting.specs.SavedSettings.{Reply, yields, refused, isAllowed, clipped, renumbered, versionsInOrder, settingPlaces, isSavedList, lastVersion, newestVersion, lookUp, allUsed, savedInto, ListReply, keepingList, savedNext, savedWanted, foundIn, savedFound, savedAgain}
 use Rattle.saved_settings_laws.specs.Histories.{usedOf, SettingCall, saving, goingBack, calledOn, ToSave, afterCalls, savesOf, laterSaves}
 use Rattle.saved_settings_laws.specs.OrderLaws.{by-side, sides, by-held, held-recent, isSetting}
 use Rattle.saved_settings_laws.specs.PutInLaws.{into}
@@ -24,52 +19,52 @@ use Rattle.saved_settings_laws.specs.PutInLaws.{into}
 -- ---- one call: it refuses, or it saves a setting under the next version
 
 -- a setting saved under the next version
-abbrev savedUnder : List SavedSetting → SavedSetting → SavedList
-savedUnder list s = record { answer = saved.Version (newestVersion list + 1); list = savedInto (renumbered s (newestVersion list + 1)) list }
+abbrev savedUnder : List SavedSetting → SavedSetting → ListReply
+savedUnder list s = record { reply = yields (newestVersion list + 1); list = savedInto (renumbered s (newestVersion list + 1)) list }
 
-module _ (P : SavedList → Type 0) (list : List SavedSetting) (no : (n : ℕ) → P (keepingList n list))
+module _ (P : ListReply → Type 0) (list : List SavedSetting) (no : (n : ℕ) → P (keepingList n list))
     (yes : (s : SavedSetting) → isSavedList list ≡ true → (newestVersion list ≡ lastVersion → ⊥) → P (savedUnder list s)) where
   by-next : (s : SavedSetting) → isSavedList list ≡ true → P (savedNext list s)
   unfolding savedNext
   by-next s ok =
       by-side P (eqb (newestVersion list) lastVersion) (λ e. no noVersionLeft) (λ e. yes s ok (eqb-false (newestVersion list) lastVersion e))
 
-  by-found : (h : Held) → isSavedList list ≡ true → P (savedFound list h)
-  by-found (held.Setting s) ok = by-next s ok
-  by-found (held.Refused n) ok = no n
+  by-found : (h : Reply SavedSetting) → isSavedList list ≡ true → P (savedFound list h)
+  by-found (yields s) ok = by-next s ok
+  by-found (refused n) ok = no n
 
   by-call : (c : SettingCall) → P (calledOn list c)
   unfolding savedWanted savedAgain foundIn
   by-call (saving w) =
       by-side P (isSavedList list) (λ ok. by-side P (isAllowed w) (λ e. by-next (clipped w) ok) (λ e. no badSetting)) (λ e. no notSavedSettings)
   by-call (goingBack v) =
-      by-side (λ (h : Held). P (savedFound list h)) (isSavedList list)
-      (λ ok. by-side (λ (h : Held). P (savedFound list h)) (eqb v 0) (λ e. no versionNotHeld) (λ e. by-found (lookUp v list) ok)) (λ e. no notSavedSettings)
+      by-side (λ (h : Reply SavedSetting). P (savedFound list h)) (isSavedList list)
+      (λ ok. by-side (λ (h : Reply SavedSetting). P (savedFound list h)) (eqb v 0) (λ e. no versionNotHeld) (λ e. by-found (lookUp v list) ok)) (λ e. no notSavedSettings)
 
-abbrev isVersion : Saved → Bool
-isVersion (saved.Version v) = true
-isVersion (saved.Refused n) = false
+abbrev isVersion : Reply ℕ → Bool
+isVersion (yields v) = true
+isVersion (refused n) = false
 
-abbrev versionIn : Saved → ℕ
-versionIn (saved.Version v) = v
-versionIn (saved.Refused n) = 0
+abbrev versionIn : Reply ℕ → ℕ
+versionIn (yields v) = v
+versionIn (refused n) = 0
 
 -- a refusal changes nothing
-pub refusal-keeps : (list : List SavedSetting) (c : SettingCall) (n : ℕ) → calledOn list c .answer ≡ saved.Refused n → calledOn list c .list ≡ list
+pub refusal-keeps : (list : List SavedSetting) (c : SettingCall) (n : ℕ) → calledOn list c .reply ≡ refused n → calledOn list c .list ≡ list
 refusal-keeps list c n =
-    by-call (λ (o : SavedList). o .answer ≡ saved.Refused n → o .list ≡ list) list (λ m q. refl) (λ s ok left q. absurd (true≢false (ap isVersion q))) c
+    by-call (λ (o : ListReply). o .reply ≡ refused n → o .list ≡ list) list (λ m q. refl) (λ s ok left q. absurd (true≢false (ap isVersion q))) c
 
 -- versions stay in unbroken sequence
 pub stays-ordered : (list : List SavedSetting) (c : SettingCall) → isSavedList list ≡ true → isSavedList (calledOn list c .list) ≡ true
 unfolding renumbered
 stays-ordered list c ok =
-    by-call (λ (o : SavedList). isSavedList (o .list) ≡ true) list (λ n. ok)
+    by-call (λ (o : ListReply). isSavedList (o .list) ≡ true) list (λ n. ok)
     (λ s _ left. into (renumbered s (newestVersion list + 1)) list ok refl .ordered) c
 
 -- after 65,535 nothing is saved, and nothing is lost
-nothing-left : (list : List SavedSetting) (c : SettingCall) → newestVersion list ≡ lastVersion → (calledOn list c .list ≡ list) × (savesOf (calledOn list c .answer) ≡ 0)
+nothing-left : (list : List SavedSetting) (c : SettingCall) → newestVersion list ≡ lastVersion → (calledOn list c .list ≡ list) × (savesOf (calledOn list c .reply) ≡ 0)
 nothing-left list c e =
-    by-call (λ (o : SavedList). (o .list ≡ list) × (savesOf (o .answer) ≡ 0)) list (λ n. (refl, refl)) (λ s ok left. absurd (left e)) c
+    by-call (λ (o : ListReply). (o .list ≡ list) × (savesOf (o .reply) ≡ 0)) list (λ n. (refl, refl)) (λ s ok left. absurd (left e)) c
 
 pub none-after-last : (list : List SavedSetting) (calls : List SettingCall) → newestVersion list ≡ lastVersion
     → (afterCalls list calls ≡ list) × (laterSaves list calls ≡ 0)
@@ -84,39 +79,39 @@ none-after-last list (c ∷ calls) e =
 -- ---- a call that saved
 
 -- what is found is found in a list in order
-found-saved : (list : List SavedSetting) (v : ℕ) (s : SavedSetting) → foundIn list v ≡ held.Setting s → isSavedList list ≡ true
+found-saved : (list : List SavedSetting) (v : ℕ) (s : SavedSetting) → foundIn list v ≡ yields s → isSavedList list ≡ true
 unfolding foundIn
 found-saved list v s q =
     sides (isSavedList list) (λ ok. ok)
-    (λ e. absurd (true≢false (sym (ap isSetting (ap (λ (b : Bool). cond b (cond (eqb v 0) (held.Refused versionNotHeld) (lookUp v list)) (held.Refused notSavedSettings)) (sym e) ∙ q)))))
+    (λ e. absurd (true≢false (sym (ap isSetting (ap (λ (b : Bool). cond b (cond (eqb v 0) (refused versionNotHeld) (lookUp v list)) (refused notSavedSettings)) (sym e) ∙ q)))))
 
 -- what a call that answers a version did
-record Did (list : List SavedSetting) (s : SavedSetting) (v : ℕ) (o : SavedList) : Type 0 where
+record Did (list : List SavedSetting) (s : SavedSetting) (v : ℕ) (o : ListReply) : Type 0 where
   ok : isSavedList list ≡ true
   next : v ≡ newestVersion list + 1
   does : o ≡ savedUnder list s
 
 module _ (list : List SavedSetting) (v : ℕ) where
-  refuses : (s : SavedSetting) (n : ℕ) → keepingList n list .answer ≡ saved.Version v → Did list s v (keepingList n list)
+  refuses : (s : SavedSetting) (n : ℕ) → keepingList n list .reply ≡ yields v → Did list s v (keepingList n list)
   refuses s n q = absurd (true≢false (sym (ap isVersion q)))
 
-  did-next : (s : SavedSetting) → isSavedList list ≡ true → savedNext list s .answer ≡ saved.Version v → Did list s v (savedNext list s)
+  did-next : (s : SavedSetting) → isSavedList list ≡ true → savedNext list s .reply ≡ yields v → Did list s v (savedNext list s)
   unfolding savedNext
   did-next s ok =
-      by-side (λ (o : SavedList). o .answer ≡ saved.Version v → Did list s v o) (eqb (newestVersion list) lastVersion) (λ e. refuses s noVersionLeft)
+      by-side (λ (o : ListReply). o .reply ≡ yields v → Did list s v o) (eqb (newestVersion list) lastVersion) (λ e. refuses s noVersionLeft)
       (λ e q. record { ok = ok; next = sym (ap versionIn q); does = refl })
 
-  did-wanted : (c : SettingCall) (s : SavedSetting) → ToSave list c s → calledOn list c .answer ≡ saved.Version v → Did list s v (calledOn list c)
+  did-wanted : (c : SettingCall) (s : SavedSetting) → ToSave list c s → calledOn list c .reply ≡ yields v → Did list s v (calledOn list c)
   unfolding savedWanted savedAgain foundIn
   did-wanted (saving w) s same =
-      by-side (λ (o : SavedList). o .answer ≡ saved.Version v → Did list s v o) (isSavedList list)
+      by-side (λ (o : ListReply). o .reply ≡ yields v → Did list s v o) (isSavedList list)
       (λ ok.
-      by-side (λ (o : SavedList). o .answer ≡ saved.Version v → Did list s v o) (isAllowed w)
-      (λ e. subst (λ (t : SavedSetting). savedNext list t .answer ≡ saved.Version v → Did list s v (savedNext list t)) (sym same) (did-next s ok))
+      by-side (λ (o : ListReply). o .reply ≡ yields v → Did list s v o) (isAllowed w)
+      (λ e. subst (λ (t : SavedSetting). savedNext list t .reply ≡ yields v → Did list s v (savedNext list t)) (sym same) (did-next s ok))
       (λ e. refuses s badSetting))
       (λ e. refuses s notSavedSettings)
   did-wanted (goingBack u) s same =
-      subst (λ (h : Held). savedFound list h .answer ≡ saved.Version v → Did list s v (savedFound list h)) (sym same) (did-next s (found-saved list u s same))
+      subst (λ (h : Reply SavedSetting). savedFound list h .reply ≡ yields v → Did list s v (savedFound list h)) (sym same) (did-next s (found-saved list u s same))
 
 -- ---- what was saved is found
 
@@ -124,16 +119,16 @@ module _ (list : List SavedSetting) (v : ℕ) where
 record SavedSince (v : ℕ) (s : SavedSetting) (k : ℕ) (list : List SavedSetting) : Type 0 where
   ordered : isSavedList list ≡ true
   newest : newestVersion list ≡ v + k
-  stays : k < settingPlaces → lookUp v list ≡ held.Setting s
+  stays : k < settingPlaces → lookUp v list ≡ yields s
 
 module _ (v : ℕ) (s : SavedSetting) (some : v ≡ 0 → ⊥) where
   recounted : (k n : ℕ) (list : List SavedSetting) → k ≡ n → SavedSince v s k list → SavedSince v s n list
   recounted k n list e since = subst (λ (m : ℕ). SavedSince v s m list) e since
 
-  since-call : (k : ℕ) (list : List SavedSetting) (c : SettingCall) → SavedSince v s k list → SavedSince v s (savesOf (calledOn list c .answer) + k) (calledOn list c .list)
+  since-call : (k : ℕ) (list : List SavedSetting) (c : SettingCall) → SavedSince v s k list → SavedSince v s (savesOf (calledOn list c .reply) + k) (calledOn list c .list)
   unfolding renumbered
   since-call k list c since =
-      by-call (λ (o : SavedList). SavedSince v s (savesOf (o .answer) + k) (o .list)) list (λ n. recounted k (0 + k) list (omega arith) since)
+      by-call (λ (o : ListReply). SavedSince v s (savesOf (o .reply) + k) (o .list)) list (λ n. recounted k (0 + k) list (omega arith) since)
       (λ t ok left.
       let next = into (renumbered t (newestVersion list + 1)) list ok refl in
       record {
@@ -145,43 +140,43 @@ module _ (v : ℕ) (s : SavedSetting) (some : v ≡ 0 → ⊥) where
   since-calls : (k : ℕ) (list : List SavedSetting) (calls : List SettingCall) → SavedSince v s k list → SavedSince v s (k + laterSaves list calls) (afterCalls list calls)
   since-calls k list [] since = recounted k (k + 0) list (omega arith) since
   since-calls k list (c ∷ calls) since =
-      let later : SavedList = calledOn list c in
-      let n : ℕ = savesOf (later .answer) in
+      let later : ListReply = calledOn list c in
+      let n : ℕ = savesOf (later .reply) in
       let m : ℕ = laterSaves (later .list) calls in
       recounted (n + k + m) (k + (n + m)) (afterCalls (later .list) calls) (omega arith) (since-calls (n + k) (later .list) calls (since-call k list c since))
 
   since-found : (k : ℕ) (list : List SavedSetting) → SavedSince v s k list
-      → foundIn list v ≡ cond (ltb k settingPlaces) (held.Setting s) (held.Refused versionNotHeld)
+      → foundIn list v ≡ cond (ltb k settingPlaces) (yields s) (refused versionNotHeld)
   unfolding foundIn
   since-found k list since =
       let ok = since .ordered in
       let long = eqb-true (length list) settingPlaces (and-left (eqb (length list) settingPlaces) (versionsInOrder list) ok) in
       let h = and-right (eqb (length list) settingPlaces) (versionsInOrder list) ok in
-      let looked : lookUp v list ≡ cond (ltb k settingPlaces) (held.Setting s) (held.Refused versionNotHeld) =
-      by-side (λ (x : Held). lookUp v list ≡ x) (ltb k settingPlaces) (λ e. since .stays (ltb-true k settingPlaces e))
+      let looked : lookUp v list ≡ cond (ltb k settingPlaces) (yields s) (refused versionNotHeld) =
+      by-side (λ (x : Reply SavedSetting). lookUp v list ≡ x) (ltb k settingPlaces) (λ e. since .stays (ltb-true k settingPlaces e))
       (λ e.
-      by-held (λ (x : Held). x ≡ held.Refused versionNotHeld) v list
+      by-held (λ (x : Reply SavedSetting). x ≡ refused versionNotHeld) v list
       (λ t q. absurd (too-old (ltb-false k settingPlaces e) (held-recent v list t h some q .1) long (since .newest))) refl) in
-      ap (λ (b : Bool). cond b (cond (eqb v 0) (held.Refused versionNotHeld) (lookUp v list)) (held.Refused notSavedSettings)) ok
-      ∙ ap (λ (b : Bool). cond b (held.Refused versionNotHeld) (lookUp v list)) (ne-eqb v 0 some) ∙ looked
+      ap (λ (b : Bool). cond b (cond (eqb v 0) (refused versionNotHeld) (lookUp v list)) (refused notSavedSettings)) ok
+      ∙ ap (λ (b : Bool). cond b (refused versionNotHeld) (lookUp v list)) (ne-eqb v 0 some) ∙ looked
     where
       too-old : settingPlaces ≤ k → newestVersion list < v + length list → length list ≡ settingPlaces → newestVersion list ≡ v + k → ⊥
       too-old many recent long new = omega (arith, many, recent, long, new)
 
 -- ---- what a call saved: a wanted setting clipped, an old one as it stood, under the version answered
 
-module _ (list : List SavedSetting) (c : SettingCall) (s : SavedSetting) (v : ℕ) (same : ToSave list c s) (answered : calledOn list c .answer ≡ saved.Version v) where
+module _ (list : List SavedSetting) (c : SettingCall) (s : SavedSetting) (v : ℕ) (same : ToSave list c s) (answered : calledOn list c .reply ≡ yields v) where
   -- the oldest is dropped where all places are used, and nothing else
   pub saving-drops : usedOf (calledOn list c .list) ≡ cond (allUsed list) (drop 1 (usedOf list)) (usedOf list) ++ (renumbered s v ∷ [])
   unfolding renumbered
   saving-drops =
       let d = did-wanted list v c s same answered in
-      ap (λ (o : SavedList). usedOf (o .list)) (d .does) ∙ into (renumbered s (newestVersion list + 1)) list (d .ok) refl .keeps
+      ap (λ (o : ListReply). usedOf (o .list)) (d .does) ∙ into (renumbered s (newestVersion list + 1)) list (d .ok) refl .keeps
       ∙ ap (λ (n : ℕ). cond (allUsed list) (drop 1 (usedOf list)) (usedOf list) ++ (renumbered s n ∷ [])) (sym (d .next))
 
   -- it is found until eight later ones came, and then no more
   pub saved-until : (calls : List SettingCall) → foundIn (afterCalls (calledOn list c .list) calls) v
-      ≡ cond (ltb (laterSaves (calledOn list c .list) calls) settingPlaces) (held.Setting (renumbered s v)) (held.Refused versionNotHeld)
+      ≡ cond (ltb (laterSaves (calledOn list c .list) calls) settingPlaces) (yields (renumbered s v)) (refused versionNotHeld)
   unfolding renumbered
   saved-until calls =
       let d = did-wanted list v c s same answered in
@@ -189,7 +184,7 @@ module _ (list : List SavedSetting) (c : SettingCall) (s : SavedSetting) (v : �
       let some : v ≡ 0 → ⊥ = λ (z : v ≡ 0). omega (arith, z, d .next) in
       let next = into t list (d .ok) (sym (d .next)) in
       let left : calledOn list c .list ≡ savedInto t list =
-      ap (λ (o : SavedList). o .list) (d .does) ∙ ap (λ (n : ℕ). savedInto (renumbered s n) list) (sym (d .next)) in
+      ap (λ (o : ListReply). o .list) (d .does) ∙ ap (λ (n : ℕ). savedInto (renumbered s n) list) (sym (d .next)) in
       let start : SavedSince v t 0 (savedInto t list) =
       record { ordered = next .ordered; newest = next .newest ∙ omega arith; stays = λ fewer. next .found } in
       let since : SavedSince v t 0 (calledOn list c .list) = subst (λ (l : List SavedSetting). SavedSince v t 0 l) (sym left) start in

@@ -9,9 +9,7 @@ use lib.ListN.{length}
 use borrow.Author.Tests.{eq-eqb, ne-eqb, eqb-true, eqb-false}
 use Rattle.bits.specs.Every.{and-left, and-right}
 use Rattle.saved_setting.specs.declared.SavedSetting.{SavedSetting}
-use Rattle.saved_setting.specs.declared.Held.{Held}
-use Rattle.saved_setting.specs.declared.Held.the-variants as held
-use Rattle.saved_setting.specs.SavedSettings.{isUnused, mayFollow, versionsInOrder, laterVersion, newestVersion, heldHere, lookUp, allUsed}
+use Rattle.saved_setting.specs.SavedSettings.{Reply, yields, refused, isUnused, mayFollow, versionsInOrder, laterVersion, newestVersion, heldHere, lookUp, allUsed}
 use Rattle.refusal.specs.Refusal.{versionNotHeld}
 use Rattle.saved_settings_laws.specs.Histories.{usedOf}
 
@@ -146,39 +144,39 @@ newest-full s (t ∷ list) h full =
 
 -- ---- what is held
 
-pub skipped : (s : SavedSetting) (v : ℕ) (rest : Held) → (s .version ≡ v → ⊥) → heldHere s v rest ≡ rest
+pub skipped : (s : SavedSetting) (v : ℕ) (rest : Reply SavedSetting) → (s .version ≡ v → ⊥) → heldHere s v rest ≡ rest
 unfolding heldHere
 skipped s v rest other = simp (ne-eqb (s .version) v other)
 
-pub here : (s : SavedSetting) (rest : Held) → heldHere s (s .version) rest ≡ held.Setting s
+pub here : (s : SavedSetting) (rest : Reply SavedSetting) → heldHere s (s .version) rest ≡ yields s
 unfolding heldHere
 here s rest = simp (eq-eqb (s .version) (s .version) refl)
 
-kept-by : (b : Bool) (x s : SavedSetting) (a c : Held) → (a ≡ held.Setting s → c ≡ held.Setting s) → cond b (held.Setting x) a ≡ held.Setting s
-    → cond b (held.Setting x) c ≡ held.Setting s
+kept-by : (b : Bool) (x s : SavedSetting) (a c : Reply SavedSetting) → (a ≡ yields s → c ≡ yields s) → cond b (yields x) a ≡ yields s
+    → cond b (yields x) c ≡ yields s
 kept-by true x s a c f q = q
 kept-by false x s a c f q = f q
 
 -- what is found in a place, or else behind it, is found still where it is behind it
-pub kept-behind : (x s : SavedSetting) (v : ℕ) (a c : Held) → (a ≡ held.Setting s → c ≡ held.Setting s) → heldHere x v a ≡ held.Setting s
-    → heldHere x v c ≡ held.Setting s
+pub kept-behind : (x s : SavedSetting) (v : ℕ) (a c : Reply SavedSetting) → (a ≡ yields s → c ≡ yields s) → heldHere x v a ≡ yields s
+    → heldHere x v c ≡ yields s
 unfolding heldHere
 kept-behind x s v a c f q = kept-by (eqb (x .version) v) x s a c f q
 
 -- a version is held by some place, or it is answered 30
-pub by-held : (P : Held → Type 0) (v : ℕ) (list : List SavedSetting) → ((s : SavedSetting) → lookUp v list ≡ held.Setting s → P (held.Setting s))
-    → P (held.Refused versionNotHeld) → P (lookUp v list)
+pub by-held : (P : Reply SavedSetting → Type 0) (v : ℕ) (list : List SavedSetting) → ((s : SavedSetting) → lookUp v list ≡ yields s → P (yields s))
+    → P (refused versionNotHeld) → P (lookUp v list)
 unfolding lookUp heldHere
 by-held P v [] f g = g
 by-held P v (x ∷ list) f g =
     by-side P (eqb (x .version) v) (λ e. f x (simp e)) (λ e. by-held P v list (λ s q. f s (simp e q)) g)
 
-abbrev pub isSetting : Held → Bool
-isSetting (held.Setting s) = true
-isSetting (held.Refused n) = false
+abbrev pub isSetting : Reply SavedSetting → Bool
+isSetting (yields s) = true
+isSetting (refused n) = false
 
 -- a version that is held is one of the last ones, as many as there are places
-pub held-recent : (v : ℕ) (list : List SavedSetting) (s : SavedSetting) → versionsInOrder list ≡ true → (v ≡ 0 → ⊥) → lookUp v list ≡ held.Setting s
+pub held-recent : (v : ℕ) (list : List SavedSetting) (s : SavedSetting) → versionsInOrder list ≡ true → (v ≡ 0 → ⊥) → lookUp v list ≡ yields s
     → (v ≤ newestVersion list) × (newestVersion list < v + length list)
 unfolding lookUp newestVersion
 held-recent v [] s h some q = absurd (true≢false (sym (ap isSetting q)))

@@ -10,8 +10,7 @@ use borrow.Author.Tests.{eq-eqb, ne-eqb, eqb-true, eqb-false}
 use Rattle.bits.specs.Every.{and-left, and-right, and-both}
 use Rattle.refusal.specs.Refusal.{versionNotHeld}
 use Rattle.saved_setting.specs.declared.SavedSetting.{SavedSetting}
-use Rattle.saved_setting.specs.declared.Held.the-variants as held
-use Rattle.saved_setting.specs.SavedSettings.{isUnused, mayFollow, versionsInOrder, settingPlaces, isSavedList, laterVersion, newestVersion, heldHere, lookUp, allUsed, putIn, savedInto}
+use Rattle.saved_setting.specs.SavedSettings.{yields, refused, isUnused, mayFollow, versionsInOrder, settingPlaces, isSavedList, laterVersion, newestVersion, heldHere, lookUp, allUsed, putIn, savedInto}
 use Rattle.saved_settings_laws.specs.Histories.{usedOf}
 use Rattle.saved_settings_laws.specs.OrderLaws.{by-side, sides, unused-follows, may-next, may-unused, order-tail, order-head, later-used, newest-rest, used-rest, newest-last, newest-least, newest-on, all-used, newest-full, skipped, here, isSetting, kept-behind, held-recent}
 
@@ -73,12 +72,12 @@ module _ (t : SavedSetting) (used : isUnused t ≡ false) where
       (λ some. simp some (ap (λ (l : List SavedSetting). x ∷ l) (put-used list (order-tail x list h))))
 
   -- what was held before
-  pub put-keeps : (v : ℕ) (list : List SavedSetting) (s : SavedSetting) → (v ≡ 0 → ⊥) → (t .version ≡ v → ⊥) → lookUp v list ≡ held.Setting s
-      → lookUp v (putIn t list) ≡ held.Setting s
+  pub put-keeps : (v : ℕ) (list : List SavedSetting) (s : SavedSetting) → (v ≡ 0 → ⊥) → (t .version ≡ v → ⊥) → lookUp v list ≡ yields s
+      → lookUp v (putIn t list) ≡ yields s
   unfolding putIn lookUp
   put-keeps v [] s some other q = absurd (true≢false (sym (ap isSetting q)))
   put-keeps v (x ∷ list) s some other q =
-      by-side (λ (l : List SavedSetting). lookUp v l ≡ held.Setting s) (isUnused x)
+      by-side (λ (l : List SavedSetting). lookUp v l ≡ yields s) (isUnused x)
       (λ none.
       let nought : x .version ≡ 0 = eqb-true (x .version) 0 none in
       skipped t v (lookUp v list) other ∙ sym (skipped x v (lookUp v list) (λ (e : x .version ≡ v). some (sym e ∙ nought))) ∙ q)
@@ -86,23 +85,23 @@ module _ (t : SavedSetting) (used : isUnused t ≡ false) where
 
   -- the setting itself
   found-behind : (x : SavedSetting) (list : List SavedSetting) → versionsInOrder (x ∷ list) ≡ true → isUnused x ≡ false → newestVersion (x ∷ list) + 1 ≡ t .version
-      → lookUp (t .version) (x ∷ putIn t list) ≡ held.Setting t
+      → lookUp (t .version) (x ∷ putIn t list) ≡ yields t
   unfolding putIn lookUp
   found-behind x [] h u e =
       let least = newest-least x [] h u in
-      skipped x (t .version) (heldHere t (t .version) (held.Refused versionNotHeld)) (λ (q : x .version ≡ t .version). omega (arith, q, least, e)) ∙ here t (held.Refused versionNotHeld)
+      skipped x (t .version) (heldHere t (t .version) (refused versionNotHeld)) (λ (q : x .version ≡ t .version). omega (arith, q, least, e)) ∙ here t (refused versionNotHeld)
   found-behind x (y ∷ list) h u e =
       let least = newest-least x (y ∷ list) h u in
       let ordered = order-tail x (y ∷ list) h in
       skipped x (t .version) (lookUp (t .version) (putIn t (y ∷ list))) (λ (q : x .version ≡ t .version). omega (arith, q, least, e))
-      ∙ by-side (λ (l : List SavedSetting). lookUp (t .version) l ≡ held.Setting t) (isUnused y) (λ none. here t (lookUp (t .version) list))
+      ∙ by-side (λ (l : List SavedSetting). lookUp (t .version) l ≡ yields t) (isUnused y) (λ none. here t (lookUp (t .version) list))
       (λ some. found-behind y list ordered some (ap (λ (n : ℕ). n + 1) (sym (newest-on x y list ordered some)) ∙ e))
 
-  pub put-found : (list : List SavedSetting) → versionsInOrder list ≡ true → newestVersion list + 1 ≡ t .version → lookUp (t .version) (putIn t list) ≡ held.Setting t
+  pub put-found : (list : List SavedSetting) → versionsInOrder list ≡ true → newestVersion list + 1 ≡ t .version → lookUp (t .version) (putIn t list) ≡ yields t
   unfolding putIn lookUp
-  put-found [] h e = here t (held.Refused versionNotHeld)
+  put-found [] h e = here t (refused versionNotHeld)
   put-found (x ∷ list) h e =
-      by-side (λ (l : List SavedSetting). lookUp (t .version) l ≡ held.Setting t) (isUnused x) (λ none. here t (lookUp (t .version) list))
+      by-side (λ (l : List SavedSetting). lookUp (t .version) l ≡ yields t) (isUnused x) (λ none. here t (lookUp (t .version) list))
       (λ some. found-behind x list h some e)
 
 -- ---- the oldest is dropped first where all places are used
@@ -113,8 +112,8 @@ pub record Into (t : SavedSetting) (list after : List SavedSetting) : Type 0 whe
   pub newest : newestVersion after ≡ t .version
   -- the oldest is dropped where all are used, and nothing else
   pub keeps : usedOf after ≡ cond (allUsed list) (drop 1 (usedOf list)) (usedOf list) ++ (t ∷ [])
-  pub found : lookUp (t .version) after ≡ held.Setting t
-  pub still : (v : ℕ) (s : SavedSetting) → (v ≡ 0 → ⊥) → newestVersion list + 1 < v + settingPlaces → lookUp v list ≡ held.Setting s → lookUp v after ≡ held.Setting s
+  pub found : lookUp (t .version) after ≡ yields t
+  pub still : (v : ℕ) (s : SavedSetting) → (v ≡ 0 → ⊥) → newestVersion list + 1 < v + settingPlaces → lookUp v list ≡ yields s → lookUp v after ≡ yields s
 
 saved-list : (list : List SavedSetting) → length list ≡ settingPlaces → versionsInOrder list ≡ true → isSavedList list ≡ true
 saved-list list long h = and-both (eqb (length list) settingPlaces) (versionsInOrder list) (eq-eqb (length list) settingPlaces long) h

@@ -11,7 +11,7 @@ ghost use Prim.Native.Nat.{_≤_};
 ghost use lib.ListN.{drop};
 ghost use Rattle.text.specs.Put.{Puts};
 ghost use Rattle.saved_setting.specs.SavedSettings.{isSavedList};
-ghost use Rattle.saved_text.specs.SettingsText.{field, settingLine, placeLine, settingsText, withDigit, withField, fieldsAfter, settingOfFields, noFields, withSettingLine, nothingGathered, gatheredAfter, numbersOf, coverOf, mayStand, isLike, restored};
+ghost use Rattle.saved_text.specs.SettingsText.{field, settingLine, placeLine, settingsText, withOneMore, withDigit, nextName, withField, fieldsAfter, settingOfFields, noFields, withSettingLine, nothingGathered, gatheredAfter, numbersOf, coverOf, mayStand, atMostNewline, isLike, restored};
 use saved_setting::Held;
 use saved_setting::SavedSetting;
 use saved_settings::find_held;
@@ -30,13 +30,23 @@ pub struct Restored {
     pub valid: bool,
 }
 
-// The last five numbers of a line, the newest last.
+// The numbers of a line, in the order of its text (open to other crates for the laws alone).
+pub enum FieldName {
+    Version,
+    Fine,
+    Coarse,
+    Gain,
+    Divisor,
+}
+
+// The five numbers of a line, and the name of the one that is being read.
 struct Fields {
     version: u16,
     fine: u16,
     coarse: u16,
     gain: u16,
     divisor: u16,
+    name: FieldName,
 }
 
 // The settings of the lines so far, how many they are, and the numbers of the line that stands open.
@@ -201,6 +211,7 @@ fn no_fields() -> Fields
         coarse: 0,
         gain: 0,
         divisor: 0,
+        name: FieldName::Version,
     }
 }
 
@@ -216,7 +227,7 @@ fn setting_of(fields: Fields) -> SavedSetting
     }
 }
 
-// The numbers after a character more: a digit makes the last one longer, a colon or a comma ends it.
+// The numbers after a character more: a digit makes the one that is being read longer, a colon or a comma ends it.
 fn read_field(fields: Fields, c: u8) -> Fields
     ensures { λ r. ⌜ r ≡ fieldsAfter fields c ⌝ }
 {
@@ -239,29 +250,104 @@ fn with_digit(fields: Fields, c: u8) -> Fields
     requires { ⌜ 0x30 ≤ c ⌝ }
     ensures { λ r. ⌜ r ≡ withDigit fields c ⌝ }
 {
-    let number = (10 * fields.divisor as u32 + (c - b'0') as u32) % 65536;
-    Fields {
-        version: fields.version,
-        fine: fields.fine,
-        coarse: fields.coarse,
-        gain: fields.gain,
-        divisor: number as u16,
+    let name = fields.name;
+    match name {
+        FieldName::Version => {
+            let number = with_one_more(fields.version, c);
+            Fields {
+                version: number,
+                fine: fields.fine,
+                coarse: fields.coarse,
+                gain: fields.gain,
+                divisor: fields.divisor,
+                name: FieldName::Version,
+            }
+        }
+        FieldName::Fine => {
+            let number = with_one_more(fields.fine, c);
+            Fields {
+                version: fields.version,
+                fine: number,
+                coarse: fields.coarse,
+                gain: fields.gain,
+                divisor: fields.divisor,
+                name: FieldName::Fine,
+            }
+        }
+        FieldName::Coarse => {
+            let number = with_one_more(fields.coarse, c);
+            Fields {
+                version: fields.version,
+                fine: fields.fine,
+                coarse: number,
+                gain: fields.gain,
+                divisor: fields.divisor,
+                name: FieldName::Coarse,
+            }
+        }
+        FieldName::Gain => {
+            let number = with_one_more(fields.gain, c);
+            Fields {
+                version: fields.version,
+                fine: fields.fine,
+                coarse: fields.coarse,
+                gain: number,
+                divisor: fields.divisor,
+                name: FieldName::Gain,
+            }
+        }
+        FieldName::Divisor => {
+            let number = with_one_more(fields.divisor, c);
+            Fields {
+                version: fields.version,
+                fine: fields.fine,
+                coarse: fields.coarse,
+                gain: fields.gain,
+                divisor: number,
+                name: FieldName::Divisor,
+            }
+        }
     }
+}
+
+// A number with a digit more; it starts again from 0 after 65,535.
+fn with_one_more(n: u16, c: u8) -> u16
+    requires { ⌜ 0x30 ≤ c ⌝ }
+    ensures { λ r. ⌜ r ≡ withOneMore n c ⌝ }
+{
+    let number = (10 * n as u32 + (c - b'0') as u32) % 65536;
+    number as u16
 }
 
 fn with_field(fields: Fields) -> Fields
     ensures { λ r. ⌜ r ≡ withField fields ⌝ }
 {
+    let name = fields.name;
+    let next = next_name(name);
     Fields {
-        version: fields.fine,
-        fine: fields.coarse,
-        coarse: fields.gain,
-        gain: fields.divisor,
-        divisor: 0,
+        version: fields.version,
+        fine: fields.fine,
+        coarse: fields.coarse,
+        gain: fields.gain,
+        divisor: fields.divisor,
+        name: next,
     }
 }
 
-// Whether a text is another, but for its carriage returns and the other's last newline.
+// The number after one in a line; the divisor is the last.
+fn next_name(name: FieldName) -> FieldName
+    ensures { λ r. ⌜ r ≡ nextName name ⌝ }
+{
+    match name {
+        FieldName::Version => FieldName::Fine,
+        FieldName::Fine => FieldName::Coarse,
+        FieldName::Coarse => FieldName::Gain,
+        FieldName::Gain => FieldName::Divisor,
+        FieldName::Divisor => FieldName::Divisor,
+    }
+}
+
+// Whether a text is another: its carriage returns don't count, and the other's last newline may be missing.
 fn is_like(text: &[u8], whole: &[u8]) -> bool
     ensures { λ r. ⌜ r ≡ isLike (now (text .entry)) (now (whole .entry)) ⌝ }
 {
@@ -276,8 +362,18 @@ fn is_like(text: &[u8], whole: &[u8]) -> bool
             return false;
         }
     }
-    if whole.len() <= at + 1 {
+    at_most_newline(whole, at)
+}
+
+// Whether nothing is left of the other text from a place on, or its last newline.
+fn at_most_newline(whole: &[u8], at: usize) -> bool
+    ensures { λ r. ⌜ r ≡ atMostNewline (drop at (now (whole .entry))) ⌝ }
+{
+    if whole.len() <= at {
         return true;
+    }
+    if whole.len() == at + 1 {
+        return whole[at] == b'\n';
     }
     false
 }

@@ -7,7 +7,9 @@ use lib.ListN.{set}
 use Rattle.text.specs.Text.{newline}
 use Rattle.saved_setting.specs.declared.SavedSetting.{SavedSetting}
 use Rattle.saved_settings_laws.specs.OrderLaws.{by-side}
-use Rattle.saved_text.specs.SettingsText.{LineFields, TextGathered, unused, noFields, withDigit, withField, fieldsAfter, settingOfFields, withSettingLine, gatheredAfter, gatheredOver, nothingGathered, numbersOf}
+use Rattle.saved_text.specs.declared.FieldName.{FieldName}
+use Rattle.saved_text.specs.declared.FieldName.the-variants.{Version, Fine, Coarse, Gain, Divisor}
+use Rattle.saved_text.specs.SettingsText.{LineFields, TextGathered, unused, noFields, numberOf, withNumber, withOneMore, withField, fieldsAfter, settingOfFields, withSettingLine, gatheredAfter, gatheredOver, nothingGathered, numbersOf}
 use Rattle.saved_text_laws.specs.SettingsRead.{InFields, AllInFields}
 
 record InLine (f : LineFields) : Type 0 where
@@ -24,17 +26,21 @@ record InText (g : TextGathered) : Type 0 where
 none-in : InLine noFields
 none-in = record { version = omega arith; fine = omega arith; coarse = omega arith; gain = omega arith; divisor = omega arith }
 
-digit-in : (f : LineFields) (c : ℕ) → InLine f → InLine (withDigit f c)
-digit-in f c r = record { version = r .version; fine = r .fine; coarse = r .coarse; gain = r .gain; divisor = omega arith }
+number-in : (k : FieldName) (f : LineFields) (n : ℕ) → n ≤ 65535 → InLine f → InLine (withNumber k f n)
+number-in Version f n l r = record { version = l; fine = r .fine; coarse = r .coarse; gain = r .gain; divisor = r .divisor }
+number-in Fine f n l r = record { version = r .version; fine = l; coarse = r .coarse; gain = r .gain; divisor = r .divisor }
+number-in Coarse f n l r = record { version = r .version; fine = r .fine; coarse = l; gain = r .gain; divisor = r .divisor }
+number-in Gain f n l r = record { version = r .version; fine = r .fine; coarse = r .coarse; gain = l; divisor = r .divisor }
+number-in Divisor f n l r = record { version = r .version; fine = r .fine; coarse = r .coarse; gain = r .gain; divisor = l }
 
 field-in : (f : LineFields) → InLine f → InLine (withField f)
-field-in f r = record { version = r .fine; fine = r .coarse; coarse = r .gain; gain = r .divisor; divisor = omega arith }
+field-in f r = record { version = r .version; fine = r .fine; coarse = r .coarse; gain = r .gain; divisor = r .divisor }
 
 after-in : (f : LineFields) (c : ℕ) → InLine f → InLine (fieldsAfter f c)
 unfolding fieldsAfter
 after-in f c r =
     by-side InLine (leb 0x30 c)
-    (λ d. by-side InLine (leb c 0x39) (λ e. digit-in f c r) (λ e. by-side InLine (eqb c 0x3A) (λ q. field-in f r) (λ q. r)))
+    (λ d. by-side InLine (leb c 0x39) (λ e. number-in (f .name) f (withOneMore (numberOf (f .name) f) c) (omega arith) r) (λ e. by-side InLine (eqb c 0x3A) (λ q. field-in f r) (λ q. r)))
     (λ d. by-side InLine (eqb c 0x2C) (λ q. field-in f r) (λ q. r))
 
 set-in : (list : List SavedSetting) (i : ℕ) (s : SavedSetting) → AllInFields list → InFields s → AllInFields (set list i s)

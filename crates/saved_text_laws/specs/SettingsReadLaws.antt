@@ -3,12 +3,12 @@
 use mathlib.Core.Path.{_≡_, refl, sym, ap, subst, _∙_}
 use mathlib.Core.Bool.{Bool, true, false, _&&_, cond, true≢false}
 use mathlib.Core.List.{List, [], _∷_, _++_, append-nil, append-assoc}
-use Prim.Native.Nat.{ℕ, zero, suc, _+_, _/_, _%_, _≤_}
+use Prim.Native.Nat.{ℕ, zero, suc, _+_, _/_, _%_}
 use native.Mathlib.Omega.{arith}
 use lib.Dec.{eqb, ltb}
 use lib.ListN.{length, drop, getD, set, replicate, length-append, length-map, List·getD-map}
 use lib.Seq.{append-snoc, set-append-seam}
-use borrow.Author.Tests.{lt-ltb, le-ltb, le-leb, leb-true, eq-eqb, eqb-true, ne-eqb}
+use borrow.Author.Tests.{lt-ltb, le-ltb, eq-eqb, eqb-true, ne-eqb}
 use Rattle.bits.specs.Every.{and-left, and-right, and-both}
 use Rattle.text.specs.Text.{ascii, newline, digit, digits, decimal}
 use Rattle.saved_setting.specs.declared.SavedSetting.{SavedSetting}
@@ -16,7 +16,7 @@ use Rattle.saved_setting.specs.SavedSettings.{isUnused, mayFollow, versionsInOr
 use Rattle.saved_settings_laws.specs.Histories.{usedOf}
 use Rattle.saved_settings_laws.specs.OrderLaws.{by-side, sides, unused-follows, order-tail, order-head}
 use Rattle.saved_text.specs.declared.Restored.{Restored}
-use Rattle.saved_text.specs.SettingsText.{TextGathered, settingLine, placeLine, unused, placeLines, settingsText, noFields, fieldsAfter, withSettingLine, gatheredAfter, gatheredOver, nothingGathered, numbersOf, carriageReturn, coverOf, startsBy, mayStand, isLike, isSettingsText, restored}
+use Rattle.saved_text.specs.SettingsText.{TextGathered, settingLine, placeLine, unused, placeLines, settingsText, noFields, fieldsAfter, withSettingLine, gatheredAfter, gatheredOver, nothingGathered, numbersOf, carriageReturn, coverOf, startsBy, mayStand, atMostNewline, isLike, isSettingsText, restored}
 use Rattle.saved_text_laws.specs.SettingsRead.{InFields, AllInFields, placeRestored, listRestored, ZerosUnused, withReturns, RestoredAs, TextRestores}
 use Rattle.saved_text_laws.specs.FieldRanges.{numbers-in-fields}
 use Rattle.saved_text_laws.specs.NumberRead.{over-append, setting-back, line-read}
@@ -126,15 +126,6 @@ places-gathered before (s ∷ list) long h r =
 
 -- ---- characters that don't count
 
--- the last character; d where there is none
-abbrev lastOf : ℕ → List ℕ → ℕ
-lastOf d [] = d
-lastOf d (c ∷ text) = lastOf c text
-
-last-append : (d : ℕ) (s t : List ℕ) → lastOf d (s ++ t) ≡ lastOf (lastOf d s) t
-last-append d [] t = refl
-last-append d (c ∷ s) t = last-append c s t
-
 return-kept : (g : TextGathered) (c : ℕ) → eqb c carriageReturn ≡ true → gatheredAfter g c ≡ g
 unfolding gatheredAfter fieldsAfter
 return-kept g c e = subst (λ (x : ℕ). gatheredAfter g x ≡ g) (sym (eqb-true c carriageReturn e)) refl
@@ -148,24 +139,24 @@ next-like : (c : ℕ) (text whole : List ℕ) → eqb c carriageReturn ≡ false
 unfolding mayStand coverOf
 next-like c text whole e = simp e
 
--- a text that is like one that ends a line, or is empty, is gathered as that one is
-like-gathered : (list : List SavedSetting) (text whole : List ℕ) (g : TextGathered) (d : ℕ) → isLike text whole ≡ true → lastOf d whole ≡ newline
-    → IsGathered (gatheredOver g whole) list → withSettingLine (gatheredOver g text) .list ≡ list
+-- a text that is like another is gathered as that one is
+like-gathered : (list : List SavedSetting) (text whole : List ℕ) (g : TextGathered) → isLike text whole ≡ true → IsGathered (gatheredOver g whole) list
+    → withSettingLine (gatheredOver g text) .list ≡ list
 unfolding gatheredAfter
-like-gathered list [] [] g d h l is = is .at-end
-like-gathered list [] (c ∷ []) g d h l is = subst (λ (x : ℕ). gatheredAfter g x .list ≡ list) l (is .so-far)
-like-gathered list [] (c ∷ b ∷ whole) g d h l is = absurd (omega (arith, leb-true (length (c ∷ b ∷ whole)) 1 h))
-like-gathered list (c ∷ text) [] g d h l is =
+like-gathered list [] [] g h is = is .at-end
+like-gathered list [] (c ∷ []) g h is = subst (λ (x : ℕ). gatheredAfter g x .list ≡ list) (eqb-true c newline h) (is .so-far)
+like-gathered list [] (c ∷ b ∷ whole) g h is = absurd (true≢false (sym h))
+like-gathered list (c ∷ text) [] g h is =
     sides (eqb c carriageReturn)
-    (λ e. like-gathered list text [] (gatheredAfter g c) d (sym (return-like c text [] e) ∙ h) l (rw (return-kept g c e) is))
+    (λ e. like-gathered list text [] (gatheredAfter g c) (sym (return-like c text [] e) ∙ h) (rw (return-kept g c e) is))
     (λ e. absurd (true≢false (sym (sym (next-like c text [] e) ∙ h))))
-like-gathered list (c ∷ text) (b ∷ whole) g d h l is =
+like-gathered list (c ∷ text) (b ∷ whole) g h is =
     sides (eqb c carriageReturn)
-    (λ e. like-gathered list text (b ∷ whole) (gatheredAfter g c) d (sym (return-like c text (b ∷ whole) e) ∙ h) l (rw (return-kept g c e) is))
+    (λ e. like-gathered list text (b ∷ whole) (gatheredAfter g c) (sym (return-like c text (b ∷ whole) e) ∙ h) (rw (return-kept g c e) is))
     (λ e.
     let both = sym (next-like c text (b ∷ whole) e) ∙ h in
     let same = eqb-true b c (and-left (eqb b c) (isLike text whole) both) in
-    like-gathered list text whole (gatheredAfter g c) b (and-right (eqb b c) (isLike text whole) both) l
+    like-gathered list text whole (gatheredAfter g c) (and-right (eqb b c) (isLike text whole) both)
     (subst (λ (x : ℕ). IsGathered (gatheredOver (gatheredAfter g x) whole) list) same is))
 
 -- ---- the characters of a list's text
@@ -201,10 +192,6 @@ returnless-line s =
     (returnless-field (ascii ", coarse ") (s .coarse) _ refl
     (returnless-field (ascii ", gain ") (s .gain) _ refl (returnless-field (ascii ", divisor ") (s .divisor) (newline ∷ []) refl refl))))
 
--- each line ends
-line-ended : (d : ℕ) (s : SavedSetting) → lastOf d (settingLine s) ≡ newline
-line-ended d s = simp last-append
-
 -- a place's line, or none
 by-place : (P : List ℕ → Type 0) (s : SavedSetting) → P [] → P (settingLine s) → P (placeLine s)
 unfolding placeLine
@@ -215,13 +202,6 @@ returnless-lines zero list = refl
 returnless-lines (suc n) list =
     let s = getD list n unused in
     returnless-append (placeLines n list) (placeLine s) (returnless-lines n list) (by-place (λ (t : List ℕ). noReturns t ≡ true) s refl (returnless-line s))
-
-lines-ended : (n : ℕ) (list : List SavedSetting) → lastOf newline (placeLines n list) ≡ newline
-lines-ended zero list = refl
-lines-ended (suc n) list =
-    let s = getD list n unused in
-    last-append newline (placeLines n list) (placeLine s) ∙ ap (λ (d : ℕ). lastOf d (placeLine s)) (lines-ended n list)
-    ∙ by-place (λ (t : List ℕ). lastOf newline t ≡ newline) s refl (line-ended newline s)
 
 -- ---- texts that are like it
 
@@ -240,14 +220,14 @@ module _ (c : ℕ) (text : List ℕ) (h : noReturns (c ∷ text) ≡ true) where
   returnless-rest : noReturns text ≡ true
   returnless-rest = and-right (cond (eqb c carriageReturn) false true) (noReturns text) h
 
--- all of it but its last character, and the whole
-like-front : (text end : List ℕ) → length end ≤ 1 → noReturns (text ++ end) ≡ true → isLike text (text ++ end) ≡ true
-like-front [] end short h = le-leb (length end) 1 short
+-- all of it but its last newline, and the whole
+like-front : (text end : List ℕ) → atMostNewline end ≡ true → noReturns (text ++ end) ≡ true → isLike text (text ++ end) ≡ true
+like-front [] end short h = short
 like-front (c ∷ text) end short h =
     also-like c text (text ++ end) (returnless-first c (text ++ end) h) (like-front text end short (returnless-rest c (text ++ end) h))
 
 like-itself : (text : List ℕ) → noReturns text ≡ true → isLike text text ≡ true
-like-itself text h = subst (λ (t : List ℕ). isLike text t ≡ true) (append-nil text) (like-front text [] (omega arith) (rw (append-nil text) h))
+like-itself text h = subst (λ (t : List ℕ). isLike text t ≡ true) (append-nil text) (like-front text [] refl (rw (append-nil text) h))
 
 -- with carriage returns
 returns-like : (text : List ℕ) → noReturns text ≡ true → isLike (withReturns text) text ≡ true
@@ -279,7 +259,7 @@ module _ (list : List SavedSetting) (saved : isSavedList list ≡ true) (r : All
   module _ (text : List ℕ) (like : isLike text (settingsText list) ≡ true) where
     like-numbers : numbersOf text ≡ listRestored list
     unfolding settingsText numbersOf
-    like-numbers = like-gathered (listRestored list) text (placeLines 8 list) nothingGathered newline like (lines-ended 8 list) whole-gathered
+    like-numbers = like-gathered (listRestored list) text (placeLines 8 list) nothingGathered like whole-gathered
 
     like-valid : isSettingsText text ≡ true
     unfolding isSettingsText
@@ -306,7 +286,7 @@ module _ (list : List SavedSetting) (saved : isSavedList list ≡ true) (r : All
       record {
         written = like-restored (settingsText list) (like-itself (settingsText list) returnless-text);
         returned = like-restored (withReturns (settingsText list)) (returns-like (settingsText list) returnless-text);
-        unended = λ text e. like-restored text (subst (λ (t : List ℕ). isLike text t ≡ true) e (like-front text (newline ∷ []) (omega arith) (rw e returnless-text)));
+        unended = λ text e. like-restored text (subst (λ (t : List ℕ). isLike text t ≡ true) e (like-front text (newline ∷ []) refl (rw e returnless-text)));
         like = like-restored;
         only = only-like;
         used = restored-first list;

@@ -8,11 +8,8 @@ use Rattle.refusal.specs.Refusal.{notSavedSettings}
 use Rattle.text.specs.Text.{ascii}
 use Rattle.text.specs.Put.{Puts}
 use Rattle.saved_setting.specs.declared.SavedSetting.{SavedSetting}
-use Rattle.saved_setting.specs.declared.Saved.{Saved}
-use Rattle.saved_setting.specs.declared.Saved.the-variants as saved
-use Rattle.saved_setting.specs.declared.Held.{Held}
-use Rattle.saved_setting.specs.declared.Held.the-variants as held
-use Rattle.saved_setting.specs.SavedSettings.{isUnused, savedWanted, foundIn, savedAgain}
+use Rattle.saved_setting.specs.SavedSettings as reply
+use Rattle.saved_setting.specs.SavedSettings.{Reply, isUnused, savedWanted, foundIn, savedAgain}
 use Rattle.saved_text.specs.SettingsText.{settingLine, unused, settingsText, numbersOf, isSettingsText}
 use Rattle.settings_words.specs.SettingsWords.{notes, refusedRequest, writesOf}
 use Rattle.settings_request.specs.declared.Request.{Request}
@@ -37,32 +34,32 @@ abbrev pub refusingRequest : List SavedSetting → ℕ → RequestEffect
 refusingRequest list n = record { list = list; text = refusedRequest n; changed = false; refused = true }
 
 -- what is found, as its line
-unfoldable pub heldLine : Held → List ℕ
-heldLine (held.Setting s) = settingLine s
-heldLine (held.Refused n) = refusedRequest n
+unfoldable pub heldLine : Reply SavedSetting → List ℕ
+heldLine (reply.yields s) = settingLine s
+heldLine (reply.refused n) = refusedRequest n
 
 -- what was saved is said as it is then found
-unfoldable pub saving : List SavedSetting → List ℕ → Saved → RequestEffect
-saving list more (saved.Version v) = record { list = list; text = heldLine (foundIn list v) ++ more; changed = true; refused = false }
-saving list more (saved.Refused n) = refusingRequest list n
+unfoldable pub saving : List SavedSetting → List ℕ → Reply ℕ → RequestEffect
+saving list more (reply.yields v) = record { list = list; text = heldLine (foundIn list v) ++ more; changed = true; refused = false }
+saving list more (reply.refused n) = refusingRequest list n
 
 -- the line of what is found, or its messages
-unfoldable pub lookingUp : List SavedSetting → Held → RequestEffect
-lookingUp list (held.Setting s) = telling list (settingLine s)
-lookingUp list (held.Refused n) = refusingRequest list n
+unfoldable pub lookingUp : List SavedSetting → Reply SavedSetting → RequestEffect
+lookingUp list (reply.yields s) = telling list (settingLine s)
+lookingUp list (reply.refused n) = refusingRequest list n
 
-unfoldable pub sending : List SavedSetting → Held → RequestEffect
-sending list (held.Setting s) = telling list (writesOf s)
-sending list (held.Refused n) = refusingRequest list n
+unfoldable pub sending : List SavedSetting → Reply SavedSetting → RequestEffect
+sending list (reply.yields s) = telling list (writesOf s)
+sending list (reply.refused n) = refusingRequest list n
 
 unfoldable pub listedText : List SavedSetting → List ℕ
 listedText list = cond (isUnused (getD list 0 unused)) (ascii "nothing is saved yet\n") (settingsText list)
 
 -- a request's effect: after saving, what was clipped is said too
 abbrev pub requestEffect : Request → List SavedSetting → RequestEffect
-requestEffect (Save w) list = saving (savedWanted list w .list) (notes w) (savedWanted list w .answer)
+requestEffect (Save w) list = saving (savedWanted list w .list) (notes w) (savedWanted list w .reply)
 requestEffect (Find v) list = lookingUp list (foundIn list v)
-requestEffect (Back v) list = saving (savedAgain list v .list) [] (savedAgain list v .answer)
+requestEffect (Back v) list = saving (savedAgain list v .list) [] (savedAgain list v .reply)
 requestEffect ListAll list = telling list (listedText list)
 requestEffect (Messages v) list = sending list (foundIn list v)
 

@@ -44,7 +44,7 @@ use Rattle.saved_setting.specs.declared.SavedSetting.{SavedSetting}
 use Rattle.saved_setting.specs.declared.EightPlaces.{EightPlaces}
 use Rattle.saved_setting.specs.declared.Held.{Held}
 use Rattle.saved_setting.specs.declared.Held.the-variants.{Refused}
-use Rattle.saved_setting.specs.SavedSettings.{placesOf, foundIn}
+use Rattle.saved_setting.specs.SavedSettings.{heldReply, placesOf, foundIn}
 use Rattle.saved_setting.specs.SavedSettingsLaws.{found-refused}
 use Rattle.saved_settings.proofs.Copies.{vals, Good, Goods, eight-out, eight-in, place-of, goes-on, by-length, not-not}
 use Rattle.saved_setting.proofs.SavedSetting as S
@@ -77,8 +77,8 @@ module _ {M : Type 1} (𝓤 : URA M) (H : Heap 𝓤) (A : Atoms 𝓤) (mem : Mem
   FindIn = tripleOf 𝓤 H A find-in.signature (find-in.spec 𝓤 H A mem run)
 
   found-of : (e : EightPlaces) (v : ℕ) (r : Held)
-      → ent 𝓤 (ensured 𝓤 H A find-in.ended (find-in.clauses 𝓤 H A mem run) tt (e, (v, tt)) tt r) (fact 𝓤 (r ≡ foundIn (placesOf e) v))
-  found-of e v r = exE 𝓤 _ (λ ws. snd∗ 𝓤 (sem 𝓤 H A (lasts find-in.ended tt (e, (v, tt)) ws)) (fact 𝓤 (r ≡ foundIn (placesOf e) v)))
+      → ent 𝓤 (ensured 𝓤 H A find-in.ended (find-in.clauses 𝓤 H A mem run) tt (e, (v, tt)) tt r) (fact 𝓤 (heldReply r ≡ foundIn (placesOf e) v))
+  found-of e v r = exE 𝓤 _ (λ ws. snd∗ 𝓤 (sem 𝓤 H A (lasts find-in.ended tt (e, (v, tt)) ws)) (fact 𝓤 (heldReply r ≡ foundIn (placesOf e) v)))
 
 module _ {M : Type 1} (𝓤 : URA M) (H : Heap 𝓤) (A : Atoms 𝓤) (W : Given 𝓤 H A) (mem : Memory → SProp 𝓤) (run : Routine
     → Fun 𝓤) (κ : Lft) (q : Share) (b o : ℕ) (γ : GName) (v : ℕ) (gv : v < 2 ^ 16) where
@@ -102,7 +102,7 @@ module _ {M : Type 1} (𝓤 : URA M) (H : Heap 𝓤) (A : Atoms 𝓤) (W : Given
       (EL.val F.the-type F′.the-laws (Refused 37)) (Refused 37) (tt, (tt, tt)) (tt, (tt, tt))) $ says ! (found-refused ys other v) $
       frame ! $ frame ! $ owned ! F.the-row (Is F.the-row) (EL.makes F.the-type F′.the-plain 𝓤 H A) (Refused 37) _ refused-is $ done !
 
-  exits-eight : (e : EightPlaces) (r : Held) (w : Val) → r ≡ foundIn (placesOf e) v
+  exits-eight : (e : EightPlaces) (r : Held) (w : Val) → heldReply r ≡ foundIn (placesOf e) v
       → ent 𝓤 (⋆ 𝓤 H A (‵ (ShrSlice (named 0) κ S.the-row .own (x (placesOf e) .0)
       (at (placesOf e) .0)) ∷ ‵ (flft κ q) ∷ ‵ (fsep (u16 .own v (vint w16 v ∷ [])) ftrue) ∷ ‵ (F.the-row .own r (w ∷ [])) ∷ []))
       (Post (placesOf e) w)
@@ -220,8 +220,8 @@ module _ {M : Type 1} (𝓤 : URA M) (H : Heap 𝓤) (A : Atoms 𝓤) (W : Given
         (and-then ! (load ! (from ! (stop !)) (look ! 45 refl)) (no-more !))) (λ w.
         use1 W (later (some (λ (r : Held). (‵ ftrue ⊛ ‵ (F.the-row .own r (w
         ∷ []))) ⊛ raw (ensured 𝓤 H A find-in.ended (find-in.clauses 𝓤 H A mem run) tt (e, (v, tt)) tt r)))) (id⊢ 𝓤 _) $ await ! tt $ pick ! (λ r.
-        split ! $ move ! (1 ∷ []) $ use1 W (raw (fact 𝓤 (r ≡ foundIn (placesOf e) v))) (found-of 𝓤 H A mem run e v r) $
-        heard ! (r ≡ foundIn (placesOf e) v) (λ said. split ! $ drop ! $ peeks ! F.the-row (Is F.the-row) (shows 𝓤 H A F.the-row) r (w ∷ []) (λ is.
+        split ! $ move ! (1 ∷ []) $ use1 W (raw (fact 𝓤 (heldReply r ≡ foundIn (placesOf e) v))) (found-of 𝓤 H A mem run e v r) $
+        heard ! (heldReply r ≡ foundIn (placesOf e) v) (λ said. split ! $ drop ! $ peeks ! F.the-row (Is F.the-row) (shows 𝓤 H A F.the-row) r (w ∷ []) (λ is.
         land ! (from ! (stop !)) (init ! 49 refl (EL.lawful F.the-type F′.the-laws 𝓤 H A W tt .typed r _ is .0)) $ returns ! (look ! 49 refl) $
         forget ! 49 refl $ forget ! 47 refl $ forget ! 45 refl $ forget ! 43 refl $ forget ! 41 refl $ forget ! 39 refl $ forget ! 37 refl $
         forget ! 35 refl $ forget ! 33 refl $ forget ! 31 refl $ forget ! 29 refl $ forget ! 27 refl $ forget ! 25 refl $ forget ! 23 refl $

@@ -49,7 +49,7 @@ use denote.Triple.Walked.{says, Stays, stay-none, walkOf, goes-none, Walks, ends
 use denote.Exit.{yes}
 use Rattle.saved_setting.specs.declared.SavedSetting.{SavedSetting}
 use Rattle.saved_setting.specs.declared.Held.{Held}
-use Rattle.saved_setting.specs.SavedSettings.{foundIn}
+use Rattle.saved_setting.specs.SavedSettings.{heldReply, foundIn}
 use Rattle.saved_settings.proofs.Lent.{arr, arr-vals, arr-val, Eights, tells, array-in, array-back}
 use Rattle.saved_setting.proofs.SavedSetting as S
 use Rattle.saved_setting.proofs.SavedSetting.Laws as S′
@@ -88,7 +88,7 @@ module _ {M : Type 1} (𝓤 : URA M) (H : Heap 𝓤) (A : Atoms 𝓤) (W : Given
   typed-array : (zs : List SavedSetting) → Eights zs → Holds (hasTy (tyArray S′.mir 8) (arr-val zs)) × WT (arr-val zs)
   typed-array zs zis = array-lawful 𝓤 H A W S.the-row (LL.lawful S.the-type S′.the-laws 𝓤 H A W) 8 .typed zs _ zis .0
 
-  exits : (r : Held) (w : Val) → r ≡ foundIn ys v
+  exits : (r : Held) (w : Val) → heldReply r ≡ foundIn ys v
       → ent 𝓤 (⋆ 𝓤 H A (‵ ftrue ∷ ‵ (owns (arr ∷ u16 ∷ []) (ys, (v, tt)) at) ∷ ‵ (F.the-row .own r (w ∷ [])) ∷ [])) (Post w)
   exits r w said =
       qed W (‵ ftrue ∷ ‵ (owns (arr ∷ u16 ∷ []) (ys, (v, tt)) at) ∷ ‵ (F.the-row .own r (w ∷ [])) ∷ []) ∵
@@ -112,8 +112,8 @@ module _ {M : Type 1} (𝓤 : URA M) (H : Heap 𝓤) (A : Atoms 𝓤) (W : Given
       frame ! $ done !
 
   said-of : (l ν : ℕ) (δ : GName) (r : Held)
-      → ent 𝓤 (ensured 𝓤 H A find.ended (find.clauses 𝓤 H A mem run) (ν ∷ [], tt) (x l δ, (v, tt)) tt r) (fact 𝓤 (r ≡ foundIn ys v))
-  said-of l ν δ r = exE 𝓤 _ (λ ws. snd∗ 𝓤 (sem 𝓤 H A (lasts find.ended (ν ∷ [], tt) (x l δ, (v, tt)) ws)) (fact 𝓤 (r ≡ foundIn ys v)))
+      → ent 𝓤 (ensured 𝓤 H A find.ended (find.clauses 𝓤 H A mem run) (ν ∷ [], tt) (x l δ, (v, tt)) tt r) (fact 𝓤 (heldReply r ≡ foundIn ys v))
+  said-of l ν δ r = exE 𝓤 _ (λ ws. snd∗ 𝓤 (sem 𝓤 H A (lasts find.ended (ν ∷ [], tt) (x l δ, (v, tt)) ws)) (fact 𝓤 (heldReply r ≡ foundIn ys v)))
 
   module _ (C : Calls 𝓤 H) (Λ : Loops 𝓤 H) (fm : FmC 𝓤 H (W .laws) C) (known : Triple 𝓤 (C #saved-settings·find) (Find 𝓤 H A mem run)) where
     walk : ent 𝓤 (onEntry 𝓤 H A f.signature tt tt (ys, (v, tt)) at) (WpFn 𝓤 H C Λ code.function (arr-val ys ∷ vint w16 v ∷ []) Post)
@@ -139,7 +139,7 @@ module _ {M : Type 1} (𝓤 : URA M) (H : Heap 𝓤) (A : Atoms 𝓤) (W : Given
         use1 W (later (some (λ (r : Held). ((‵ (flft (ν ∷ []) fullShare) ⊛ ‵ ftrue) ⊛ ‵ (F.the-row .own r (w
         ∷ []))) ⊛ raw (ensured 𝓤 H A find.ended (find.clauses 𝓤 H A mem run) (ν ∷ [], tt) (x l3 δ, (v, tt)) tt r)))) (id⊢ 𝓤 _) $ await ! tt $
         pick ! (λ r.
-        split ! $ move ! (1 ∷ []) $ use1 W (raw (fact 𝓤 (r ≡ foundIn ys v))) (said-of l3 ν δ r) $ heard ! (r ≡ foundIn ys v) (λ said. split ! $
+        split ! $ move ! (1 ∷ []) $ use1 W (raw (fact 𝓤 (heldReply r ≡ foundIn ys v))) (said-of l3 ν δ r) $ heard ! (heldReply r ≡ foundIn ys v) (λ said. split ! $
         move ! (1 ∷ []) $ peeks ! F.the-row (Is F.the-row) (shows 𝓤 H A F.the-row) r (w ∷ []) (λ ris.
         land ! (from ! (stop !)) (init ! 12 refl (EL.lawful F.the-type F′.the-laws 𝓤 H A W tt .typed r _ ris .0)) $ move ! (1 ∷ []) $ split ! $
         lft-end ! tt $ move ! (0 ∷ 3 ∷ []) $ lent-back ! tt $ fsplit ! $ move ! (1 ∷ []) $

@@ -4,7 +4,7 @@ use Prim.Native.Nat.{_≤_, _-_}
 use borrow.Author.Needs.{needs}
 use lib.ListN.{length, drop}
 use Rattle.saved_text.specs.SettingsText.{isLike}
-use Rattle.saved_text.specs.SettingsTextLaws.{like-step, like-whole, like-part}
+use Rattle.saved_text.specs.SettingsTextLaws.{like-step, like-end}
 use Rattle.saved_text.proofs.is_like.Statement.{statement}
 use Rattle.saved_text.proofs.is_like.Tie as tie
 
@@ -32,10 +32,7 @@ returns c =
     sym (loop .inv .2 ∙ like-step (a .text .now) (loop .i) (test .loop-test .taken) (a .whole .now) (loop .at) ∙ simp (← c .before .stands .ensures, c .if1 .left))
 
 returns-2 : tie.Need-returns-2 Inv-loop μ-loop
-returns-2 c = sym (c .before .before .loop .inv .2 ∙ like-whole _ _ _ _ (c .before .loop-test .left) (c .if2 .taken))
-
-returns-3 : tie.Need-returns-3 Inv-loop μ-loop
-returns-3 c = sym (c .before .before .loop .inv .2 ∙ like-part _ _ _ _ (c .before .loop-test .left) (c .if2 .left))
+returns-2 c = c .at-most-newline .ensures ∙ sym (c .before .before .loop .inv .2 ∙ like-end _ _ _ (c .before .loop-test .left))
 
 pub is-like-spec : {M : Type 1} → statement M
 is-like-spec =
@@ -53,5 +50,4 @@ is-like-spec =
     loop-again
     returns
     (λ c. search needs)
-    returns-2
-    returns-3)
+    returns-2)
