@@ -1,2 +1,2 @@
-pub mod Word
-pub mod WordLaws
+pub mod Arguments
+pub mod ArgumentsLaws

@@ -1,129 +1,49 @@
-// The words of a command line, and the file or the standard input that a program reads.
+// The arguments of a program, read word by word, and the file or the standard input that it reads.
 //
-// In: a word as it was typed. Out: what it asks for. A word that begins with `-` and is no option here is Unknown; any other word is a name of
-// a file. Cost: linear in the word.
-ghost use mathlib.Core.Path.{_≡_};
-ghost use lib.ListN.{take};
-ghost use Rattle.text.specs.Text.{ascii};
-ghost use Rattle.command.specs.Word.{same, otherWord, wordOf};
+// In: what the program takes (crate command_words). Out: what its arguments ask for, whatever they are, and whether all were understood; an input
+// by its place among them. Cost: linear in the words.
+ghost use Prim.Native.Nat.{_-_};
+ghost use Rattle.command.specs.Arguments.{sensorAndFile, AskedByAll, AskedBySome};
+use command_words::Asked;
+use command_words::Usage;
+use command_words::meaning;
 use libc::STDERR_FILENO;
 use libc::STDIN_FILENO;
-use profile::Profile;
 use text::put;
 
-pub enum Word {
-    Sensor(Profile),
-    OddPixelsFirst,
-    Output,
-    Unknown,
-    Name,
-}
-
-// What a word asks for.
-pub fn meaning(text: &[u8]) -> Word
-    ensures { λ r. ⌜ r ≡ wordOf (now (text .entry)) ⌝ }
+// Reads the arguments of a program that takes a sensor and a file: `[vv5404|vv6404|vv5300] [FILE]`.
+pub fn sensor_and_file() -> Asked
+    ensures { λ r. ⌜ AskedBySome sensorAndFile r ⌝ }
 {
-    if is(text, b"vv5404") {
-        return Word::Sensor(Profile::VV5404);
-    }
-    if is(text, b"vv6404") {
-        return Word::Sensor(Profile::VV5404);
-    }
-    if is(text, b"vv5300") {
-        return Word::Sensor(Profile::VV5300);
-    }
-    other_meaning(text)
+    words(Usage {
+        mark: false,
+        odd: false,
+        output: false,
+        second: false,
+    })
 }
 
-// What a word asks for that names no sensor.
-fn other_meaning(text: &[u8]) -> Word
-    ensures { λ r. ⌜ r ≡ otherWord (now (text .entry)) ⌝ }
+// Reads the arguments of a program that takes these.
+pub fn words(usage: Usage) -> Asked
+    ensures { λ r. ⌜ AskedBySome usage r ⌝ }
 {
-    if is(text, b"odd-pixels-first") {
-        return Word::OddPixelsFirst;
-    }
-    if is(text, b"-o") {
-        return Word::Output;
-    }
-    if has_dash(text) {
-        return Word::Unknown;
-    }
-    Word::Name
-}
-
-// What a program is asked for: the sensor, and whether it was named; the file's place among the arguments, 0 for standard input; and whether
-// all words were understood.
-pub struct Asked {
-    pub profile: Profile,
-    pub named: bool,
-    pub file: usize,
-    pub understood: bool,
-}
-
-// Reads the arguments `[vv5404|vv6404|vv5300] [FILE]`.
-pub fn sensor_and_file() -> Asked {
-    let profile = Profile::VV5404;
-    let mut asked = Asked {
-        profile,
-        named: false,
-        file: 0,
-        understood: true,
-    };
     let count = os::arg_count();
+    words_below(usage, count)
+}
+
+// Reads the arguments below a place, one after another.
+fn words_below(usage: Usage, count: usize) -> Asked
+    ensures { λ r. ⌜ AskedByAll usage (count - 1) r ⌝ }
+{
+    let mut asked = Asked::new();
     let mut i: usize = 1;
     while i < count {
         let mut buf = io::buffer();
         let n = os::arg(i, &mut buf);
-        asked = with(asked, meaning(&buf[..n]), i);
+        asked = asked.with(usage, meaning(&buf[..n]), i);
         i += 1;
     }
-    asked
-}
-
-// With one word more: a second sensor or file is not understood, nor an option.
-fn with(asked: Asked, word: Word, i: usize) -> Asked {
-    match word {
-        Word::Sensor(profile) => with_sensor(asked, profile),
-        Word::Name => with_file(asked, i),
-        Word::OddPixelsFirst => not_understood(asked),
-        Word::Output => not_understood(asked),
-        Word::Unknown => not_understood(asked),
-    }
-}
-
-fn with_sensor(asked: Asked, profile: Profile) -> Asked {
-    if asked.named {
-        return not_understood(asked);
-    }
-    Asked {
-        profile,
-        named: true,
-        file: asked.file,
-        understood: asked.understood,
-    }
-}
-
-fn with_file(asked: Asked, i: usize) -> Asked {
-    if asked.file == 0 {
-        let profile = asked.profile;
-        return Asked {
-            profile,
-            named: asked.named,
-            file: i,
-            understood: asked.understood,
-        };
-    }
-    not_understood(asked)
-}
-
-fn not_understood(asked: Asked) -> Asked {
-    let profile = asked.profile;
-    Asked {
-        profile,
-        named: asked.named,
-        file: asked.file,
-        understood: false,
-    }
+    asked.end()
 }
 
 // An input: its descriptor, or -1; and how many bytes its name has.
@@ -184,31 +104,4 @@ pub fn tell_no_name() {
 // Writes a line to standard error.
 pub fn complain(text: &[u8]) {
     io::write_all(STDERR_FILENO, text);
-}
-
-// Whether a text begins with a dash.
-fn has_dash(text: &[u8]) -> bool
-    ensures { λ r. ⌜ r ≡ same (take 1 (now (text .entry))) (ascii "-") ⌝ }
-{
-    if text.len() < 1 {
-        return false;
-    }
-    is(&text[..1], b"-")
-}
-
-// Whether a text is this one.
-pub fn is(text: &[u8], that: &[u8]) -> bool
-    ensures { λ r. ⌜ r ≡ same (now (text .entry)) (now (that .entry)) ⌝ }
-{
-    if text.len() != that.len() {
-        return false;
-    }
-    let mut i: usize = 0;
-    while i < text.len() {
-        if text[i] != that[i] {
-            return false;
-        }
-        i += 1;
-    }
-    true
 }

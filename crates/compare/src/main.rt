@@ -2,17 +2,19 @@
 // each, and says on standard output how they differ: lines that one only holds, lines of two kinds, pixels, in which lines and by how much at
 // most. With -o each difference goes to a file, as a row of text. Where a capture has no complete frame a line on standard error says so, with
 // its name, and nothing is compared. The lines of two frames are kept, and no more of the captures.
+use command_words::Asked;
+use command_words::Usage;
 use diff_summary::Summary;
-use frame_file::Asked;
 use frame_row::Keeping;
 use lent_buffer::Filled;
 use libc::STDOUT_FILENO;
+use profile::Profile;
 
 // What no summary exceeds.
 const TEXT: usize = 512;
 
 fn main() {
-    let asked = frame_file::words();
+    let asked = words();
     if is_for_two(asked) {
         compare(asked);
     } else {
@@ -22,25 +24,37 @@ fn main() {
     }
 }
 
-// Whether the words are understood, and name two captures; the order of the pixels does not matter here.
+// Reads the arguments: the order of the pixels does not matter here.
+fn words() -> Asked {
+    command::words(Usage {
+        mark: false,
+        odd: false,
+        output: true,
+        second: true,
+    })
+}
+
+// Whether the words are understood, and name two captures.
 fn is_for_two(asked: Asked) -> bool {
     if asked.second == 0 {
-        return false;
-    }
-    if asked.odd {
         return false;
     }
     asked.understood
 }
 
-// Compares the captures, or says why they can't be.
+// Compares captures of VV5404 or VV6404 heads.
 fn compare(asked: Asked) {
-    if asked.foreign {
-        command::complain(
+    let profile = asked.profile;
+    match profile {
+        Profile::VV5404 => compare_asked(asked),
+        Profile::VV5300 => command::complain(
             b"frames of a VV5300 are not compared here: only those of VV5404 and VV6404 heads\n",
-        );
-        return;
+        ),
     }
+}
+
+// Compares the captures, or says why they can't be.
+fn compare_asked(asked: Asked) {
     if replaces(asked) {
         command::complain(b"the differences would replace a capture: give another name after -o\n");
         return;

@@ -1,137 +1,15 @@
-// What the programs picture and compare share: the words of their command lines; the rows of the first complete frame of a capture file; and a
-// file that is written whole, or an older one of its name stays.
+// What the programs picture and compare share: the rows of the first complete frame of a capture file; and a file that is written whole, or an
+// older one of its name stays.
 //
 // Read: the arguments, a capture from a file or standard input. Written: a file under a name. What cannot be read or written is told once, on
 // standard error. Memory: the frame's rows, and no more of the capture.
 ghost use Prim.Native.Nat.{_≤_};
 ghost use lib.ListN.{length};
-use command::Word;
 use frame_grabber::Grabber;
 use frame_row::Keeping;
 use frame_rows::Progress;
 use libc::SEEK_END;
-use profile::Profile;
 use text::put;
-
-// What is asked for: whether the head sends odd pixels first; whether it is a VV5300, which has no frame here, and whether a sensor was named;
-// the places of the output's and of the captures' names among the arguments, 0 for none; whether the next word is the output's name; and
-// whether all words were understood.
-pub struct Asked {
-    pub odd: bool,
-    pub foreign: bool,
-    pub named: bool,
-    pub output: usize,
-    pub first: usize,
-    pub second: usize,
-    pub awaited: bool,
-    pub understood: bool,
-}
-
-// Reads the arguments `[vv5404|vv6404|vv5300] [odd-pixels-first] [-o OUTPUT] [FIRST] [SECOND]`, in any order.
-pub fn words() -> Asked {
-    let mut asked = Asked {
-        odd: false,
-        foreign: false,
-        named: false,
-        output: 0,
-        first: 0,
-        second: 0,
-        awaited: false,
-        understood: true,
-    };
-    let count = os::arg_count();
-    let mut i: usize = 1;
-    while i < count {
-        let mut buf = io::buffer();
-        let n = os::arg(i, &mut buf);
-        asked = with(asked, command::meaning(&buf[..n]), i);
-        i += 1;
-    }
-    if asked.awaited {
-        return not_understood(asked);
-    }
-    asked
-}
-
-// With one word more: after -o any word is a name but -o itself; a second sensor or output and a third capture are not understood.
-fn with(asked: Asked, word: Word, i: usize) -> Asked {
-    match word {
-        Word::Output => awaiting(asked),
-        Word::Name => with_name(asked, i),
-        Word::OddPixelsFirst => with_odd(asked, i),
-        Word::Sensor(profile) => with_sensor(asked, profile, i),
-        Word::Unknown => with_unknown(asked, i),
-    }
-}
-
-fn awaiting(mut asked: Asked) -> Asked {
-    if asked.awaited {
-        return not_understood(asked);
-    }
-    if asked.output == 0 {
-        asked.awaited = true;
-        return asked;
-    }
-    not_understood(asked)
-}
-
-fn with_name(mut asked: Asked, i: usize) -> Asked {
-    if asked.awaited {
-        return with_output(asked, i);
-    }
-    if asked.first == 0 {
-        asked.first = i;
-        return asked;
-    }
-    if asked.second == 0 {
-        asked.second = i;
-        return asked;
-    }
-    not_understood(asked)
-}
-
-fn with_odd(mut asked: Asked, i: usize) -> Asked {
-    if asked.awaited {
-        return with_output(asked, i);
-    }
-    asked.odd = true;
-    asked
-}
-
-fn with_sensor(mut asked: Asked, profile: Profile, i: usize) -> Asked {
-    if asked.awaited {
-        return with_output(asked, i);
-    }
-    if asked.named {
-        return not_understood(asked);
-    }
-    asked.named = true;
-    match profile {
-        Profile::VV5404 => {}
-        Profile::VV5300 => {
-            asked.foreign = true;
-        }
-    }
-    asked
-}
-
-fn with_unknown(asked: Asked, i: usize) -> Asked {
-    if asked.awaited {
-        return with_output(asked, i);
-    }
-    not_understood(asked)
-}
-
-fn with_output(mut asked: Asked, i: usize) -> Asked {
-    asked.output = i;
-    asked.awaited = false;
-    asked
-}
-
-fn not_understood(mut asked: Asked) -> Asked {
-    asked.understood = false;
-    asked
-}
 
 // Whether two arguments are one word; none is the word of place 0.
 pub fn is_same(one: usize, other: usize) -> bool {
@@ -148,7 +26,7 @@ pub fn is_same(one: usize, other: usize) -> bool {
     if n == 0 {
         return false;
     }
-    command::is(&a[..n], &b[..m])
+    command_words::is(&a[..n], &b[..m])
 }
 
 // Puts the rows of the first complete frame of the capture at a place among the arguments at the front of a buffer, and gives their length; 0

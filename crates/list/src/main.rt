@@ -3,7 +3,7 @@
 // Read: the bytes of a capture of the sensor that the arguments name, from the file they name or from standard input. Written: the names of the
 // columns, and the rows, as list_marks says them. Arguments that are not understood print the usage on standard error, and nothing else. An open,
 // a read or a write that fails is told once, on standard error, and ends the list.
-use command::Asked;
+use command_words::Asked;
 use libc::STDOUT_FILENO;
 use list_marks::MarkLister;
 
@@ -18,7 +18,7 @@ fn main() {
 
 fn list_asked(asked: Asked) {
     let mut name = io::buffer();
-    let input = command::open_capture(asked.file, &mut name);
+    let input = command::open_capture(asked.first, &mut name);
     if input.fd < 0 {
         return;
     }

@@ -2,7 +2,7 @@
 // visible line, as mean_lister says it. A capture without one has the names of the columns alone, and a line on standard error says so.
 // Arguments that are not understood print the usage on standard error, and nothing else. An open, a read or a write that fails is told once,
 // on standard error, and ends the table.
-use command::Asked;
+use command_words::Asked;
 use libc::STDOUT_FILENO;
 use mean_lister::MeanLister;
 use profile::Profile;
@@ -10,7 +10,7 @@ use profile::Profile;
 fn main() {
     let asked = command::sensor_and_file();
     if is_for_means(asked) {
-        table(asked.file);
+        table(asked.first);
     } else {
         command::complain(b"usage: means [vv5300] [FILE]\n");
     }

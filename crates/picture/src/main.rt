@@ -2,15 +2,17 @@
 // input, and writes the picture as a PGM file, to standard output or to the file after -o. With the word odd-pixels-first each row is put in
 // order, for heads that send odd pixels first. Where no frame is complete or the picture can't be written whole an older file stays as it was,
 // and a line on standard error says so. No picture goes to a terminal. The frame's rows are kept, and no more of the capture.
-use frame_file::Asked;
+use command_words::Asked;
+use command_words::Usage;
 use frame_row::Keeping;
 use frame_row::Order;
 use lent_buffer::Filled;
 use libc::STDOUT_FILENO;
+use profile::Profile;
 
 fn main() {
-    let asked = frame_file::words();
-    if is_for_one(asked) {
+    let asked = words();
+    if asked.understood {
         show(asked);
     } else {
         command::complain(
@@ -19,22 +21,28 @@ fn main() {
     }
 }
 
-// Whether the words are understood, and name at most one capture.
-fn is_for_one(asked: Asked) -> bool {
-    if asked.second == 0 {
-        return asked.understood;
+fn words() -> Asked {
+    command::words(Usage {
+        mark: false,
+        odd: true,
+        output: true,
+        second: false,
+    })
+}
+
+// Writes the picture of a VV5404 or VV6404 head.
+fn show(asked: Asked) {
+    let profile = asked.profile;
+    match profile {
+        Profile::VV5404 => show_asked(asked),
+        Profile::VV5300 => command::complain(
+            b"a VV5300 has no picture here: pictures are of VV5404 and VV6404 heads only\n",
+        ),
     }
-    false
 }
 
 // Writes the picture, or says why there is none.
-fn show(asked: Asked) {
-    if asked.foreign {
-        command::complain(
-            b"a VV5300 has no picture here: pictures are of VV5404 and VV6404 heads only\n",
-        );
-        return;
-    }
+fn show_asked(asked: Asked) {
     if asked.output == 0 {
         if libc::isatty(STDOUT_FILENO) == 1 {
             command::complain(

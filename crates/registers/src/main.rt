@@ -2,7 +2,7 @@
 // (crate script). Messages are read one after another against the state of one sensor, fresh at the start.
 // The sensor is the VV5404, or the VV5300 where an argument names it. Standard output has messages, and what is told of captured ones; a line
 // that is refused is told on standard error, where no bus takes it for a message. A failed read or write is told there too, and ends the run.
-use command::Asked;
+use command_words::Asked;
 use libc::STDOUT_FILENO;
 use profile::Profile;
 use script::Script;
@@ -19,7 +19,7 @@ fn main() {
 fn read_asked(asked: Asked) {
     let mut name = io::buffer();
     let input = command::open(
-        asked.file,
+        asked.first,
         b"waiting for settings and messages, one to a line; Ctrl-D ends them\n",
         &mut name,
     );

@@ -6,7 +6,7 @@
 // setting). Out: the request, and whether the words are understood. Cost: linear in the verb.
 ghost use mathlib.Core.Path.{_≡_};
 ghost use Rattle.request_words.specs.RequestWords.{upTo, wantedIn, areFive, isOne, otherAsked, askedIn};
-use command::is;
+use command_words::is;
 use saved_setting::Wanted;
 use settings_request::Request;
 

@@ -2,7 +2,8 @@
 // line for each: mark_finder finds the mark, reason_text says the line. The capture is read in pieces, from a file or from standard input, and
 // of the open mark no more bytes are kept than are looked at. An open, a read or a write that fails is told once, on standard error, and ends
 // the search.
-use command::Word;
+use command_words::Asked;
+use command_words::Usage;
 use libc::STDOUT_FILENO;
 use mark_finder::Finder;
 use mark_finder::Located;
@@ -17,129 +18,19 @@ fn main() {
     }
 }
 
-// What is asked for: the sensor, and whether it was named; the mark's number, 0 for every refused mark; the file's place among the arguments,
-// 0 for standard input; and whether all words were understood.
-struct Asked {
-    profile: Profile,
-    named: bool,
-    mark: u64,
-    file: usize,
-    understood: bool,
-}
-
-// Reads the arguments. A word of digits is the mark's number.
+// Reads the arguments: a word of digits is the mark's number.
 fn words() -> Asked {
-    let profile = Profile::VV5404;
-    let mut asked = Asked {
-        profile,
-        named: false,
-        mark: 0,
-        file: 0,
-        understood: true,
-    };
-    let count = os::arg_count();
-    let mut i: usize = 1;
-    while i < count {
-        let mut buf = io::buffer();
-        let n = os::arg(i, &mut buf);
-        let number = number_in(&buf[..n]);
-        if number == 0 {
-            asked = with(asked, command::meaning(&buf[..n]), i);
-        } else {
-            asked = with_mark(asked, number);
-        }
-        i += 1;
-    }
-    asked
-}
-
-// The number that a word of digits is: 0 for any other word, and for a number that no capture has marks for.
-fn number_in(word: &[u8]) -> u64 {
-    let mut number: u64 = 0;
-    let mut i: usize = 0;
-    while i < word.len() {
-        let c = word[i];
-        if c < b'0' {
-            return 0;
-        }
-        if b'9' < c {
-            return 0;
-        }
-        if 100_000_000_000_000_000 < number {
-            return 0;
-        }
-        number = 10 * number + (c - b'0') as u64;
-        i += 1;
-    }
-    number
-}
-
-// With one word more: a second sensor, mark or file is not understood, nor an option.
-fn with(asked: Asked, word: Word, i: usize) -> Asked {
-    match word {
-        Word::Sensor(profile) => with_sensor(asked, profile),
-        Word::Name => with_file(asked, i),
-        Word::OddPixelsFirst => not_understood(asked),
-        Word::Output => not_understood(asked),
-        Word::Unknown => not_understood(asked),
-    }
-}
-
-fn with_sensor(asked: Asked, profile: Profile) -> Asked {
-    if asked.named {
-        return not_understood(asked);
-    }
-    Asked {
-        profile,
-        named: true,
-        mark: asked.mark,
-        file: asked.file,
-        understood: asked.understood,
-    }
-}
-
-fn with_mark(asked: Asked, mark: u64) -> Asked {
-    if asked.mark == 0 {
-        let profile = asked.profile;
-        return Asked {
-            profile,
-            named: asked.named,
-            mark,
-            file: asked.file,
-            understood: asked.understood,
-        };
-    }
-    not_understood(asked)
-}
-
-fn with_file(asked: Asked, i: usize) -> Asked {
-    if asked.file == 0 {
-        let profile = asked.profile;
-        return Asked {
-            profile,
-            named: asked.named,
-            mark: asked.mark,
-            file: i,
-            understood: asked.understood,
-        };
-    }
-    not_understood(asked)
-}
-
-fn not_understood(asked: Asked) -> Asked {
-    let profile = asked.profile;
-    Asked {
-        profile,
-        named: asked.named,
-        mark: asked.mark,
-        file: asked.file,
-        understood: false,
-    }
+    command::words(Usage {
+        mark: true,
+        odd: false,
+        output: false,
+        second: false,
+    })
 }
 
 fn seek_asked(asked: Asked) {
     let mut name = io::buffer();
-    let input = command::open_capture(asked.file, &mut name);
+    let input = command::open_capture(asked.first, &mut name);
     if input.fd < 0 {
         return;
     }
