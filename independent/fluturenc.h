@@ -176,7 +176,7 @@ uint8_t fluturenc_messages(const uint8_t *pairs, size_t pairs_length, uint8_t *m
 
 /* All differences of two lists, in rising number, kinds before places, then by place; none where they are equal. Refused, each looked for over
  * both lists before the next: 35 numbers that don't rise strictly, 14 a number above 4095, 13 a kind not 1 to 5, 15 a list cut within a line,
- * 12 too little room. */
+ * 12 too little room. 35, 14 and 13 look at a line that is cut within its body too. */
 uint8_t fluturenc_compare(const uint8_t *first, size_t first_length, const uint8_t *second, size_t second_length, uint8_t *differences,
                           size_t differences_length, size_t *written);
 

@@ -5,9 +5,12 @@ use std::collections::BTreeMap;
 /// A list's line: kind, number in two bytes, body.
 const LINE: usize = 359;
 
-/// The lines of a list by number: kind and body.
+/// The bytes of a line before its body.
+const HEAD: usize = 3;
+
+/// The lines of a list by number: kind and body; of a last line that is cut, what there is of its body.
 fn lines(list: &[u8]) -> Vec<(u16, u8, &[u8])> {
-    list.chunks_exact(LINE).map(|l| (u16::from_be_bytes([l[1], l[2]]), l[0], &l[3..])).collect()
+    list.chunks(LINE).filter(|l| l.len() >= HEAD).map(|l| (u16::from_be_bytes([l[1], l[2]]), l[0], &l[HEAD..])).collect()
 }
 
 /// The differences as they are written, or the refusal.

@@ -17,11 +17,11 @@ use Rattle.difference.specs.Difference.{Difference, onlyFirst, onlySecond, both
 use Rattle.difference.specs.Next.{nextNumber, nextDifferences, unequal, different}
 use Rattle.difference.specs.DifferenceLaws.{first-size, second-size, between-size}
 use Rattle.difference.specs.NextLaws.{next-line, lesser-line, next-first, next-second, next-both, next-none, Stepped, stepped}
-use Rattle.difference.specs.ReadBack.{differencesIn}
+use Rattle.difference.specs.ReadBack.{frontOf, frontSize, differencesIn}
 use Rattle.line_diff_laws.specs.Applied.{Each, done, also}
 use Rattle.line_diff_laws.specs.BytesLaws.{SizedIn, bytes-back, sized-between}
 use Rattle.line_diff_laws.specs.CompareLaws.{AllBytes}
-use Rattle.diff_summary.specs.Front.{frontOf, frontSize, changeOf}
+use Rattle.diff_summary.specs.Front.{changeOf}
 use Rattle.diff_summary.specs.FrontLaws.{differences-step}
 use Rattle.diff_summary.specs.Words.{changeRow, lineWord, kindWord, kindsWords, pairWords}
 use Rattle.diff_rows.specs.Rows.{rowsText, allRows, passed, pieces, rowsEndToEnd}

@@ -5,26 +5,37 @@ use Prim.Native.Nat.{ℕ, zero, suc}
 use lib.Dec.{eqb}
 use lib.ListN.{length, getD, take, drop}
 use Rattle.profile.specs.Profile.{width}
-use Rattle.line_list.specs.Lines.{FullLine, headSize, lineSize, fromTwo}
+use Rattle.line_list.specs.Lines.{FullLine, fromTwo}
 use Rattle.difference.specs.Difference.{Difference, onlyFirst, onlySecond, bothKinds, bothBytes}
 
--- the number in the first two of some bytes
-abbrev pub twoOf : List ℕ → ℕ
-twoOf bs = fromTwo (getD bs 0 0) (getD bs 1 0)
+-- The difference that some bytes start with: what is missing at their end counts as 0.
 
--- a whole line at the front of some bytes
-abbrev pub wholeLineOf : List ℕ → FullLine
-wholeLineOf bs = record { kind = getD bs 2 0; number = twoOf bs; body = take width (drop headSize bs) }
+-- the number in two bytes at two places
+abbrev pub twoAt : List ℕ → ℕ → ℕ → ℕ
+twoAt bs i j = fromTwo (getD bs i 0) (getD bs j 0)
 
--- the differences of some bytes, at most n of them
+-- the line that is given whole
+abbrev pub givenLine : List ℕ → FullLine
+givenLine bs = record { kind = getD bs 3 0; number = twoAt bs 1 2; body = take width (drop 4 bs) }
+
+-- by its first byte
+unfoldable pub frontOf : List ℕ → Difference
+frontOf bs =
+    cond (eqb (getD bs 0 0) 1) (onlyFirst (givenLine bs))
+    (cond (eqb (getD bs 0 0) 2) (onlySecond (givenLine bs))
+    (cond (eqb (getD bs 0 0) 3) (bothKinds (twoAt bs 1 2) (getD bs 3 0) (getD bs 4 0)) (bothBytes (twoAt bs 1 2) (twoAt bs 3 4) (getD bs 5 0) (getD bs 6 0))))
+
+-- how many bytes it has
+unfoldable pub frontSize : List ℕ → ℕ
+frontSize bs = cond (eqb (getD bs 0 0) 1) 360 (cond (eqb (getD bs 0 0) 2) 360 (cond (eqb (getD bs 0 0) 3) 5 7))
+
+-- All of them.
+
+-- the differences of some bytes, one after another, at most n of them
 abbrev pub firstDifferences : ℕ → List ℕ → List Difference
 firstDifferences zero bs = []
 firstDifferences (suc n) [] = []
-firstDifferences (suc n) (tag ∷ bs) =
-    cond (eqb tag 1) (onlyFirst (wholeLineOf bs) ∷ firstDifferences n (drop lineSize bs))
-    (cond (eqb tag 2) (onlySecond (wholeLineOf bs) ∷ firstDifferences n (drop lineSize bs))
-    (cond (eqb tag 3) (bothKinds (twoOf bs) (getD bs 2 0) (getD bs 3 0) ∷ firstDifferences n (drop 4 bs))
-    (bothBytes (twoOf bs) (twoOf (drop 2 bs)) (getD bs 4 0) (getD bs 5 0) ∷ firstDifferences n (drop 6 bs))))
+firstDifferences (suc n) (tag ∷ bs) = frontOf (tag ∷ bs) ∷ firstDifferences n (drop (frontSize (tag ∷ bs)) (tag ∷ bs))
 
 -- the differences that some bytes tell
 abbrev pub differencesIn : List ℕ → List Difference

@@ -5,7 +5,7 @@
 // It takes numbers, a line's body (in C a pointer and then a length), and four places (pointers): for the exact mean of image places 16 to 79, and of
 // 80 to 143, and for the signed difference of the sensor's mean, first or second, from each: 64 times the byte minus the sum. The answer is 0; or the
 // refusal, and the four places stay as they were.
-ghost use Rattle.half_means.specs.HalfMeans.{halvesOf};
+ghost use Rattle.half_means.specs.HalfMeans.{halfValues};
 ghost use Rattle.fluturenc_means.specs.MeansCall.{inPlaces, MeansGives};
 use half_means::Halves;
 
@@ -23,7 +23,7 @@ pub extern "C" fn fluturenc_half_means(
     beside1: &mut i32,
     beside2: &mut i32,
 ) -> u8
-    ensures { λ r. ⌜ MeansGives (halvesOf profile kind (now (body .entry)) first second) r
+    ensures { λ r. ⌜ MeansGives (halfValues profile kind (now (body .entry)) first second) r
         (inPlaces (now (mean1 .entry)) (now (mean2 .entry)) (now (beside1 .entry)) (now (beside2 .entry)))
         (inPlaces (now (mean1 .exit)) (now (mean2 .exit)) (now (beside1 .exit)) (now (beside2 .exit))) ⌝ }
 {

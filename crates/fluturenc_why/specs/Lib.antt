@@ -1,2 +1,1 @@
 pub mod Why
-pub mod WhyLaws

@@ -1,11 +1,9 @@
--- A reason in numbers (02, A9): the paper's number and up to two values, of the number and the values that crate reason gives each reason.
+-- A reason in numbers (02, A9): the number, and up to two values in places of their own, of those that crate reason gives each reason.
 use mathlib.Core.Path.{_≡_}
-use mathlib.Core.List.{List, [], _∷_}
 use Prim.Native.Nat.{ℕ, _+_, _*_}
 use Rattle.lent_call.specs.LentCall.{bitOf}
 use Rattle.reason.specs.declared.FailedSums.{FailedSums}
-use Rattle.reason.specs.declared.Reason.{Reason}
-use Rattle.reason.specs.Valued.{Valued, good-line, good-gap, numbered, valued}
+use Rattle.reason.specs.Valued.{Values, no-values, one-value, two-values, byte-and-sums, Valued, good-line, good-gap, numbered, refused}
 
 -- in place of a refusal's number
 abbrev pub goodLineNumber : ℕ
@@ -18,52 +16,44 @@ goodGapNumber = 129
 abbrev pub noValue : ℕ
 noValue = 0xFFFFFFFFFFFFFFFF
 
+-- the number: 128 and 129 of what is good, the refusal's of anything else
 abbrev pub valuedNumber : Valued → ℕ
 valuedNumber good-line = goodLineNumber
 valuedNumber good-gap = goodGapNumber
 valuedNumber (numbered n values) = n
+valuedNumber (refused n) = n
 
-abbrev pub headValue : List ℕ → ℕ
-headValue [] = noValue
-headValue (v ∷ values) = v
+-- the parity sums that fail, as bits: P0 the lowest
+abbrev pub sumBits : FailedSums → ℕ
+sumBits s = bitOf (s .p0) + 2 * bitOf (s .p1) + 4 * bitOf (s .p2) + 8 * bitOf (s .p3)
 
--- digits of a number in twos, the lowest first
-abbrev pub inTwos : List ℕ → ℕ
-inTwos [] = 0
-inTwos (x ∷ xs) = x + 2 * inTwos xs
+-- the first of some values, and the second, where there is one; of a damaged code the byte, and the parity sums
+abbrev pub firstValue : Values → ℕ
+firstValue no-values = noValue
+firstValue (one-value v) = v
+firstValue (two-values v w) = v
+firstValue (byte-and-sums byte sums) = byte
 
--- what follows the first value: none, the second, or the parity sums as bits
-abbrev pub restValue : List ℕ → ℕ
-restValue [] = noValue
-restValue (v ∷ []) = noValue
-restValue (v ∷ w ∷ []) = w
-restValue (v ∷ a ∷ b ∷ values) = inTwos (a ∷ b ∷ values)
+abbrev pub secondValue : Values → ℕ
+secondValue no-values = noValue
+secondValue (one-value v) = noValue
+secondValue (two-values v w) = w
+secondValue (byte-and-sums byte sums) = sumBits sums
 
 abbrev pub valuedFirst : Valued → ℕ
 valuedFirst good-line = noValue
 valuedFirst good-gap = noValue
-valuedFirst (numbered n values) = headValue values
+valuedFirst (numbered n values) = firstValue values
+valuedFirst (refused n) = noValue
 
 abbrev pub valuedSecond : Valued → ℕ
 valuedSecond good-line = noValue
 valuedSecond good-gap = noValue
-valuedSecond (numbered n values) = restValue values
-
-abbrev pub whyNumber : Reason → ℕ
-whyNumber r = valuedNumber (valued r)
-
-abbrev pub whyFirst : Reason → ℕ
-whyFirst r = valuedFirst (valued r)
-
-abbrev pub whySecond : Reason → ℕ
-whySecond r = valuedSecond (valued r)
-
--- the parity sums that fail, as bits
-abbrev pub sumBits : FailedSums → ℕ
-sumBits s = bitOf (s .p0) + 2 * bitOf (s .p1) + 4 * bitOf (s .p2) + 8 * bitOf (s .p3)
+valuedSecond (numbered n values) = secondValue values
+valuedSecond (refused n) = noValue
 
 -- what the call gives: the number, and the two values in their places
-pub record WhyGives (r : Reason) (answer first second : ℕ) : Type 0 where
-  pub says : answer ≡ whyNumber r
-  pub one : first ≡ whyFirst r
-  pub two : second ≡ whySecond r
+pub record WhyGives (v : Valued) (answer first second : ℕ) : Type 0 where
+  pub says : answer ≡ valuedNumber v
+  pub one : first ≡ valuedFirst v
+  pub two : second ≡ valuedSecond v

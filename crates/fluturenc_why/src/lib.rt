@@ -14,8 +14,8 @@
 //   2, 3, 8                             no values
 //   11, 13, 10, 36                      refused, in this order: no such profile, a kind above 5, an input above 15, no mark at the beginning
 ghost use mathlib.Core.Path.{_≡_};
-ghost use Rattle.reason.specs.Explanation.{explanation};
-ghost use Rattle.fluturenc_why.specs.Why.{whyNumber, whyFirst, whySecond, sumBits, WhyGives};
+ghost use Rattle.reason.specs.Valued.{valued, explanationValues};
+ghost use Rattle.fluturenc_why.specs.Why.{valuedNumber, valuedFirst, valuedSecond, sumBits, WhyGives};
 use lent_call::bit;
 use reason::FailedSums;
 use reason::Reason;
@@ -37,7 +37,7 @@ pub extern "C" fn fluturenc_why(
     first: &mut usize,
     second: &mut usize,
 ) -> u8
-    ensures { λ r. ⌜ WhyGives (explanation profile before (now (run .entry))) r (now (first .exit)) (now (second .exit)) ⌝ }
+    ensures { λ r. ⌜ WhyGives (explanationValues profile before (now (run .entry))) r (now (first .exit)) (now (second .exit)) ⌝ }
 {
     let reason = reason::explain(profile, before, run);
     *first = first_value(reason);
@@ -47,7 +47,7 @@ pub extern "C" fn fluturenc_why(
 
 // The number of a reason.
 fn number(reason: Reason) -> u8
-    ensures { λ r. ⌜ r ≡ whyNumber reason ⌝ }
+    ensures { λ r. ⌜ r ≡ valuedNumber (valued reason) ⌝ }
 {
     match reason {
         Reason::GoodLine => GOOD_LINE,
@@ -68,7 +68,7 @@ fn number(reason: Reason) -> u8
 
 // The first value of a reason.
 fn first_value(reason: Reason) -> usize
-    ensures { λ r. ⌜ r ≡ whyFirst reason ⌝ }
+    ensures { λ r. ⌜ r ≡ valuedFirst (valued reason) ⌝ }
 {
     match reason {
         Reason::GoodLine => NO_VALUE,
@@ -89,7 +89,7 @@ fn first_value(reason: Reason) -> usize
 
 // The second value of a reason.
 fn second_value(reason: Reason) -> usize
-    ensures { λ r. ⌜ r ≡ whySecond reason ⌝ }
+    ensures { λ r. ⌜ r ≡ valuedSecond (valued reason) ⌝ }
 {
     match reason {
         Reason::GoodLine => NO_VALUE,

@@ -1,4 +1,5 @@
 -- The judge of frames (01, 'Frames of profile 0'; 000, 'Frame Level Formatting' and 'Line Level Formatting' for the VV5300).
+use mathlib.Core.Path.{_≡_}
 use mathlib.Core.Bool.{Bool, true, _&&_, _||_, cond}
 use Prim.Native.Nat.{ℕ, _+_}
 use lib.Dec.{eqb, leb, ltb}
@@ -32,6 +33,13 @@ pub data Said : Type 0 where
   on-going : Said
   whole-frame : Said
   refused : ℕ → Said
+
+-- 01's words and number of each case of the program's ruling
+abbrev pub saidOf : Ruling → Said
+saidOf ruling.Waiting = still-waiting
+saidOf ruling.Going = on-going
+saidOf ruling.Complete = whole-frame
+saidOf (ruling.Refused n) = refused n
 
 -- the program's ruling that says this
 abbrev pub rulingFor : Said → Ruling
@@ -90,6 +98,11 @@ judgeOf p j k n =
     (cond (eqb k brokenKind) (broken j) (cond (leb n greatest) (whole p j k n) (refuses j numberTooLarge)))
     (refuses j badKind))
     (refuses j badState)
+
+-- a call that leaves this judge, and says this
+pub record JudgedAs (wanted r : Judged) : Type 0 where
+  pub leaves : r .judge ≡ wanted .judge
+  pub says : saidOf (r .ruling) ≡ saidOf (wanted .ruling)
 
 -- 18 and 19 break a frame; 11, 13 and 14 leave the judge as it was
 abbrev pub breaksFrame : ℕ → Bool

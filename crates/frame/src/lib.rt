@@ -5,7 +5,7 @@
 // judge state that no calls can reach with this profile, 13 a kind above 5, 14 a number above 4095. After the EOF line a line's number is
 // not compared (paper 02, A3). Cost: constant.
 ghost use mathlib.Core.Path.{_≡_};
-ghost use Rattle.frame.specs.Frame.{within, passes, refuses, opens, broken, onward, astray, first, whole, judgeOf, breaksFrame};
+ghost use Rattle.frame.specs.Frame.{within, passes, refuses, opens, broken, onward, astray, first, whole, judgeOf, JudgedAs, breaksFrame};
 use frame_layout::Borders;
 use frame_layout::FIRST_BLACK;
 use line_code::Kind;
@@ -45,7 +45,7 @@ impl Judge {
 
     // Takes a line, or kind 0 for a broken one. Refused, in this order: 11, 13, 14; then 19, 18.
     pub fn line(self, profile: Profile, kind: u8, number: u16) -> Judged
-        ensures { λ r. ⌜ r ≡ judgeOf profile self kind number ⌝ }
+        ensures { λ r. ⌜ JudgedAs (judgeOf profile self kind number) r ⌝ }
     {
         if self.passes(profile) {
             if kind > Kind::EOF.number() {

@@ -18,8 +18,8 @@ use Rattle.lent_buffer.specs.Filled.{Output, fitted, require}
 use Rattle.frame_layout.specs.declared.Borders.{Borders}
 use Rattle.frame_layout.specs.FrameLayout.{kindAt}
 use Rattle.frame.specs.Calls.{fits, laidFrom}
-use Rattle.line_list.specs.Lines.{FullLine, lineSize, fullLines, noneCut, asLent, risesFrom, rises, numbersSmall, kindsKnown}
-use Rattle.line_list.specs.LinesLaws.{FullBodies, unsized, sized, lines-lent}
+use Rattle.line_list.specs.Lines.{FullLine, lineSize, fullLines, headedLines, noneCut, asLent, risesFrom, rises, numbersSmall, kindsKnown}
+use Rattle.line_list.specs.LinesLaws.{FullBodies, unsized, sized, heads-whole, lines-lent}
 use Rattle.difference.specs.Difference.{differences, encodedAll}
 use Rattle.line_diff.specs.Compare.{compareOf}
 use Rattle.frame_row.specs.declared.Keeping.the-variants.{WholeLines}
@@ -66,21 +66,23 @@ placed-known b place (l ∷ ls) h =
 -- some bytes are a list of these lines, which a comparison takes
 pub record Comparable (bytes : List ℕ) (frame : List Shown) : Type 0 where
   pub lines : fullLines bytes ≡ placedLines frame
-  pub rising : rises (fullLines bytes) ≡ true
-  pub small : numbersSmall (fullLines bytes) ≡ true
-  pub known : kindsKnown (fullLines bytes) ≡ true
+  pub rising : rises (headedLines bytes) ≡ true
+  pub small : numbersSmall (headedLines bytes) ≡ true
+  pub known : kindsKnown (headedLines bytes) ≡ true
   pub uncut : noneCut bytes ≡ true
 
 pub frame-comparable : {ls : List Shown} {n : ℕ} {bytes : List ℕ} (c : CompletesRows WholeLines ls n bytes) → Comparable bytes (c .frame)
 frame-comparable {ls} {n} {bytes} c =
     let lent : bytes ≡ asLent (placedLines (c .frame)) = c .shows ∙ rows-lent 0 (c .frame) in
     let e : fullLines bytes ≡ placedLines (c .frame) = ap fullLines lent ∙ lines-lent (placed-bodies 0 (c .frame) (c .bodies)) in
+    let uncut : noneCut bytes ≡ true = eq-eqb (length bytes % lineSize) 0 (omega (arith, c .sized)) in
+    let heads : headedLines bytes ≡ placedLines (c .frame) = heads-whole bytes uncut ∙ e in
     record {
       lines = e;
-      rising = ap rises e ∙ placed-rises 0 (c .frame);
-      small = ap numbersSmall e ∙ placed-small 0 (c .frame) (omega (arith, c .whole .0));
-      known = ap kindsKnown e ∙ placed-known (c .borders) 0 (c .frame) (c .whole .1);
-      uncut = eq-eqb (length bytes % lineSize) 0 (omega (arith, c .sized));
+      rising = ap rises heads ∙ placed-rises 0 (c .frame);
+      small = ap numbersSmall heads ∙ placed-small 0 (c .frame) (omega (arith, c .whole .0));
+      known = ap kindsKnown heads ∙ placed-known (c .borders) 0 (c .frame) (c .whole .1);
+      uncut = uncut;
     }
 
 require-met : {t : Bool} → t ≡ true → (n : ℕ) (o : Output) → require t n o ≡ o
@@ -95,9 +97,9 @@ frames-compared {ls} {ms} {n} {m} {first} {second} c d room =
     let a = frame-comparable c in
     let b = frame-comparable d in
     let passed : compareOf first second room ≡ fitted (encodedAll (differences (fullLines first) (fullLines second))) room =
-    require-met (and-both (rises (fullLines first)) _ (a .rising) (b .rising)) _ _
-    ∙ require-met (and-both (numbersSmall (fullLines first)) _ (a .small) (b .small)) _ _
-    ∙ require-met (and-both (kindsKnown (fullLines first)) _ (a .known) (b .known)) _ _
+    require-met (and-both (rises (headedLines first)) _ (a .rising) (b .rising)) _ _
+    ∙ require-met (and-both (numbersSmall (headedLines first)) _ (a .small) (b .small)) _ _
+    ∙ require-met (and-both (kindsKnown (headedLines first)) _ (a .known) (b .known)) _ _
     ∙ require-met (and-both (noneCut first) _ (a .uncut) (b .uncut)) _ _ in
     passed
     ∙ ap (λ (ks : List FullLine). fitted (encodedAll (differences ks (fullLines second))) room) (a .lines)

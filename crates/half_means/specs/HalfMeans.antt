@@ -4,7 +4,7 @@ use mathlib.Core.List.{List, [], _∷_}
 use Prim.Native.Nat.{ℕ, _+_, _*_}
 use lib.Dec.{eqb}
 use lib.IntN.{ℤ, pos, _-ℤ_}
-use lib.Ieee.{Float, odd, prec, binary64}
+use lib.Ieee.{Float, round, binary64}
 use lib.ListN.{length, take, drop}
 use Rattle.refusal.specs.Refusal.{badState, wrongBodyLength, byteNotAllowed, notVisible}
 use Rattle.line_code.specs.declared.Kind.the-variants.{VL}
@@ -41,28 +41,46 @@ firstSum body = total (halfAt firstPlace body)
 unfoldable pub secondSum : List ℕ → ℕ
 secondSum body = total (halfAt secondPlace body)
 
--- n / 64 as a float, nothing rounded: n / 2 ^ 6 written the one way, an odd number times a power of two (`exact`, in the laws)
+-- n / 64, rounded to an f64 (`exact`, in the laws: nothing is lost where n is below 2 ^ 53)
 unfoldable pub sixtyFourth : ℕ → Float
-sixtyFourth n = odd (prec binary64) false n 0 6
+sixtyFourth n = round binary64 false n halfLength
 
 -- 64 times the sensor's byte, minus the sum
 unfoldable pub difference : ℕ → ℕ → ℤ
 difference byte sum = pos (halfLength * byte) -ℤ pos sum
 
+-- what a call says: the exact mean of each half, its sum, and the signed difference beside it; or a refusal with its number
+pub data HalfValues : Type 0 where
+  means : Float → Float → ℕ → ℕ → ℤ → ℤ → HalfValues
+  refused : ℕ → HalfValues
+
+-- the paper's number and values of each case of the program's answer
+abbrev pub valuesOf : Halves → HalfValues
+valuesOf (Given m s d e) = means (m .first) (m .second) (s .first) (s .second) d e
+valuesOf (Refused n) = refused n
+
+-- the program's answer that says this
+abbrev pub answerFor : HalfValues → Halves
+answerFor (means x y s t d e) = Given (record { first = x; second = y }) (record { first = s; second = t }) d e
+answerFor (refused n) = Refused n
+
 -- what is said of two sums beside the sensor's two bytes
-unfoldable pub besideOf : ℕ → ℕ → ℕ → ℕ → Halves
-besideOf s t a b =
-    Given (record { first = sixtyFourth s; second = sixtyFourth t }) (record { first = s; second = t }) (difference a s) (difference b t)
+unfoldable pub besideOf : ℕ → ℕ → ℕ → ℕ → HalfValues
+besideOf s t a b = means (sixtyFourth s) (sixtyFourth t) s t (difference a s) (difference b t)
 
--- the answer, if a test passes; else a refusal
-unfoldable pub require : Bool → ℕ → Halves → Halves
-require true n answer = answer
-require false n answer = Refused n
+-- the values, if a test passes; else a refusal
+unfoldable pub require : Bool → ℕ → HalfValues → HalfValues
+require true n v = v
+require false n v = refused n
 
--- what a call answers: a profile and a kind by their numbers, a body and the sensor's two means
-unfoldable pub halvesOf : ℕ → ℕ → List ℕ → ℕ → ℕ → Halves
-halvesOf profile kind body a b =
+-- what a call says: of a profile and a kind by their numbers, a body and the sensor's two means
+unfoldable pub halfValues : ℕ → ℕ → List ℕ → ℕ → ℕ → HalfValues
+halfValues profile kind body a b =
     require (eqb profile (profileNumber VV5300)) badState
     (require (eqb kind (kindNumber VL)) notVisible
     (require (eqb (length body) (bodyLength VV5300)) wrongBodyLength
     (require (fits (rules VV5300 VL) body && gapFits VV5300 VL a b) byteNotAllowed (besideOf (firstSum body) (secondSum body) a b))))
+
+-- the program's answer
+unfoldable pub halvesOf : ℕ → ℕ → List ℕ → ℕ → ℕ → Halves
+halvesOf profile kind body a b = answerFor (halfValues profile kind body a b)

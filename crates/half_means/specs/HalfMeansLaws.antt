@@ -1,8 +1,9 @@
 -- Laws of the answer: what is given is exact, and how far the sums and differences reach.
-use mathlib.Core.Path.{_≡_, refl, sym, ap, subst}
+use mathlib.Core.Path.{_≡_, refl, sym, ap, subst, _∙_}
 use mathlib.Core.Bool.{Bool, true, false, not, cond, true≢false}
 use mathlib.Core.List.{List, [], _∷_}
 use Prim.Native.Nat.{ℕ, zero, suc, _+_, _-_, _*_, _≤_, _<_}
+use native.Mathlib.Nat.{lt-of-lt-of-le}
 use native.Mathlib.Omega.{arith}
 use borrow.Author.Tests.{eq-eqb, leb-true}
 use lib.Dec.{T, leb, ltb, lit≤, le→leb, ltb→lt, nltb→le}
@@ -23,7 +24,7 @@ use Rattle.half_means.specs.declared.Means.{Means}
 use Rattle.half_means.specs.declared.Sums.{Sums}
 use Rattle.half_means.specs.declared.Halves.{Halves}
 use Rattle.half_means.specs.declared.Halves.the-variants.{Given, Refused}
-use Rattle.half_means.specs.HalfMeans.{halfLength, total, firstSum, secondSum, difference, besideOf, require, halvesOf}
+use Rattle.half_means.specs.HalfMeans.{halfLength, total, firstSum, secondSum, difference, HalfValues, valuesOf, answerFor, besideOf, require, halfValues, halvesOf}
 use Rattle.half_means.specs.Sixtyfourths.{exact}
 
 -- the sums stay below this, and the differences between this and its negative (02, A10)
@@ -104,9 +105,17 @@ difference-within byte sum h r =
 -- with all tests passed
 pub passed : (profile kind : ℕ) (body : List ℕ) (a b : ℕ) → profile ≡ profileNumber VV5300 → kind ≡ kindNumber VL → length body ≡ bodyLength VV5300
     → layout.fits (rules VV5300 VL) body ≡ true → gapFits VV5300 VL a b ≡ true
-    → halvesOf profile kind body a b ≡ besideOf (firstSum body) (secondSum body) a b
-unfolding halvesOf require
+    → halfValues profile kind body a b ≡ besideOf (firstSum body) (secondSum body) a b
+unfolding halfValues require
 passed profile kind body a b p k l f g = simp (eq-eqb _ _ p, eq-eqb _ _ k, eq-eqb _ _ l, f, g)
+
+-- the values tell the program's answer
+pub values-tell : (r : Halves) (v : HalfValues) → valuesOf r ≡ v → r ≡ answerFor v
+values-tell r v h = back r ∙ ap answerFor h
+  where
+    back : (r : Halves) → r ≡ answerFor (valuesOf r)
+    back (Given m s d e) = refl
+    back (Refused n) = refl
 
 -- what is given of a body, beside the sensor's means
 pub record GivenOf (body : List ℕ) (a b : ℕ) (m : Means) (s : Sums) (d e : ℤ) : Type 0 where
@@ -142,21 +151,21 @@ secondOr z (Given m s d e) = e
 secondOr z (Refused n) = z
 
 module _ (m : Means) (s : Sums) (d e : ℤ) where
-  required : (t : Bool) (n : ℕ) (x : Halves) → require t n x ≡ Given m s d e → (t ≡ true) × (x ≡ Given m s d e)
+  required : (t : Bool) (n : ℕ) (x : HalfValues) → answerFor (require t n x) ≡ Given m s d e → (t ≡ true) × (answerFor x ≡ Given m s d e)
   unfolding require
   required true n x h = (refl, h)
   required false n x h = absurd (true≢false (sym (ap isGiven h)))
 
   beside-given : (body : List ℕ) (a b : ℕ) → layout.fits (rules VV5300 VL) body ≡ true → gapFits VV5300 VL a b ≡ true
-      → besideOf (firstSum body) (secondSum body) a b ≡ Given m s d e → GivenOf body a b m s d e
+      → answerFor (besideOf (firstSum body) (secondSum body) a b) ≡ Given m s d e → GivenOf body a b m s d e
   unfolding besideOf
   beside-given body a b f g h =
       let p = first-range body f in
       let q = second-range body f in
       let i = ap (meansOr m) h in
       record {
-        first-exact = subst (λ (x : Means). HasValue (x .first) false (firstSum body) 64) i (exact (firstSum body));
-        second-exact = subst (λ (x : Means). HasValue (x .second) false (secondSum body) 64) i (exact (secondSum body));
+        first-exact = subst (λ (x : Means). HasValue (x .first) false (firstSum body) 64) i (exact (firstSum body) (lt-of-lt-of-le (p .1) (lit≤ tt)));
+        second-exact = subst (λ (x : Means). HasValue (x .second) false (secondSum body) 64) i (exact (secondSum body) (lt-of-lt-of-le (q .1) (lit≤ tt)));
         sums = sym (ap (sumsOr s) h);
         first-below = p .1;
         second-below = q .1;
@@ -169,7 +178,7 @@ module _ (m : Means) (s : Sums) (d e : ℤ) where
 -- whatever is given is exact
 pub given-exact : (profile kind : ℕ) (body : List ℕ) (a b : ℕ) (m : Means) (s : Sums) (d e : ℤ)
     → halvesOf profile kind body a b ≡ Given m s d e → GivenOf body a b m s d e
-unfolding halvesOf
+unfolding halvesOf halfValues
 given-exact profile kind body a b m s d e h =
     let f : Bool = layout.fits (rules VV5300 VL) body in
     let x = required m s d e _ _ _ (required m s d e _ _ _ (required m s d e _ _ _ (required m s d e _ _ _ h .1) .1) .1) in

@@ -40,10 +40,12 @@ only-one f x y s a c h p q v w =
 
 -- A sixty-fourth.
 
--- it is n / 64: finite, not negative, and 64 times its value is n
-pub exact : (n : ℕ) → HasValue (sixtyFourth n) false n 64
-unfolding sixtyFourth
-exact n = subst (λ (a : ℕ). HasValue (odd (prec binary64) false n 0 6) false a 64) (mul-one n) (odd-sign (prec binary64) false n 0 6)
+-- n / 2 ^ 6 written the one way, an odd number times a power of two: finite, not negative, and 64 times its value is n
+abbrev oneWay : ℕ → Float
+oneWay n = odd (prec binary64) false n 0 6
+
+one-way-exact : (n : ℕ) → HasValue (oneWay n) false n 64
+one-way-exact n = subst (λ (a : ℕ). HasValue (oneWay n) false a 64) (mul-one n) (odd-sign (prec binary64) false n 0 6)
 
 minus-moved : (t : ℕ) → minus (1068 + t) 1074 ≡ minus t 6
 minus-moved t = go (leb 6 t) (leb→le 6 t) (nleb→lt 6 t)
@@ -69,16 +71,20 @@ module _ (n : ℕ) (h : n < 2 ^ 53) where
   reach = lt-of-lt-of-le (shl-lt 53 1068 h) (pow-mono {i = 53 + 1068} {j = 2098} (lit≤ tt))
 
   -- an f64 holds it
-  pub held : T (fits binary64 (sixtyFourth n))
-  unfolding sixtyFourth
+  pub held : T (fits binary64 (oneWay n))
   held = subst (λ (x : Float). T (fits binary64 x)) (odd-moved n) (odd-fits binary64 53 false n 1068 h (le-of-lt h) reach)
 
   -- rounding n / 64 changes nothing
-  pub rounded : round binary64 false n 64 ≡ sixtyFourth n
+  pub rounded : sixtyFourth n ≡ oneWay n
+  unfolding sixtyFourth
   rounded =
-      only-one binary64 (round binary64 false n 64) (sixtyFourth n) false n 64 (lit< tt) (round-fits binary64 false n 64) held
+      only-one binary64 (round binary64 false n 64) (oneWay n) false n 64 (lit< tt) (round-fits binary64 false n 64) held
       (round-exact binary64 false n 64 n 1068 (lit< tt) h reach (sym (mul-assoc n (2 ^ 1068) 64)))
-      (exact n)
+      (one-way-exact n)
+
+  -- it is n / 64: finite, not negative, and 64 times its value is n
+  pub exact : HasValue (sixtyFourth n) false n 64
+  exact = subst (λ (x : Float). HasValue x false n 64) (sym rounded) (one-way-exact n)
 
 -- a float that is n, divided by 64
 quotient : (x : Float) (n : ℕ) → HasValue x false n 1 → div binary64 x (fin false 1 (pos 6)) ≡ round binary64 false n 64
@@ -90,8 +96,8 @@ quotient (fin false m e) n v =
 
 -- an f64's division of a whole number below 2 ^ 53 by 64 loses nothing
 pub divided : (n : ℕ) → n < 2 ^ 53 → div binary64 (ofInt binary64 (pos n)) (fin false 1 (pos 6)) ≡ sixtyFourth n
-unfolding ofInt
-divided n h = quotient (round binary64 false n 1) n (round-whole binary64 false n (le-of-lt h)) ∙ rounded n h
+unfolding ofInt sixtyFourth
+divided n h = quotient (round binary64 false n 1) n (round-whole binary64 false n (le-of-lt h))
 
 -- The sum comes back.
 
@@ -107,7 +113,7 @@ product (fin false m e) n v =
 pub multiplied : (n : ℕ) → n < 2 ^ 32 → toUnsigned 32 (mul binary64 (sixtyFourth n) (fin false 1 (pos 6))) ≡ n
 unfolding ofInt inFloat
 multiplied n h =
-    ap (toUnsigned 32) (product (sixtyFourth n) n (exact n))
+    ap (toUnsigned 32) (product (sixtyFourth n) n (exact n (lt-of-lt-of-le h (lit≤ tt))))
     ∙ unsigned-back binary64 32 n (le→leb n (2 ^ 53) (le-of-lt (lt-of-lt-of-le h (lit≤ tt)))) h .1
 
 -- Some of them: 0, 1, 65 / 64 with its bits, and the largest mean, 254.
@@ -116,5 +122,11 @@ pub samples : (sixtyFourth 0 ≡ fin false 0 (pos 0))
     × (sixtyFourth 65 ≡ fin false 65 (negsuc 5))
     × (sixtyFourth 16256 ≡ fin false 127 (pos 1))
     × (toBits binary64 (sixtyFourth 65) ≡ 0x3FF0_4000_0000_0000)
-unfolding sixtyFourth odd toBits
-samples = (refl, refl, refl, refl, refl)
+unfolding odd toBits
+samples = (
+  rounded 0 (lit< tt),
+  rounded 64 (lit< tt),
+  rounded 65 (lit< tt),
+  rounded 16256 (lit< tt),
+  ap (toBits binary64) (rounded 65 (lit< tt)),
+)

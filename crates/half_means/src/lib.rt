@@ -7,7 +7,7 @@
 ghost use mathlib.Core.Path.{_≡_};
 ghost use Prim.Native.Nat.{_≤_};
 ghost use lib.ListN.{length};
-ghost use Rattle.half_means.specs.HalfMeans.{halfLength, total, halfAt, sixtyFourth, difference, besideOf, halvesOf};
+ghost use Rattle.half_means.specs.HalfMeans.{halfLength, total, halfAt, sixtyFourth, difference, valuesOf, besideOf, halfValues};
 ghost use Rattle.profile.specs.Profile.{bodyLength};
 ghost use Rattle.profile.specs.declared.Profile.the-variants.{VV5300};
 use line_code::Kind;
@@ -43,7 +43,7 @@ const HALF: u16 = 64;
 
 // What is said of a line's two halves.
 pub fn of_line(profile: u8, kind: u8, body: &[u8], first: u8, second: u8) -> Halves
-    ensures { λ r. ⌜ r ≡ halvesOf profile kind (now (body .entry)) first second ⌝ }
+    ensures { λ r. ⌜ valuesOf r ≡ halfValues profile kind (now (body .entry)) first second ⌝ }
 {
     if profile != VV5300 {
         return Halves::Refused(refusal::BAD_STATE);
@@ -64,7 +64,7 @@ pub fn of_line(profile: u8, kind: u8, body: &[u8], first: u8, second: u8) -> Hal
 
 // What is said of two sums beside the sensor's two means.
 fn beside(s: u16, t: u16, first: u8, second: u8) -> Halves
-    ensures { λ r. ⌜ r ≡ besideOf s t first second ⌝ }
+    ensures { λ r. ⌜ valuesOf r ≡ besideOf s t first second ⌝ }
 {
     let means = Means {
         first: mean(s),

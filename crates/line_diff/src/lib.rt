@@ -4,14 +4,15 @@
 // whose kinds differ and every place where bodies differ, as crate difference writes them, in rising number, kinds before places, then by
 // place. The answer is the length used; the rest of the buffer stays. Refused, in this order, each looked for over both lists before the next,
 // and then nothing is written: 35 numbers that don't rise strictly, 14 a number above 4095, 13 a kind not 1 to 5, 15 a list cut within a line,
-// 12 room. 35, 14 and 13 look at whole lines. Cost: linear; the lists are walked once for the room needed and once for writing.
+// 12 room. 35, 14 and 13 look at a last line that is cut within its body too: its kind and number are there. Cost: linear; the lists are walked
+// once for the room needed and once for writing.
 ghost use mathlib.Core.Path.{_≡_};
 ghost use mathlib.Core.Bool.{not, _&&_};
 ghost use lib.Dec.{leb};
 ghost use lib.ListN.{length};
 ghost use Rattle.lent_buffer.specs.Filled.{Gives};
 ghost use Rattle.text.specs.Put.{Puts};
-ghost use Rattle.line_list.specs.Lines.{fullLines, rises, numbersSmall, kindsKnown, noneCut};
+ghost use Rattle.line_list.specs.Lines.{fullLines, headedLines, rises, numbersSmall, kindsKnown, noneCut};
 ghost use Rattle.difference.specs.Difference.{differences, encodedAll};
 ghost use Rattle.line_diff.specs.Compare.{compareOf};
 use lent_buffer::Filled;
@@ -42,7 +43,7 @@ pub fn compare(first: &[u8], second: &[u8], buffer: &mut [u8]) -> Filled
 
 // Whether in either list a number is not above the one before it.
 fn either_falls(first: &[u8], second: &[u8]) -> bool
-    ensures { λ r. ⌜ (rises (fullLines (now (first .entry))) && rises (fullLines (now (second .entry)))) ≡ not r ⌝ }
+    ensures { λ r. ⌜ (rises (headedLines (now (first .entry))) && rises (headedLines (now (second .entry)))) ≡ not r ⌝ }
 {
     if line_list::some_falls(first) {
         return true;
@@ -52,7 +53,7 @@ fn either_falls(first: &[u8], second: &[u8]) -> bool
 
 // Whether in either list a number is above 4095.
 fn either_past(first: &[u8], second: &[u8]) -> bool
-    ensures { λ r. ⌜ (numbersSmall (fullLines (now (first .entry))) && numbersSmall (fullLines (now (second .entry)))) ≡ not r ⌝ }
+    ensures { λ r. ⌜ (numbersSmall (headedLines (now (first .entry))) && numbersSmall (headedLines (now (second .entry)))) ≡ not r ⌝ }
 {
     if line_list::some_number_past(first) {
         return true;
@@ -62,7 +63,7 @@ fn either_past(first: &[u8], second: &[u8]) -> bool
 
 // Whether in either list a kind is not 1 to 5.
 fn either_bad(first: &[u8], second: &[u8]) -> bool
-    ensures { λ r. ⌜ (kindsKnown (fullLines (now (first .entry))) && kindsKnown (fullLines (now (second .entry)))) ≡ not r ⌝ }
+    ensures { λ r. ⌜ (kindsKnown (headedLines (now (first .entry))) && kindsKnown (headedLines (now (second .entry)))) ≡ not r ⌝ }
 {
     if line_list::some_kind_bad(first) {
         return true;

@@ -10,7 +10,7 @@ use Rattle.profile.specs.Profile.{width}
 use Rattle.line_list.specs.Lines.{FullLine, fromTwo}
 use Rattle.line_list.specs.LinesLaws.{FullBodies, sized-head, sized-tail}
 use Rattle.difference.specs.Difference.{Difference, onlyFirst, onlySecond, bothKinds, bothBytes, placesFrom, betweenLines, differences, encoded, encodedAll}
-use Rattle.difference.specs.ReadBack.{firstDifferences, differencesIn}
+use Rattle.difference.specs.ReadBack.{frontOf, frontSize, firstDifferences, differencesIn}
 use Rattle.line_diff_laws.specs.Applied.{Each, done, also}
 use Rattle.line_diff_laws.specs.EachLaws.{each-append, each-unless}
 use Rattle.difference.specs.DifferenceLaws.{step-first, step-second, step-both}
@@ -30,7 +30,7 @@ lineWith : ℕ → ℕ → List ℕ → FullLine
 lineWith k n body = record { kind = k; number = n; body = body }
 
 decoded-step : (n : ℕ) (d : Difference) (rest : List ℕ) → SizedIn d → firstDifferences (suc n) (encoded d ++ rest) ≡ d ∷ firstDifferences n rest
-unfolding encoded lineWith
+unfolding encoded lineWith frontOf frontSize
 decoded-step n (onlyFirst l) rest h =
     ap (λ (k : ℕ). onlyFirst (lineWith (l .kind) k (take width (l .body ++ rest))) ∷ firstDifferences n (drop width (l .body ++ rest))) (two-back (l .number))
     ∙ ap (λ (b : List ℕ). onlyFirst (lineWith (l .kind) (l .number) b) ∷ firstDifferences n (drop width (l .body ++ rest))) (take-at (l .body) rest width h)

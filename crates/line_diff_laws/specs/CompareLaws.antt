@@ -10,8 +10,8 @@ use Rattle.bits.specs.Every.{and-left, and-right}
 use Rattle.lent_buffer.specs.declared.Filled.the-variants as filled
 use Rattle.lent_buffer.specs.Filled.{used, Gives, require}
 use Rattle.lent_buffer.specs.FilledLaws.{passed, used-fitted}
-use Rattle.line_list.specs.Lines.{fullLines, asLent, noneCut, rises, numbersSmall, kindsKnown}
-use Rattle.line_list.specs.LinesLaws.{lines-sized, list-back}
+use Rattle.line_list.specs.Lines.{fullLines, headedLines, asLent, noneCut, rises, numbersSmall, kindsKnown}
+use Rattle.line_list.specs.LinesLaws.{lines-sized, heads-whole, list-back}
 use Rattle.difference.specs.Difference.{Difference, differences, encodedAll}
 use Rattle.difference.specs.ReadBack.{differencesIn}
 use Rattle.line_diff.specs.Compare.{compareOf}
@@ -40,16 +40,18 @@ record Checked (first second w : List ℕ) (n room : ℕ) : Type 0 where
 what-passed : (first second w : List ℕ) (n room : ℕ) → compareOf first second room ≡ used n w → Checked first second w n room
 unfolding compareOf
 what-passed first second w n room h =
-    let r = passed (rises (fullLines first) && rises (fullLines second)) _ _ h in
-    let s = passed (numbersSmall (fullLines first) && numbersSmall (fullLines second)) _ _ (r .1) in
-    let k = passed (kindsKnown (fullLines first) && kindsKnown (fullLines second)) _ _ (s .1) in
+    let r = passed (rises (headedLines first) && rises (headedLines second)) _ _ h in
+    let s = passed (numbersSmall (headedLines first) && numbersSmall (headedLines second)) _ _ (r .1) in
+    let k = passed (kindsKnown (headedLines first) && kindsKnown (headedLines second)) _ _ (s .1) in
     let t = passed (noneCut first && noneCut second) _ _ (k .1) in
     let f = used-fitted (encodedAll (differences (fullLines first) (fullLines second))) room (t .1) in
+    let whole = and-left _ (noneCut second) (t .0) in
+    let whole2 = and-right (noneCut first) _ (t .0) in
     record {
-      first-rises = and-left _ (rises (fullLines second)) (r .0);
-      second-rises = and-right (rises (fullLines first)) _ (r .0);
-      first-whole = and-left _ (noneCut second) (t .0);
-      second-whole = and-right (noneCut first) _ (t .0);
+      first-rises = ap rises (sym (heads-whole first whole)) ∙ and-left _ (rises (headedLines second)) (r .0);
+      second-rises = ap rises (sym (heads-whole second whole2)) ∙ and-right (rises (headedLines first)) _ (r .0);
+      first-whole = whole;
+      second-whole = whole2;
       wrote = f .0;
       long = f .1 ∙ sym (ap length (f .0));
       fits = omega (arith, f .1, f .2);
@@ -118,7 +120,7 @@ module _ (first second w : List ℕ) (n room : ℕ) (h : compareOf first second 
 -- A case at the edge.
 
 pub no-lines : (room : ℕ) → compareOf [] [] room ≡ used 0 []
-unfolding compareOf fullLines require
+unfolding compareOf fullLines headedLines require
 no-lines room = simp (le-leb 0 room (omega arith))
 
 -- From the buffer, as a call leaves it.

@@ -2,7 +2,7 @@
 use mathlib.Core.Path.{_≡_}
 use mathlib.Core.Bool.{Bool, true, _&&_}
 use mathlib.Core.List.{List, [], _∷_, _++_}
-use Prim.Native.Nat.{ℕ, zero, suc, _+_, _*_, _/_, _%_, _≤_, _<_}
+use Prim.Native.Nat.{ℕ, zero, suc, _+_, _*_, _/_, _%_, _≤_, _<_, min}
 use lib.Dec.{eqb, leb}
 use lib.ListN.{length, getD, take, drop}
 use Rattle.line_code.specs.declared.Kind.the-variants.{BL, EOF}
@@ -44,6 +44,14 @@ firstLines (suc n) bytes = frontLine bytes ∷ firstLines n (drop lineSize bytes
 unfoldable pub fullLines : List ℕ → List FullLine
 fullLines bytes = firstLines (length bytes / lineSize) bytes
 
+-- how many lines a list of so many bytes has whose head is there, kind and number: the whole ones, and a last one that is cut within its body
+abbrev pub headCount : ℕ → ℕ
+headCount size = (size + width) / lineSize
+
+-- these lines
+unfoldable pub headedLines : List ℕ → List FullLine
+headedLines bytes = firstLines (headCount (length bytes)) bytes
+
 -- nothing follows the last whole line
 abbrev pub noneCut : List ℕ → Bool
 noneCut bytes = eqb (length bytes % lineSize) 0
@@ -74,6 +82,10 @@ kindsKnown (l ∷ ls) = (leb (kindNumber BL) (l .kind) && leb (l .kind) (kindNum
 -- more than any number that two bytes hold
 abbrev pub noLine : ℕ
 noLine = 65536
+
+-- the place where the line at a place ends: the next line's, or the list's end
+abbrev pub lineEnd : ℕ → ℕ → ℕ
+lineEnd place size = min (place + lineSize) size
 
 -- the number of the line that a list starts with, or more than any where it has none
 pub data Next (list : List ℕ) : ℕ → Type 0 where

@@ -1,14 +1,15 @@
 -- Laws of a list as it is lent: one line after another, each with a body of 356 bytes; its lines tell its bytes, and its bytes its lines.
 use mathlib.Core.Path.{_≡_, refl, sym, ap, subst, _∙_}
-use mathlib.Core.Bool.{true}
+use mathlib.Core.Bool.{Bool, true, false, not}
 use mathlib.Core.List.{List, [], _∷_, _++_}
-use Prim.Native.Nat.{ℕ, zero, suc, _+_, _*_, _-_, _/_, _%_, _≤_, _<_}
+use Prim.Native.Nat.{ℕ, zero, suc, _+_, _*_, _-_, _/_, _%_, _≤_, _<_, min}
 use native.Mathlib.Omega.{arith}
 use borrow.Author.Tests.{eqb-true}
-use lib.ListN.{length, getD, take, drop, length-append, length-drop, take-append-drop}
+use lib.Dec.{T, leb, leb→le, nleb→lt}
+use lib.ListN.{length, getD, take, drop, length-append, length-drop, take-append-drop, drop-of-length-le}
 use lib.Seq.{take-all, take-at, drop-at, drop-drop, getD-drop, length-take-le}
 use Rattle.profile.specs.Profile.{width}
-use Rattle.line_list.specs.Lines.{FullLine, lineSize, frontLine, firstLines, fullLines, noneCut, asLent}
+use Rattle.line_list.specs.Lines.{FullLine, headSize, lineSize, frontLine, firstLines, fullLines, headCount, headedLines, noneCut, asLent, lineEnd}
 
 pub lines-step : (bytes : List ℕ) → lineSize ≤ length bytes → fullLines bytes ≡ frontLine bytes ∷ fullLines (drop lineSize bytes)
 unfolding fullLines
@@ -55,14 +56,48 @@ lentFrom list i = take (length list - i) (drop i list)
 pub lent-from-is : (list : List ℕ) (i : ℕ) → lentFrom list i ≡ drop i list
 lent-from-is list i = take-all (length list - i) (drop i list) (omega (arith, length-drop i list))
 
-pub lines-at : (list : List ℕ) (i : ℕ) → lineSize ≤ length list - i → fullLines (drop i list) ≡ frontLine (lentFrom list i) ∷ fullLines (drop (i + lineSize) list)
-lines-at list i h =
-    lines-step (drop i list) (omega (arith, length-drop i list))
-    ∙ ap (λ (l : List ℕ). frontLine (drop i list) ∷ fullLines l) (drop-drop lineSize i list)
-    ∙ ap (λ (l : List ℕ). frontLine l ∷ fullLines (drop (i + lineSize) list)) (sym (lent-from-is list i))
+-- a line whose head is there, and those after it
+pub heads-step : (bytes : List ℕ) → headSize ≤ length bytes → headedLines bytes ≡ frontLine bytes ∷ headedLines (drop lineSize bytes)
+unfolding headedLines
+heads-step bytes h =
+    let n : headCount (length bytes) ≡ suc (headCount (length (drop lineSize bytes))) = omega (arith, length-drop lineSize bytes) in
+    ap (λ (k : ℕ). firstLines k bytes) n
 
-pub lines-over : (list : List ℕ) (i : ℕ) → length list - i < lineSize → fullLines (drop i list) ≡ []
-lines-over list i h = lines-none (drop i list) (omega (arith, length-drop i list))
+pub heads-none : (bytes : List ℕ) → length bytes < headSize → headedLines bytes ≡ []
+unfolding headedLines
+heads-none bytes h =
+    let n : headCount (length bytes) ≡ 0 = omega arith in
+    ap (λ (k : ℕ). firstLines k bytes) n
+
+-- what is left of a list past its end
+drop-end : (list : List ℕ) (i : ℕ) → drop (i + lineSize) list ≡ drop (lineEnd i (length list)) list
+drop-end list i = go (leb (i + lineSize) (length list)) (leb→le (i + lineSize) (length list)) (nleb→lt (i + lineSize) (length list))
+  where
+    go : (b : Bool) → (T b → i + lineSize ≤ length list) → (T (not b) → length list < i + lineSize) → drop (i + lineSize) list ≡ drop (min (i + lineSize) (length list)) list
+    go true h k =
+        let l = h tt in
+        let e : i + lineSize ≡ min (i + lineSize) (length list) = omega arith in
+        ap (λ (n : ℕ). drop n list) e
+    go false h k =
+        let l = k tt in
+        let e : min (i + lineSize) (length list) ≡ length list = omega arith in
+        drop-of-length-le list {i = i + lineSize} (omega arith) ∙ sym (drop-of-length-le list {i = length list} (omega arith)) ∙ ap (λ (n : ℕ). drop n list) (sym e)
+
+pub heads-at : (list : List ℕ) (i : ℕ) → headSize ≤ length list - i → headedLines (drop i list) ≡ frontLine (lentFrom list i) ∷ headedLines (drop (lineEnd i (length list)) list)
+heads-at list i h =
+    heads-step (drop i list) (omega (arith, length-drop i list))
+    ∙ ap (λ (l : List ℕ). frontLine (drop i list) ∷ headedLines l) (drop-drop lineSize i list ∙ drop-end list i)
+    ∙ ap (λ (l : List ℕ). frontLine l ∷ headedLines (drop (lineEnd i (length list)) list)) (sym (lent-from-is list i))
+
+pub heads-over : (list : List ℕ) (i : ℕ) → length list - i < headSize → headedLines (drop i list) ≡ []
+heads-over list i h = heads-none (drop i list) (omega (arith, length-drop i list))
+
+-- in a list that is not cut within a line every line is whole
+pub heads-whole : (bytes : List ℕ) → noneCut bytes ≡ true → headedLines bytes ≡ fullLines bytes
+unfolding headedLines fullLines
+heads-whole bytes h =
+    let n : headCount (length bytes) ≡ length bytes / lineSize = omega (arith, eqb-true (length bytes % lineSize) 0 h) in
+    ap (λ (k : ℕ). firstLines k bytes) n
 
 pub kind-at : (list : List ℕ) (i : ℕ) → frontLine (lentFrom list i) .kind ≡ getD list i 0
 unfolding frontLine

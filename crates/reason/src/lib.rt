@@ -10,7 +10,8 @@ ghost use Prim.Native.Nat.{_+_, _*_, _<_, _≤_};
 ghost use lib.ListN.{length, drop};
 ghost use Rattle.stream.specs.Answers.{lineNibbles};
 ghost use Rattle.reason.specs.Sums.{failedSums};
-ghost use Rattle.reason.specs.Explanation.{codeAt, beginsMark, nextMark, pairAt, nextReason, lineFromBody, lineFromNumber, lineReason, gapRule, strayReason, twoBytesReason, gapReason, endMarkReason, meaningReason, reasonOf, firstReason, nibblesOnly, runReason, explanation};
+ghost use Rattle.reason.specs.Explanation.{codeAt, beginsMark, nextMark, pairAt, nextReason, lineFromBody, lineFromNumber, lineReason, gapRule, strayReason, twoBytesReason, gapReason, endMarkReason, meaningReason, reasonOf, firstReason, nibblesOnly, runReason};
+ghost use Rattle.reason.specs.Valued.{valued, explanationValues};
 use line_code::Kind;
 use line_code::LineKind;
 use line_code::Meaning;
@@ -67,7 +68,7 @@ pub enum Reason {
 
 // The reason of the answer to a run's first mark.
 pub fn explain(profile: u8, before: u8, run: &[u8]) -> Reason
-    ensures { λ r. ⌜ r ≡ explanation profile before (now (run .entry)) ⌝ }
+    ensures { λ r. ⌜ valued r ≡ explanationValues profile before (now (run .entry)) ⌝ }
 {
     let numbered = Profile::numbered(profile);
     match numbered {

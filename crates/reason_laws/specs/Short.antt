@@ -42,6 +42,7 @@ abbrev pub withoutValues : Valued → Short
 withoutValues valued.good-line = good-line
 withoutValues valued.good-gap = good-gap
 withoutValues (valued.numbered n values) = refusal n
+withoutValues (valued.refused n) = refusal n
 
 abbrev pub shortOf : Reason → Short
 shortOf r = withoutValues (valued r)

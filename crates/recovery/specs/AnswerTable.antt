@@ -1,4 +1,4 @@
--- The table of 01 for a mark's answer, 1 to 9: each number with its condition, and no lower one applies. Definitions only.
+-- The table of 01 for a mark's answer, 1 to 9: each number with its condition, and no lower one applies. Texts oldest nibble first. Definitions only.
 use mathlib.Core.Path.{_≡_}
 use mathlib.Core.Bool.{true, false, _&&_}
 use mathlib.Core.List.{List, [], _∷_}
@@ -19,17 +19,22 @@ use Rattle.profile.specs.Profile.{bodyLength, nullByte}
 use Rattle.profile.specs.Layout.{rules, fits, gapFits}
 use Rattle.stream.specs.declared.Before.{Before}
 use Rattle.stream.specs.declared.Before.the-variants.{NoLine, RefusedLine, HandedOut}
-use Rattle.stream.specs.Answers.{facts, Outcome, line, refused, bytesOnto, goodGap, lineNibbles, periodOf, turned, allF, afterCode}
+use Rattle.stream.specs.Answers.{facts, Outcome, line, refused, goodGap, lineNibbles, periodOf, allF, afterCode}
 
 -- a reserved code, clean or repaired
 pub data Reserved : Reading → Type 0 where
   reserved-EC : {r : Repair} → Reserved (Says ReservedEC r)
   reserved-F1 : {r : Repair} → Reserved (Says ReservedF1 r)
 
--- a line's text, newest nibble first, of the right length: code, two number bytes and body
+-- nibbles that are bytes, each with its high nibble first
+pub data AreBytes : List ℕ → List ℕ → Type 0 where
+  no-bytes : AreBytes [] []
+  byte-more : {h l : ℕ} {w bs : List ℕ} → AreBytes w bs → AreBytes (h ∷ l ∷ w) ((16 * h + l) ∷ bs)
+
+-- a line's text of the right length: code, two number bytes and body
 pub record LineLaid (p : Profile) (t : List ℕ) (a b : ℕ) (body : List ℕ) : Type 0 where
   pub code : ℕ
-  pub bytes : bytesOnto t [] ≡ some (code ∷ a ∷ b ∷ body)
+  pub bytes : AreBytes t (code ∷ a ∷ b ∷ body)
   pub long : length body ≡ bodyLength p
 
 -- the mark before is a line's, handed out or refused
@@ -37,7 +42,7 @@ pub data LineBefore (k : Kind) : Before → Type 0 where
   line-refused : LineBefore k (RefusedLine k)
   line-handed : LineBefore k (HandedOut k)
 
--- a gap as laid out after a line of the kind k, oldest nibble first, and its two bytes: nothing but F, or two bytes that fit and then nothing but F
+-- a gap as laid out after a line of the kind k, and its two bytes: nothing but F, or two bytes that fit and then nothing but F
 pub data GapLaid (k : Kind) : Profile → List ℕ → ℕ → ℕ → Type 0 where
   only-F : {w : List ℕ} → allF w ≡ true → GapLaid k VV5404 w nullByte nullByte
   two-then-F : {h l h₂ l₂ : ℕ} {w : List ℕ} → gapFits VV5300 k (16 * h + l) (16 * h₂ + l₂) ≡ true → allF w ≡ true
@@ -74,7 +79,7 @@ pub data Table (p : Profile) (before : Before) (code : ℕ) (t : List ℕ) : Opt
   without-line : (r : Repair) {next : Option ℕ} → readingOf code ≡ Says EndOfLine r → before ≡ NoLine → Table p before code t next (refused endWithoutLine)
   -- 9
   bad-gap : (r : Repair) (k : Kind) {next : Option ℕ} → readingOf code ≡ Says EndOfLine r → LineBefore k before
-      → ((a b : ℕ) → GapLaid k p (afterCode (turned t [])) a b → ⊥) → Table p before code t next (refused badGap)
+      → ((a b : ℕ) → GapLaid k p (afterCode t) a b → ⊥) → Table p before code t next (refused badGap)
   -- the good gap, with its two bytes and its line's period
   a-gap : (r : Repair) (k : Kind) (a b : ℕ) {next : Option ℕ} → readingOf code ≡ Says EndOfLine r → LineBefore k before
-      → GapLaid k p (afterCode (turned t [])) a b → Table p before code t next (goodGap (periodOf p before (length t) next) a b)
+      → GapLaid k p (afterCode t) a b → Table p before code t next (goodGap (periodOf p before (length t) next) a b)

@@ -7,7 +7,7 @@ use borrow.Author.Needs.{needs}
 use Rattle.line_list.specs.LinesLaws.{lentFrom}
 use Rattle.difference.specs.ReadBack.{differencesIn}
 use Rattle.difference.specs.RestLaws.{Rest, rest-all, rest-put, rest-none, puts-is}
-use Rattle.diff_summary.specs.Front.{frontSize}
+use Rattle.difference.specs.ReadBack.{frontSize}
 use Rattle.diff_summary.specs.FrontLaws.{size-some}
 use Rattle.diff_summary.specs.Words.{changeRow}
 use Rattle.diff_rows.specs.Rows.{rowsText}

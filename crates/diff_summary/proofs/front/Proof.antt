@@ -1,6 +1,6 @@
 -- By its first byte.
 use borrow.Author.Tests.{eq-eqb, ne-eqb}
-use Rattle.diff_summary.specs.Front.{frontOf}
+use Rattle.difference.specs.ReadBack.{frontOf}
 use borrow.Author.Needs.{needs}
 use Rattle.diff_summary.proofs.front.Statement.{statement}
 use Rattle.diff_summary.proofs.front.Tie as tie

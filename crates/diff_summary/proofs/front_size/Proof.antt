@@ -1,6 +1,6 @@
 -- By its first byte.
 use borrow.Author.Tests.{eq-eqb, ne-eqb}
-use Rattle.diff_summary.specs.Front.{frontSize}
+use Rattle.difference.specs.ReadBack.{frontSize}
 use borrow.Author.Needs.{needs}
 use Rattle.diff_summary.proofs.front_size.Statement.{statement}
 use Rattle.diff_summary.proofs.front_size.Tie as tie

@@ -2,6 +2,7 @@
 use borrow.Author.Tests.{lt-ltb, le-ltb}
 use Rattle.fluturenc.specs.Calls.{judgeCall}
 use borrow.Author.Needs.{needs}
+use Rattle.frame.specs.RulingLaws.{judge-given}
 use Rattle.fluturenc.proofs.fluturenc_judge.Statement.{statement}
 use Rattle.fluturenc.proofs.fluturenc_judge.Tie as tie
 
@@ -10,7 +11,7 @@ unfolding judgeCall
 returns c =
     let small = lt-ltb _ _ (c .before .before .before .before .if1 .taken) in
     let judge = c .before .before .before .judge-numbered .ensures in
-    let line = c .before .before .line .ensures in
+    let line = judge-given _ _ (c .before .before .line .ensures) in
     record {
       says = simp (small, c .ruling-number .ensures, line, judge);
       next = simp (small, c .before .judge-number .ensures, line, judge);

@@ -1,5 +1,7 @@
 -- The reason is that of the explanation, and the number and the two values are its own.
+use mathlib.Core.Path.{ap, _∙_}
 use borrow.Author.Needs.{needs}
+use Rattle.fluturenc_why.specs.Why.{valuedNumber, valuedFirst, valuedSecond}
 use Rattle.fluturenc_why.proofs.fluturenc_why.Statement.{statement}
 use Rattle.fluturenc_why.proofs.fluturenc_why.Tie as tie
 
@@ -7,9 +9,9 @@ returns : tie.Need-returns
 returns c =
     let why = c .before .before .before .explain .ensures in
     record {
-      says = simp (c .number .ensures, why);
-      one = simp (c .before .before .first-value .ensures, why);
-      two = simp (c .before .second-value .ensures, why);
+      says = c .number .ensures ∙ ap valuedNumber why;
+      one = c .before .before .first-value .ensures ∙ ap valuedFirst why;
+      two = c .before .second-value .ensures ∙ ap valuedSecond why;
     }
 
 pub fluturenc-why-spec : {M : Type 1} → statement M

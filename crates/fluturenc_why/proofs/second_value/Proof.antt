@@ -1,6 +1,4 @@
 -- Case by case the second value as it stands, but that the parity sums are told as bits.
-use mathlib.Core.Path.{_∙_}
-use Rattle.fluturenc_why.specs.WhyLaws.{sums-told}
 use borrow.Author.Needs.{needs}
 use Rattle.fluturenc_why.proofs.second_value.Statement.{statement}
 use Rattle.fluturenc_why.proofs.second_value.Tie as tie
@@ -8,7 +6,7 @@ use Rattle.fluturenc_why.proofs.second_value.Tie as tie
 returns-3 : tie.Need-returns-3
 returns-3 c =
     let reason = c .before .before .reason in
-    simp (reason .given .1) (c .sum-bits .ensures ∙ sums-told (reason .given .0 .0) (reason .given .0 .1 .0))
+    simp (reason .given .1) (c .sum-bits .ensures)
 
 pub second-value-spec : {M : Type 1} → statement M
 second-value-spec =

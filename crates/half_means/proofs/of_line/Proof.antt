@@ -1,22 +1,22 @@
 -- Each refusal by its test, after the tests before it; with all passed, what is said of the two sums.
 use mathlib.Core.Path.{sym, _∙_}
 use borrow.Author.Tests.{eq-eqb, ne-eqb}
-use Rattle.half_means.specs.HalfMeans.{halvesOf, require, besideOf, firstSum, secondSum}
+use Rattle.half_means.specs.HalfMeans.{halfValues, require, besideOf, firstSum, secondSum}
 use Rattle.half_means.specs.HalfMeansLaws.{passed}
 use borrow.Author.Needs.{needs}
 use Rattle.half_means.proofs.of_line.Statement.{statement}
 use Rattle.half_means.proofs.of_line.Tie as tie
 
 returns : tie.Need-returns
-unfolding halvesOf require
+unfolding halfValues require
 returns c = simp (ne-eqb _ _ (c .if1 .taken))
 
 returns-2 : tie.Need-returns-2
-unfolding halvesOf require
+unfolding halfValues require
 returns-2 c = simp (eq-eqb _ _ (c .before .before .if1 .left), ← c .before .number .ensures, ne-eqb _ _ (c .if2 .taken))
 
 returns-3 : tie.Need-returns-3
-unfolding halvesOf require
+unfolding halfValues require
 returns-3 c =
     let numbers = c .before .before in
     simp (eq-eqb _ _ (numbers .before .before .if1 .left), ← numbers .before .number .ensures, eq-eqb _ _ (numbers .if2 .left), ← c .before .body-length .ensures, ne-eqb _ _ (c .if3 .taken))
@@ -39,7 +39,7 @@ returns-4 c =
     (sym (bytes .before .gap-fits .ensures) ∙ bytes .if5 .taken))
 
 returns-5 : tie.Need-returns-5
-unfolding halvesOf require
+unfolding halfValues require
 returns-5 c =
     let bytes = c .before .before in
     let lengths = bytes .before .before in
@@ -57,7 +57,7 @@ returns-5 c =
     )
 
 returns-6 : tie.Need-returns-6
-unfolding halvesOf require
+unfolding halfValues require
 returns-6 c =
     let lengths = c .before .before in
     let numbers = lengths .before .before in

@@ -4,13 +4,13 @@ use Prim.Native.Nat.{_≤_, _-_}
 use borrow.Author.Needs.{needs}
 use borrow.Author.Tests.{lt-leb, le-leb}
 use lib.ListN.{length, drop}
-use Rattle.line_list.specs.Lines.{fullLines, numbersSmall}
-use Rattle.line_list.specs.LinesLaws.{lines-at, lines-over}
+use Rattle.line_list.specs.Lines.{headedLines, numbersSmall}
+use Rattle.line_list.specs.LinesLaws.{heads-at, heads-over}
 use Rattle.line_list.proofs.some_number_past.Statement.{statement}
 use Rattle.line_list.proofs.some_number_past.Tie as tie
 
 abbrev Inv-loop : tie.InvT-loop
-Inv-loop list i₀ i = (i ≤ length list) × (numbersSmall (fullLines list) ≡ numbersSmall (fullLines (drop i list)))
+Inv-loop list i₀ i = (i ≤ length list) × (numbersSmall (headedLines list) ≡ numbersSmall (headedLines (drop i list)))
 
 abbrev μ-loop : tie.MeasureT-loop
 μ-loop list i₀ i = length list - i
@@ -19,13 +19,24 @@ loop-holds : tie.Need-loop-holds Inv-loop μ-loop
 loop-holds c = (search needs, refl)
 
 returns : tie.Need-returns Inv-loop μ-loop
-returns c = c .before .before .before .before .loop .inv .1 ∙ ap numbersSmall (lines-at (c .before .before .before .before .before .before .args .list .now) (c .before .before .before .before .loop .i) (c .before .before .before .loop-test .taken)) ∙ simp (← c .before .number .ensures .0, lt-leb _ _ (c .if1 .taken))
+returns c =
+    let turn = c .before .before .before in
+    let l = turn .before .loop in
+    l .inv .1
+    ∙ ap numbersSmall (heads-at (turn .before .before .before .args .list .now) (l .i) (turn .loop-test .taken))
+    ∙ simp (← c .before .number .ensures .0, lt-leb _ _ (c .if1 .taken))
 
 loop-again : tie.Need-loop-again Inv-loop μ-loop
-loop-again c = (search needs, c .before .before .before .before .loop .inv .1 ∙ ap numbersSmall (lines-at (c .before .before .before .before .before .before .args .list .now) (c .before .before .before .before .loop .i) (c .before .before .before .loop-test .taken)) ∙ simp (← c .before .number .ensures .0, le-leb _ _ (c .if1 .left)))
+loop-again c =
+    let turn = c .before .before .before .before in
+    let l = turn .before .loop in
+    let step = heads-at (turn .before .before .before .args .list .now) (l .i) (turn .loop-test .taken) in
+    (search needs, l .inv .1 ∙ ap numbersSmall step ∙ simp (← c .before .before .number .ensures .0, le-leb _ _ (c .before .if1 .left), c .line-end .ensures))
 
 returns-2 : tie.Need-returns-2 Inv-loop μ-loop
-returns-2 c = c .before .loop .inv .1 ∙ ap numbersSmall (lines-over (c .before .before .before .args .list .now) (c .before .loop .i) (c .loop-test .left))
+returns-2 c =
+    let l = c .before .loop in
+    l .inv .1 ∙ ap numbersSmall (heads-over (c .before .before .before .args .list .now) (l .i) (c .loop-test .left))
 
 pub some-number-past-spec : {M : Type 1} → statement M
 some-number-past-spec =

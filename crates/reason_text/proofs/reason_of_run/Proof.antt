@@ -7,6 +7,7 @@ use lib.ListN.{length}
 use lib.Seq.{length-take-le}
 use denote.Ref.{now}
 use Rattle.reason.specs.Explanation.{explanation}
+use Rattle.reason.specs.ValuedLaws.{explanation-told}
 use Rattle.reason_text.specs.ReasonText.{mostBytes}
 use Rattle.reason_text.specs.ReasonTextLaws.{run-is}
 use borrow.Author.Needs.{needs}
@@ -31,7 +32,7 @@ returns c =
     let n : unpacked .unpack .result ≡ min (length (now (a .bytes))) mostBytes = omega (arith, u .0) in
     let i : from .lesser .result ≡ min (from .before .nibbles-before .result) (2 * unpacked .unpack .result) = from .lesser .ensures in
     let run = run-is (now (a .bytes)) _ _ (unpacked .unpack .result) (from .lesser .result) (a .mark .low) n (u .1) (i ∙ ap (λ (k : ℕ). min k (2 * unpacked .unpack .result)) (from .before .nibbles-before .ensures .0)) in
-    c .explain .ensures ∙ ap₂ (λ (p : ℕ) (w : List ℕ). explanation p (a .mark .before) w) (c .before .before .number-of .ensures) run
+    explanation-told _ _ _ _ (c .explain .ensures) ∙ ap₂ (λ (p : ℕ) (w : List ℕ). explanation p (a .mark .before) w) (c .before .before .number-of .ensures) run
 
 pub reason-of-run-spec : {M : Type 1} → statement M
 reason-of-run-spec =

@@ -1,29 +1,30 @@
 -- The tests come in the paper's order: 11, 13, a broken line, 14; where one refuses the judge is handed back as it was.
 use borrow.Author.Tests.{eq-eqb, ne-eqb, le-leb, lt-leb}
 use Rattle.frame.specs.Frame.{judgeOf}
+use Rattle.frame.specs.RulingLaws.{gives-judged}
 use borrow.Author.Needs.{needs}
 use Rattle.frame.proofs.Judge.line.Statement.{statement}
 use Rattle.frame.proofs.Judge.line.Tie as tie
 
 returns : tie.Need-returns
 unfolding judgeOf
-returns c = simp (← c .before .before .before .before .passes .ensures, c .before .before .before .if1 .taken, ← c .before .before .number .ensures, lt-leb _ _ (c .before .if2 .taken), c .refused .ensures)
+returns c = gives-judged _ _ (simp (← c .before .before .before .before .passes .ensures, c .before .before .before .if1 .taken, ← c .before .before .number .ensures, lt-leb _ _ (c .before .if2 .taken), c .refused .ensures))
 
 returns-2 : tie.Need-returns-2
 unfolding judgeOf
-returns-2 c = simp (← c .before .before .before .before .before .passes .ensures, c .before .before .before .before .if1 .taken, ← c .before .before .before .number .ensures, le-leb _ _ (c .before .before .if2 .left), eq-eqb _ _ (c .before .if3 .taken), c .broken .ensures)
+returns-2 c = gives-judged _ _ (simp (← c .before .before .before .before .before .passes .ensures, c .before .before .before .before .if1 .taken, ← c .before .before .before .number .ensures, le-leb _ _ (c .before .before .if2 .left), eq-eqb _ _ (c .before .if3 .taken), c .broken .ensures))
 
 returns-3 : tie.Need-returns-3
 unfolding judgeOf
-returns-3 c = simp (← c .before .before .before .before .before .before .passes .ensures, c .before .before .before .before .before .if1 .taken, ← c .before .before .before .before .number .ensures, le-leb _ _ (c .before .before .before .if2 .left), ne-eqb _ _ (c .before .before .if3 .left), lt-leb _ _ (c .before .if4 .taken), c .refused2 .ensures)
+returns-3 c = gives-judged _ _ (simp (← c .before .before .before .before .before .before .passes .ensures, c .before .before .before .before .before .if1 .taken, ← c .before .before .before .before .number .ensures, le-leb _ _ (c .before .before .before .if2 .left), ne-eqb _ _ (c .before .before .if3 .left), lt-leb _ _ (c .before .if4 .taken), c .refused2 .ensures))
 
 returns-4 : tie.Need-returns-4
 unfolding judgeOf
-returns-4 c = simp (← c .before .before .before .before .before .before .passes .ensures, c .before .before .before .before .before .if1 .taken, ← c .before .before .before .before .number .ensures, le-leb _ _ (c .before .before .before .if2 .left), ne-eqb _ _ (c .before .before .if3 .left), le-leb _ _ (c .before .if4 .left), c .whole .ensures)
+returns-4 c = gives-judged _ _ (simp (← c .before .before .before .before .before .before .passes .ensures, c .before .before .before .before .before .if1 .taken, ← c .before .before .before .before .number .ensures, le-leb _ _ (c .before .before .before .if2 .left), ne-eqb _ _ (c .before .before .if3 .left), le-leb _ _ (c .before .if4 .left), c .whole .ensures))
 
 returns-5 : tie.Need-returns-5
 unfolding judgeOf
-returns-5 c = simp (← c .before .before .passes .ensures, c .before .if1 .left, c .refused3 .ensures)
+returns-5 c = gives-judged _ _ (simp (← c .before .before .passes .ensures, c .before .if1 .left, c .refused3 .ensures))
 
 pub line-spec : {M : Type 1} → statement M
 line-spec =
