@@ -3,8 +3,8 @@ use mathlib.Core.Path.{_≡_}
 use borrow.Author.Needs.{needs}
 use Prim.Native.Nat.{_≤_, _-_}
 use lib.ListN.{length}
-use Rattle.cases.proofs.table.fill.Statement.{statement}
-use Rattle.cases.proofs.table.fill.Tie as tie
+use Rattle.cases.proofs.table.fill_times.Statement.{statement}
+use Rattle.cases.proofs.table.fill_times.Tie as tie
 
 abbrev Inv-loop : tie.InvT-loop
 Inv-loop nibbles₀ unit times used₀ i₀ nibbles used i = (used ≤ length nibbles) × (length nibbles ≡ length nibbles₀)
@@ -12,8 +12,8 @@ Inv-loop nibbles₀ unit times used₀ i₀ nibbles used i = (used ≤ length ni
 abbrev μ-loop : tie.MeasureT-loop
 μ-loop nibbles₀ unit times used₀ i₀ nibbles used i = times - i
 
-pub fill-spec : {M : Type 1} → statement M
-fill-spec =
+pub fill-times-spec : {M : Type 1} → statement M
+fill-times-spec =
     tie.close
     (tie.spec
     Inv-loop
