@@ -1,16 +1,17 @@
 // Lent buffers: what a call has written there.
 ghost use Prim.Native.Nat.{_≤_};
-use crate::text::say;
-use crate::text::say_number;
+use crate::text::say_counted;
 
 // What a buffer holds before a call: no nibble, and no byte of the bodies here.
 pub const UNTOUCHED: u8 = 0xAA;
 
 // Writes how many bytes of a buffer are not as before a call.
 pub fn say_changed(buffer: &[u8]) {
-    say(b"  ");
-    say_number(changed(buffer) as u64);
-    say(b" bytes of the buffer changed\n");
+    say_counted(
+        b"  ",
+        changed(buffer) as u64,
+        b" bytes of the buffer changed\n",
+    );
 }
 
 fn changed(buffer: &[u8]) -> usize {
@@ -25,9 +26,11 @@ fn changed(buffer: &[u8]) -> usize {
 
 // Writes in how many places two texts differ, as far as both go.
 pub fn say_differing(one: &[u8], other: &[u8]) {
-    say(b"  ");
-    say_number(differing(one, other) as u64);
-    say(b" bytes of the body differ\n");
+    say_counted(
+        b"  ",
+        differing(one, other) as u64,
+        b" bytes of the body differ\n",
+    );
 }
 
 fn differing(one: &[u8], other: &[u8]) -> usize {

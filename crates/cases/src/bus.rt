@@ -1,9 +1,11 @@
 // A reader on the bus, fed by hand: each answer is written as its row of a listing, numbered from 1 in each case.
 use crate::buffer::UNTOUCHED;
 use crate::buffer::say_changed;
+use crate::text::end_line;
 use crate::text::nibble_of;
 use crate::text::number;
 use crate::text::say;
+use crate::text::say_counted;
 use crate::text::say_front;
 use crate::text::say_hex;
 use crate::text::say_number;
@@ -14,7 +16,6 @@ use period::Nibbles;
 use period::Rate;
 use period::WholePeriods;
 use profile::Profile;
-use reader::Fed;
 use reader::Reader;
 use reader_head::Head;
 use stream::Answer;
@@ -30,7 +31,9 @@ impl Bus {
     // A new reader of the profile with this number.
     pub fn new(profile: u8) -> Bus {
         let made = Reader::new(profile);
-        answered(made, 0)
+        let reader = made.reader;
+        let answer = made.answer;
+        answered(reader, answer, 0)
     }
 
     // The words of a line after its first: nibbles, or, as 07*356, nibbles so many times.
@@ -95,7 +98,9 @@ impl Bus {
     fn lent(self, nibble: u8, line: &mut [u8]) -> Bus {
         let reader = self.reader;
         let fed = reader.feed(nibble, line);
-        answered(fed, self.answers)
+        let reader = fed.reader;
+        let answer = fed.answer;
+        answered(reader, answer, self.answers)
     }
 
     // One input, with a line buffer of so many bytes, which is looked at afterwards.
@@ -125,7 +130,7 @@ impl Bus {
             let reader = ran.reader;
             let answer = ran.answer;
             let taken = ran.taken;
-            bus = answered(Fed { reader, answer }, bus.answers);
+            bus = answered(reader, answer, bus.answers);
             if end - from <= taken {
                 return bus;
             }
@@ -139,14 +144,12 @@ impl Bus {
     pub fn finish(self) -> Bus {
         let reader = self.reader;
         let fed = reader.finish();
+        let reader = fed.reader;
         let answer = fed.answer;
-        match answer {
-            Answer::Nothing => say(b"finish: no answer\n"),
-            Answer::Line(_) => {}
-            Answer::Gap(_) => {}
-            Answer::Refused(_) => {}
+        if let Answer::Nothing = answer {
+            say(b"finish: no answer\n");
         }
-        answered(fed, self.answers)
+        answered(reader, answer, self.answers)
     }
 }
 
@@ -169,38 +172,41 @@ pub fn in_state(count: u32, window: u32) -> Bus {
 }
 
 // The bus after a call, whose answer is written.
-fn answered(fed: Fed, answers: u64) -> Bus {
-    let reader = fed.reader;
-    let answer = fed.answer;
+fn answered(reader: Reader, answer: Answer, answers: u64) -> Bus {
+    if let Answer::Nothing = answer {
+        return Bus { reader, answers };
+    }
+    let answers = std::num::wrapping_add_u64(answers, 1);
+    show_row(answers, answer);
+    let head = reader.head;
+    let profile = head.profile;
+    show_facts(profile, answer);
+    Bus { reader, answers }
+}
+
+fn show_row(number: u64, answer: Answer) {
+    let mut row = [0u8; list_rows::ROW];
+    let used = list_rows::row(number, answer, &mut row);
+    say_front(&row, used);
+}
+
+// What a row leaves out.
+fn show_facts(profile: Profile, answer: Answer) {
     match answer {
-        Answer::Nothing => Bus { reader, answers },
+        Answer::Nothing => {}
         Answer::Line(facts) => {
-            let bus = shown(reader, answer, answers);
             let start = facts.start;
             let end = facts.end;
             show_repair(b"  start bit ", start);
             show_repair(b"  end bit ", end);
-            bus
         }
         Answer::Gap(gap) => {
-            let bus = shown(reader, answer, answers);
-            let head = reader.head;
-            let profile = head.profile;
             show_gap_bytes(profile, gap.first, gap.second);
             let period = gap.period;
             show_period(period);
-            bus
         }
-        Answer::Refused(_) => shown(reader, answer, answers),
+        Answer::Refused(_) => {}
     }
-}
-
-fn shown(reader: Reader, answer: Answer, answers: u64) -> Bus {
-    let answers = std::num::wrapping_add_u64(answers, 1);
-    let mut row = [0u8; list_rows::ROW];
-    let used = list_rows::row(answers, answer, &mut row);
-    say_front(&row, used);
-    Bus { reader, answers }
 }
 
 // The bit of a code that was repaired.
@@ -210,7 +216,7 @@ fn show_repair(of: &[u8], repair: Repair) {
         Repair::Bit(bit) => {
             say(of);
             say_hex(bit);
-            say(b"\n");
+            end_line();
         }
     }
 }
@@ -224,7 +230,7 @@ fn show_gap_bytes(profile: Profile, first: u8, second: u8) {
             say_hex(first);
             say(b" ");
             say_hex(second);
-            say(b"\n");
+            end_line();
         }
     }
 }
@@ -234,21 +240,28 @@ fn show_period(period: Nibbles) {
     if period.0 == 0 {
         return;
     }
-    say(b"  period ");
-    say_number(period.0 as u64);
+    say_counted(b"  period ", period.0 as u64, b" nibbles, ");
     let whole = period.whole();
+    show_whole(whole);
+    let rate = period.rate();
+    show_rate(rate);
+    end_line();
+}
+
+fn show_whole(whole: WholePeriods) {
     match whole {
         WholePeriods::Of(periods) => {
-            say(b" nibbles, ");
             say_number(periods.0 as u64);
             say(b" pixel periods");
         }
-        WholePeriods::Odd => say(b" nibbles, no whole pixel period"),
+        WholePeriods::Odd => say(b"no whole pixel period"),
     }
-    let rate = period.rate();
+}
+
+fn show_rate(rate: Rate) {
     match rate {
-        Rate::Thirty => say(b", 30 frames a second\n"),
-        Rate::TwentyFive => say(b", 25 frames a second\n"),
-        Rate::Unnamed => say(b"\n"),
+        Rate::Thirty => say(b", 30 frames a second"),
+        Rate::TwentyFive => say(b", 25 frames a second"),
+        Rate::Unnamed => {}
     }
 }

@@ -1,6 +1,8 @@
 // The judge of frames (paper 01, 'Frames of profile 0').
+use crate::text::end_line;
 use crate::text::say;
 use crate::text::say_number;
+use crate::text::say_refused;
 use frame::Judge;
 use frame::Ruling;
 use frame_layout::Borders;
@@ -36,29 +38,8 @@ impl Hearing {
         let judged = judge.line(Profile::VV5404, kind, number);
         let judge = judged.judge;
         let ruling = judged.ruling;
-        match ruling {
-            Ruling::Going => {
-                let going = std::num::wrapping_add_u64(self.going, 1);
-                Hearing { judge, going }
-            }
-            Ruling::Waiting => {
-                say_going(self.going);
-                say(b"Waiting\n");
-                Hearing { judge, going: 0 }
-            }
-            Ruling::Complete => {
-                say_going(self.going);
-                say(b"Complete\n");
-                Hearing { judge, going: 0 }
-            }
-            Ruling::Refused(number) => {
-                say_going(self.going);
-                say(b"REFUSED ");
-                say_number(number as u64);
-                say(b"\n");
-                Hearing { judge, going: 0 }
-            }
-        }
+        let going = ruled(ruling, self.going);
+        Hearing { judge, going }
     }
 
     // Writes how many lines were answered Going since the last other answer.
@@ -67,6 +48,22 @@ impl Hearing {
         say_going(self.going);
         Hearing { judge, going: 0 }
     }
+}
+
+// How many lines were answered Going after one more ruling; any other is written.
+fn ruled(ruling: Ruling, going: u64) -> u64 {
+    if let Ruling::Going = ruling {
+        return std::num::wrapping_add_u64(going, 1);
+    }
+    say_going(going);
+    match ruling {
+        Ruling::Going => {}
+        Ruling::Waiting => say(b"Waiting"),
+        Ruling::Complete => say(b"Complete"),
+        Ruling::Refused(number) => say_refused(number),
+    }
+    end_line();
+    0
 }
 
 fn say_going(going: u64) {

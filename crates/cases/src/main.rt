@@ -13,6 +13,7 @@ use libc::STDERR_FILENO;
 use libc::STDIN_FILENO;
 use text::Numbers;
 use text::byte;
+use text::end_line;
 use text::numbers_in;
 use text::say;
 use text::say_front;
@@ -71,63 +72,18 @@ impl Bench {
         let command = line[0];
         let n = numbers_in(line);
         match command {
-            b'#' => self.title(line),
-            b'n' | b's' | b'f' | b'i' | b'l' | b'e' => self.reading(command, line, n),
-            b'b' | b'p' | b'w' | b'r' | b'h' => self.writing(command, n),
-            b'j' | b'd' | b'g' | b'o' => self.judging(command, n),
-            b't' => self.shared(line),
-            _ => self,
-        }
-    }
-
-    fn title(self, line: &[u8]) -> Bench {
-        say(line);
-        say(b"\n");
-        self
-    }
-
-    // new, state, feed, input, lend, end.
-    fn reading(self, command: u8, line: &[u8], n: Numbers) -> Bench {
-        let bus = self.bus;
-        match command {
-            b'n' => self.with_bus(Bus::new(byte(n.n0))),
-            b's' => self.with_bus(bus::in_state(word(n.n0), word(n.n1))),
-            b'f' => self.with_bus(bus.feed(line)),
-            b'i' => self.with_bus(bus.input(byte(n.n0))),
-            b'l' => self.with_bus(bus.lend(n.n0, byte(n.n1))),
-            _ => self.with_bus(bus.finish()),
-        }
-    }
-
-    // body, put, write, read, header.
-    fn writing(self, command: u8, n: Numbers) -> Bench {
-        match command {
+            b'n' | b's' | b'f' | b'i' | b'l' | b'e' => self.with_bus(command, line, n),
             b'b' => self.with_body(n.n0, byte(n.n1)),
             b'p' => self.with_byte(n.n0, byte(n.n1)),
-            b'w' => self.write(n),
-            b'r' => self.read_back(n),
-            _ => self.header(),
+            b'j' | b'd' | b'g' | b'o' => self.with_hearing(command, n),
+            _ => self.unchanged(command, line, n),
         }
     }
 
-    // judge, due, give, over.
-    fn judging(self, command: u8, n: Numbers) -> Bench {
-        let hearing = self.hearing;
-        match command {
-            b'j' => self.with_hearing(Hearing::new()),
-            b'd' => self.with_hearing(frames::in_state(short(n.n0), n.n1)),
-            b'g' => self.with_hearing(hearing.lines(byte(n.n0), short(n.n1), short(n.n2))),
-            _ => self.with_hearing(hearing.end()),
-        }
-    }
-
-    // table.
-    fn shared(self, line: &[u8]) -> Bench {
-        table::calls(line);
-        self
-    }
-
-    fn with_bus(self, bus: Bus) -> Bench {
+    // Lines that work on the reader.
+    fn with_bus(self, command: u8, line: &[u8], n: Numbers) -> Bench {
+        let bus = self.bus;
+        let bus = read(bus, command, line, n);
         let hearing = self.hearing;
         let body = self.body;
         Bench {
@@ -138,8 +94,11 @@ impl Bench {
         }
     }
 
-    fn with_hearing(self, hearing: Hearing) -> Bench {
+    // Lines that work on the judge.
+    fn with_hearing(self, command: u8, n: Numbers) -> Bench {
         let bus = self.bus;
+        let hearing = self.hearing;
+        let hearing = judge(hearing, command, n);
         let body = self.body;
         Bench {
             bus,
@@ -181,23 +140,51 @@ impl Bench {
         }
     }
 
-    fn write(self, n: Numbers) -> Bench {
+    // Lines that only write.
+    fn unchanged(self, command: u8, line: &[u8], n: Numbers) -> Bench {
         let body = self.body;
-        written::write(&body, self.length, n);
+        match command {
+            b'#' => title(line),
+            b'w' => written::write(&body, self.length, n),
+            b'r' => written::read_back(&body, self.length, n),
+            b'h' => header(),
+            b't' => table::calls(line),
+            _ => {}
+        }
         self
     }
+}
 
-    fn read_back(self, n: Numbers) -> Bench {
-        let body = self.body;
-        written::read_back(&body, self.length, n);
-        self
+// new, state, feed, input, lend, end.
+fn read(bus: Bus, command: u8, line: &[u8], n: Numbers) -> Bus {
+    match command {
+        b'n' => Bus::new(byte(n.n0)),
+        b's' => bus::in_state(word(n.n0), word(n.n1)),
+        b'f' => bus.feed(line),
+        b'i' => bus.input(byte(n.n0)),
+        b'l' => bus.lend(n.n0, byte(n.n1)),
+        _ => bus.finish(),
     }
+}
 
-    // The first row of a listing.
-    fn header(self) -> Bench {
-        let mut row = [0u8; list_rows::ROW];
-        let used = list_rows::header(&mut row);
-        say_front(&row, used);
-        self
+// judge, due, give, over.
+fn judge(hearing: Hearing, command: u8, n: Numbers) -> Hearing {
+    match command {
+        b'j' => Hearing::new(),
+        b'd' => frames::in_state(short(n.n0), n.n1),
+        b'g' => hearing.lines(byte(n.n0), short(n.n1), short(n.n2)),
+        _ => hearing.end(),
     }
+}
+
+fn title(line: &[u8]) {
+    say(line);
+    end_line();
+}
+
+// The first row of a listing.
+fn header() {
+    let mut row = [0u8; list_rows::ROW];
+    let used = list_rows::header(&mut row);
+    say_front(&row, used);
 }

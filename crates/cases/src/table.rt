@@ -1,10 +1,13 @@
 // A table of readers: each word of a line is one call of it, by one of the technicians.
 ghost use Prim.Native.Nat.{_≤_};
 ghost use lib.ListN.{length};
+use crate::text::end_line;
 use crate::text::nibble_of;
 use crate::text::number;
 use crate::text::say;
+use crate::text::say_counted;
 use crate::text::say_number;
+use crate::text::say_refused;
 use crate::text::until;
 use profile::Profile;
 use reader_table::Opening;
@@ -38,13 +41,15 @@ fn call(table: ReaderTable, word: &[u8]) -> ReaderTable {
     let technician = nibble_of(word[0]);
     let letter = word[1];
     let n = nibble_of(word[2]);
-    match letter {
+    let after = match letter {
         b'o' => opened(table.open_reader(technician, n)),
         b'f' => feed(table, technician, n as usize, &word[3..]),
         b'r' => run(table, technician, n as usize, &word[3..]),
         b'e' => told(table.finish(technician, n as usize)),
         _ => told(table.close(technician, n as usize)),
-    }
+    };
+    end_line();
+    after
 }
 
 fn opened(o: TableOpened) -> ReaderTable {
@@ -54,9 +59,8 @@ fn opened(o: TableOpened) -> ReaderTable {
             say(b"place ");
             say_number(place as u64);
         }
-        Opening::Refused(number) => refused(number),
+        Opening::Refused(number) => say_refused(number),
     }
-    say(b"\n");
     o.table
 }
 
@@ -85,21 +89,23 @@ fn run_lent(
     nibbles: &mut [u8],
     line: &mut [u8],
 ) -> ReaderTable {
-    let star = until(text, 0, b'*');
-    let unit = &text[0..star];
-    let times = number(&text[star..]);
-    let used = fill(nibbles, unit, times);
+    let used = fill(nibbles, text);
     let ran = table.run(technician, place, &nibbles[0..used], line);
-    say(b"takes ");
-    say_number(ran.taken as u64);
-    say(b", ");
+    say_counted(b"takes ", ran.taken as u64, b", ");
     let table = ran.table;
     let answer = ran.answer;
     told(TableFed { table, answer })
 }
 
 // Puts the nibbles of a text so many times, and once at least.
-fn fill(nibbles: &mut [u8], unit: &[u8], times: u64) -> usize
+fn fill(nibbles: &mut [u8], text: &[u8]) -> usize
+    ensures { λ r. ⌜ r ≤ length (now (nibbles .exit)) ⌝ }
+{
+    let star = until(text, 0, b'*');
+    fill_times(nibbles, &text[0..star], number(&text[star..]))
+}
+
+fn fill_times(nibbles: &mut [u8], unit: &[u8], times: u64) -> usize
     ensures { λ r. ⌜ r ≤ length (now (nibbles .exit)) ⌝ }
 {
     let mut used = put(nibbles, 0, unit);
@@ -139,13 +145,7 @@ fn told(fed: TableFed) -> ReaderTable {
             say_number(facts.number as u64);
         }
         Answer::Gap(_) => say(b"gap"),
-        Answer::Refused(number) => refused(number),
+        Answer::Refused(number) => say_refused(number),
     }
-    say(b"\n");
     fed.table
-}
-
-fn refused(number: u8) {
-    say(b"REFUSED ");
-    say_number(number as u64);
 }

@@ -20,6 +20,24 @@ pub fn say_number(n: u64) {
     io::print_decimal(STDOUT_FILENO, n);
 }
 
+// Writes a number between two texts.
+pub fn say_counted(before: &[u8], n: u64, after: &[u8]) {
+    say(before);
+    say_number(n);
+    say(after);
+}
+
+// Writes a refusal.
+pub fn say_refused(number: u8) {
+    say(b"REFUSED ");
+    say_number(number as u64);
+}
+
+// Ends a line.
+pub fn end_line() {
+    say(b"\n");
+}
+
 // Writes a byte as two hexadecimal digits.
 pub fn say_hex(byte: u8) {
     io::print_hex(STDOUT_FILENO, byte as u64, 2);

@@ -5,8 +5,10 @@ use crate::buffer::say_differing;
 use crate::bus::Bus;
 use crate::text::Numbers;
 use crate::text::byte;
-use crate::text::say;
+use crate::text::end_line;
+use crate::text::say_counted;
 use crate::text::say_number;
+use crate::text::say_refused;
 use crate::text::short;
 use crate::text::word;
 use lent_buffer::Filled;
@@ -53,14 +55,9 @@ fn tell(written: Filled) {
     match written {
         Filled::Length(count) => {
             say_number(count as u64);
-            say(b" nibbles, ");
-            say_number((count / 2) as u64);
-            say(b" bytes\n");
+            say_counted(b" nibbles, ", (count / 2) as u64, b" bytes");
         }
-        Filled::Refused(number) => {
-            say(b"REFUSED ");
-            say_number(number as u64);
-            say(b"\n");
-        }
+        Filled::Refused(number) => say_refused(number),
     }
+    end_line();
 }

@@ -1,26 +1,19 @@
--- Laws of the exported calls: a state holds a reader from its opening on, and each call does to it what the reader's own call does; a
--- judge's number stands for the judge; and an answer's number tells its parts.
+-- Laws of the exported calls: a state holds a reader from its opening on, and each call does to it what the reader's own call does; and
+-- judging by number is judging.
 use mathlib.Core.Path.{_≡_, refl, sym, ap, subst, _∙_}
 use mathlib.Core.Bool.{Bool, true, false, cond}
 use mathlib.Core.List.{List, [], _∷_}
-use Prim.Native.Nat.{ℕ, _+_, _-_, _/_, _%_, _≤_, _<_}
+use Prim.Native.Nat.{ℕ, _+_, _-_, _/_, _≤_, _<_}
 use native.Mathlib.Omega.{arith}
-use borrow.Author.Tests.{ltb-true, ltb-false, leb-true, eqb-true, lt-ltb, le-ltb, le-leb, ne-eqb}
-use lib.Dec.{eqb, leb, ltb}
+use borrow.Author.Tests.{leb-true, eqb-true, lt-ltb, le-leb}
+use lib.Dec.{eqb, leb}
 use lib.ListN.{length, length-replicate}
-use Rattle.bits.specs.Every.{and-left, and-right}
 use Rattle.refusal.specs.Refusal.{notANibble, badState, noRoom}
-use Rattle.lent_call.specs.LentCall.{bitOf, Called}
-use Rattle.line_code.specs.declared.Kind.{Kind}
-use Rattle.line_code.specs.declared.Kind.the-variants.{BL, BK, VL, SOF, EOF}
-use Rattle.line_code.specs.LineCode.{kindNumber, repairNumber}
+use Rattle.lent_call.specs.LentCall.{Called}
 use Rattle.profile.specs.declared.Profile.{Profile}
 use Rattle.profile.specs.declared.Profile.the-variants.{VV5404, VV5300}
 use Rattle.profile.specs.Profile.{profileNumber, profileNumbered, bodyLength, longest}
-use Rattle.stream.specs.declared.GapFacts.{GapFacts}
-use Rattle.stream.specs.declared.LineFacts.{LineFacts}
-use Rattle.stream.specs.declared.Answer.the-variants as answers
-use Rattle.stream.specs.Answers.{eitherRepaired, refused, answerFor, isAnswer}
+use Rattle.stream.specs.Answers.{refused, answerFor, isAnswer}
 use Rattle.mark_text.specs.MarkText.{bodyAt}
 use Rattle.reader.specs.declared.Reader.{Reader}
 use Rattle.reader_head.specs.Head.{topPlace, passes, leaveBody}
@@ -30,14 +23,14 @@ use Rattle.run.specs.RunLaws.{none-taken}
 use Rattle.reader_laws.specs.Passes.{passes-test, Finishing, finish-state, finish-taken, finishing, fresh-ok, take-ok, finish-ok}
 use Rattle.reader_laws.specs.Passing.{Ok}
 use Rattle.reader_laws.specs.Bodies.{length-body}
-use Rattle.frame_layout.specs.declared.Borders.the-variants.{Unsettled, On, Off}
 use Rattle.frame.specs.declared.Judge.{Judge}
-use Rattle.frame.specs.declared.Judge.the-variants.{Waiting, Due}
 use Rattle.frame.specs.Frame.{judgeOf}
 use Rattle.frame.specs.Frame as frame
-use Rattle.fluturenc.specs.State.{stateLength, stored, holdsReader, readerIn}
-use Rattle.fluturenc.specs.Calls.{FeedCalled, answerNumber, openCall, feedCall, feedRan, finishCall, judgeNumber, judgeNumbered, rulingNumber, judgeCall}
-use Rattle.fluturenc.specs.StateLaws.{reader-back, stored-length, stored-holds}
+use Rattle.call_numbers.specs.CallNumbers.{answerNumber, judgeNumber, rulingNumber}
+use Rattle.call_numbers.specs.CallNumbersLaws.{judge-small, judge-back}
+use Rattle.reader_state.specs.State.{stateLength, stored, holdsReader, readerIn}
+use Rattle.reader_state.specs.StateLaws.{reader-back, stored-length, stored-holds}
+use Rattle.fluturenc.specs.Calls.{FeedCalled, openCall, feedCall, feedRan, finishCall, judgeCall}
 
 -- Readers that calls reach: the code is a byte, the test passes, and the body has its length.
 
@@ -152,50 +145,7 @@ finishes s r h =
     let done = finish-call s r (h .held) (h .read) in
     (ap (λ (c : Called). c .answer) done, subst (λ (c : Called). HoldsReader (c .state) (finishOf r .reader)) (sym done) (stored-held (finishOf r .reader) s (finish-whole r (h .whole)) (h .room)))
 
--- Judges as numbers.
-
-within-high : (from to n : ℕ) → frame.within from to n ≡ true → n ≤ to
-within-high from to n h = leb-true n to (and-right (leb from n) _ h)
-
-within-low : (from to n : ℕ) → frame.within from to n ≡ true → from ≤ n
-within-low from to n h = leb-true from n (and-left _ _ h)
-
-judge-small : (j : Judge) → frame.passes VV5404 j ≡ true → judgeNumber j < 0x30000
-judge-small Waiting h = omega arith
-judge-small (Due place Unsettled) h = omega (arith, within-high 1 10 place h)
-judge-small (Due place On) h = omega (arith, within-high 11 303 place h)
-judge-small (Due place Off) h = omega (arith, within-high 11 303 place h)
-
-pub judge-back : (j : Judge) → frame.passes VV5404 j ≡ true → judgeNumbered (judgeNumber j) ≡ j
-unfolding judgeNumbered
-judge-back Waiting h = refl
-judge-back (Due place Unsettled) h =
-    let high = within-high 1 10 place h in
-    let low = within-low 1 10 place h in
-    simp (ne-eqb place 0 (λ e. omega arith), lt-ltb place 0x10000 (omega arith)) (ap (λ (k : ℕ). Due k Unsettled) (omega arith))
-judge-back (Due place On) h =
-    let high = within-high 11 303 place h in
-    simp (ne-eqb (0x10000 + place) 0 (λ e. omega arith), le-ltb (0x10000 + place) 0x10000 (omega arith), lt-ltb (0x10000 + place) 0x20000 (omega arith))
-    (ap (λ (k : ℕ). Due k On) (omega arith))
-judge-back (Due place Off) h =
-    let high = within-high 11 303 place h in
-    simp (ne-eqb (0x20000 + place) 0 (λ e. omega arith), le-ltb (0x20000 + place) 0x10000 (omega arith), le-ltb (0x20000 + place) 0x20000 (omega arith))
-    (ap (λ (k : ℕ). Due k Off) (omega arith))
-
--- so a judge that its own call leaves as it was has the same number, whatever the number
-pub number-back : (n : ℕ) → n < 0x30000 → judgeNumber (judgeNumbered n) ≡ n
-unfolding judgeNumbered
-number-back n h = go (eqb n 0) (ltb n 0x10000) (ltb n 0x20000) refl refl refl
-  where
-    go : (a b c : Bool) → eqb n 0 ≡ a → ltb n 0x10000 ≡ b → ltb n 0x20000 ≡ c
-        → judgeNumber (cond a Waiting (Due (n % 0x10000) (cond b Unsettled (cond c On Off)))) ≡ n
-    go true b c e f g = sym (eqb-true n 0 e)
-    go false true c e f g = let l = ltb-true n 0x10000 f in omega arith
-    go false false true e f g =
-        let l = ltb-false n 0x10000 f in
-        let m = ltb-true n 0x20000 g in
-        omega arith
-    go false false false e f g = let l = ltb-false n 0x20000 g in omega arith
+-- Judging.
 
 -- judging by number is judging
 pub judges : (j : Judge) (kind number : ℕ) → frame.passes VV5404 j ≡ true
@@ -203,30 +153,3 @@ pub judges : (j : Judge) (kind number : ℕ) → frame.passes VV5404 j ≡ true
     ≡ record { answer = rulingNumber (judgeOf VV5404 j kind number .ruling); judge = judgeNumber (judgeOf VV5404 j kind number .judge) }
 unfolding judgeCall
 judges j kind number h = simp (lt-ltb (judgeNumber j) 0x30000 (judge-small j h), judge-back j h)
-
--- Answers as numbers.
-
-pub kind-small : (k : Kind) → kindNumber k ≤ 5
-kind-small BL = omega arith
-kind-small BK = omega arith
-kind-small VL = omega arith
-kind-small SOF = omega arith
-kind-small EOF = omega arith
-
-bit-small : (b : Bool) → bitOf b ≤ 1
-bit-small true = omega arith
-bit-small false = omega arith
-
-pub line-told : (f : LineFacts) → f .number < 0x10000 → repairNumber (f .start) < 0x10000
-    → (answerNumber (answers.Line f) / 0x1000000 % 0x100 ≡ 1) × (answerNumber (answers.Line f) / 0x80000 % 2 ≡ bitOf (eitherRepaired f))
-    × (answerNumber (answers.Line f) / 0x10000 % 8 ≡ kindNumber (f .kind)) × (answerNumber (answers.Line f) % 0x10000 ≡ f .number)
-    × (answerNumber (answers.Line f) / 0x100000000 % 0x10000 ≡ repairNumber (f .start)) × (answerNumber (answers.Line f) / 0x1000000000000 ≡ repairNumber (f .end))
-line-told f h s =
-    let k = kind-small (f .kind) in
-    let b = bit-small (eitherRepaired f) in
-    (omega arith, omega arith, omega arith, omega arith, omega arith, omega arith)
-
-pub gap-told : (g : GapFacts) → g .first < 0x100 → g .second < 0x100
-    → (answerNumber (answers.Gap g) / 0x1000000 % 0x100 ≡ 2) × (answerNumber (answers.Gap g) / 0x100000000 ≡ g .period .0)
-    × (answerNumber (answers.Gap g) / 0x100 % 0x100 ≡ g .first) × (answerNumber (answers.Gap g) % 0x100 ≡ g .second)
-gap-told g h k = (omega arith, omega arith, omega arith, omega arith)

@@ -18,36 +18,26 @@
 // reader that passes its own test, then 12 if the line buffer is shorter than the body, also for no nibbles, and takes nothing; an input
 // above 15 stops it before that place with 10. Finish is refused 11. Refused calls change nothing, but that what stood before a 10 is taken.
 //
-// A state is moved and copied as bytes; its layout is specs/State.antt. A judge is a number, 0 when fresh. For C: independent/fluturenc.h.
+// A state is moved and copied as bytes: crate reader_state has its layout. A judge is a number, 0 when fresh. For C: independent/fluturenc.h.
 ghost use mathlib.Core.Path.{_≡_};
 ghost use Prim.Native.Nat.{_+_, _≤_};
 ghost use mathlib.Core.List.{_++_};
 ghost use lib.ListN.{length, drop};
 ghost use lib.Seq.{paste};
-ghost use Rattle.profile.specs.Profile.{profileNumber};
 ghost use Rattle.writer.specs.Writer.{writeOf};
 ghost use Rattle.lent_call.specs.LentCall.{StateGives, WriteGives};
-ghost use Rattle.fluturenc.specs.State.{headLength, stateLength, markNumber, codeOf, markNumbered, profileOf, numberOf, headBytes, headIn, tagged, holdsReader, readerIn, stored};
-ghost use Rattle.fluturenc.specs.Calls.{answerNumber, openCall, feedCall, finishCall, judgeNumber, judgeNumbered, rulingNumber, judgeCall};
+ghost use Rattle.reader_state.specs.State.{headLength, stateLength, headBytes, readerIn, stored};
+ghost use Rattle.fluturenc.specs.Calls.{openCall, feedCall, finishCall, judgeCall};
 ghost use Rattle.fluturenc.specs.Gives.{FeedCallGives, JudgeGives};
-use frame::Judge;
-use frame::Ruling;
-use frame_layout::Borders;
-use lent_call::bit;
-use line_code::Kind;
-use mark_text::Kept;
 use profile::Numbered;
 use profile::Profile;
 use reader::Reader;
 use reader_head::Head;
-use stream::Answer;
-use stream::Before;
-use stream::Mark;
 
 // The bytes of a reader's state: its head's, and its body's.
-const STATE: usize = HEAD + Profile::LONGEST;
+const STATE: usize = reader_state::LENGTH;
 
-const HEAD: usize = 14;
+const HEAD: usize = reader_state::HEAD;
 
 // The bytes of a reader's state.
 #[no_mangle]
@@ -88,8 +78,8 @@ pub extern "C" fn fluturenc_feed(
     if state.len() < STATE {
         return refusal::BAD_STATE as u64;
     }
-    if is_tagged(state[0], state[1], state[13]) {
-        let h = head_in(state);
+    if reader_state::is_tagged(state[0], state[1], state[13]) {
+        let h = reader_state::head_in(state);
         let t = run::run_lent(h, &mut state[HEAD..STATE], nibbles, line);
         let head = t.head;
         if 0 < t.taken {
@@ -97,7 +87,7 @@ pub extern "C" fn fluturenc_feed(
         }
         *taken = t.taken;
         let answer = t.answer;
-        return answer_number(answer);
+        return call_numbers::answer_number(answer);
     }
     refusal::BAD_STATE as u64
 }
@@ -107,13 +97,13 @@ pub extern "C" fn fluturenc_feed(
 pub extern "C" fn fluturenc_finish(state: &mut [u8]) -> u64
     ensures { λ r. ⌜ StateGives (finishCall (now (state .entry))) r (now (state .exit)) ⌝ }
 {
-    if holds_reader(state) {
+    if reader_state::holds_reader(state) {
         let r = reader_in(state);
         let f = r.finish();
         let next = f.reader;
         store(next, state);
         let answer = f.answer;
-        return answer_number(answer);
+        return call_numbers::answer_number(answer);
     }
     refusal::BAD_STATE as u64
 }
@@ -143,152 +133,27 @@ pub extern "C" fn fluturenc_judge(judge: &mut u32, kind: u8, number: u16) -> u8
     ensures { λ r. ⌜ JudgeGives (judgeCall (now (judge .entry)) kind number) r (now (judge .exit)) ⌝ }
 {
     let n = *judge;
-    if n < 3 * PLACES {
-        let j = judge_numbered(n);
+    if n < call_numbers::JUDGES {
+        let j = call_numbers::judge_numbered(n);
         let d = j.line(Profile::VV5404, kind, number);
         let next = d.judge;
-        *judge = judge_number(next);
+        *judge = call_numbers::judge_number(next);
         let ruling = d.ruling;
-        return ruling_number(ruling);
+        return call_numbers::ruling_number(ruling);
     }
     refusal::BAD_STATE
 }
 
-// An answer as a number.
-fn answer_number(answer: Answer) -> u64
-    ensures { λ r. ⌜ r ≡ answerNumber answer ⌝ }
-{
-    match answer {
-        Answer::Nothing => 0,
-        Answer::Line(f) => {
-            let kind = f.kind;
-            let start = f.start;
-            let end = f.end;
-            END * end.number() as u64
-                + START * start.number() as u64
-                + LINE
-                + REPAIRED * bit(f.is_repaired()) as u64
-                + KIND * kind.number() as u64
-                + f.number as u64
-        }
-        Answer::Gap(g) => {
-            let period = g.period;
-            PERIOD * period.0 as u64 + GAP + 256 * g.first as u64 + g.second as u64
-        }
-        Answer::Refused(n) => n as u64,
-    }
-}
-
-const LINE: u64 = 0x100_0000;
-
-const GAP: u64 = 0x200_0000;
-
-const KIND: u64 = 0x1_0000;
-
-const REPAIRED: u64 = 0x8_0000;
-
-const START: u64 = 0x1_0000_0000;
-
-const END: u64 = 0x1_0000_0000_0000;
-
-const PERIOD: u64 = 0x1_0000_0000;
-
-// A reader's state as bytes.
-
-// In place of a kind number: no mark is open.
-const NO_MARK: u8 = 6;
-
-// The greatest number of an open mark: 6 more than the greatest kind number.
-const GREATEST_MARK: u8 = 11;
-
-// Whether the bytes hold a reader that passes its own test.
-fn holds_reader(state: &[u8]) -> bool
-    ensures { λ r. ⌜ r ≡ holdsReader (now (state .entry)) ⌝ }
-{
-    if state.len() < STATE {
-        return false;
-    }
-    if is_tagged(state[0], state[1], state[13]) {
-        return head_in(state).passes();
-    }
-    false
-}
-
-// Whether these are numbers of a profile, of an open mark and of a bool.
-fn is_tagged(profile: u8, mark: u8, stray: u8) -> bool
-    ensures { λ r. ⌜ r ≡ tagged profile mark stray ⌝ }
-{
-    if 1 < profile {
-        return false;
-    }
-    if GREATEST_MARK < mark {
-        return false;
-    }
-    stray <= 1
-}
+// A reader in the state, and back.
 
 fn reader_in(state: &[u8]) -> Reader
     requires { ⌜ stateLength ≤ length (now state) ⌝ }
     ensures { λ r. ⌜ r ≡ readerIn (now (state .entry)) ⌝ }
 {
-    let head = head_in(state);
+    let head = reader_state::head_in(state);
     let mut body = [0; Profile::LONGEST];
     copy(&mut body, 0, &state[HEAD..STATE]);
     Reader { head, body }
-}
-
-fn head_in(state: &[u8]) -> Head
-    requires { ⌜ stateLength ≤ length (now state) ⌝ }
-    ensures { λ r. ⌜ r ≡ headIn (now (state .entry)) ⌝ }
-{
-    let profile = profile_of(state[0]);
-    let at = mark_numbered(state[1], state[2]);
-    let count = number_of(state[3], state[4], state[5], state[6]);
-    let window = number_of(state[7], state[8], state[9], state[10]);
-    let kept = Kept {
-        first: state[11],
-        second: state[12],
-        stray: state[13] == 1,
-    };
-    Head {
-        profile,
-        at,
-        count,
-        window,
-        kept,
-    }
-}
-
-fn profile_of(n: u8) -> Profile
-    ensures { λ r. ⌜ r ≡ profileOf n ⌝ }
-{
-    if n == 0 {
-        return Profile::VV5404;
-    }
-    Profile::VV5300
-}
-
-fn mark_numbered(n: u8, code: u8) -> Mark
-    ensures { λ r. ⌜ r ≡ markNumbered n code ⌝ }
-{
-    if n == NO_MARK {
-        return Mark::NoMark;
-    }
-    if n < NO_MARK {
-        let kind = Kind::numbered(n);
-        let before = Before::of(kind, false);
-        return Mark::Open(before, code);
-    }
-    let kind = Kind::numbered(n - NO_MARK);
-    let before = Before::of(kind, true);
-    Mark::Open(before, code)
-}
-
-// A number from its four bytes, the highest first.
-fn number_of(a: u8, b: u8, c: u8, d: u8) -> u32
-    ensures { λ r. ⌜ r ≡ numberOf a b c d ⌝ }
-{
-    0x100_0000 * a as u32 + 0x1_0000 * b as u32 + 0x100 * c as u32 + d as u32
 }
 
 // Puts a reader into the state.
@@ -306,65 +171,8 @@ fn store_head(h: Head, state: &mut [u8])
     requires { ⌜ headLength ≤ length (now state) ⌝ }
     ensures { λ _. ⌜ now (state .exit) ≡ headBytes h ++ drop headLength (now (state .entry)) ⌝ }
 {
-    let head = head_bytes(h);
+    let head = reader_state::head_bytes(h);
     copy(state, 0, &head);
-}
-
-fn head_bytes(h: Head) -> [u8; 14]
-    ensures { λ r. ⌜ r ≡ headBytes h ⌝ }
-{
-    let p = h.profile;
-    let at = h.at;
-    let kept = h.kept;
-    let c = h.count;
-    let w = h.window;
-    [
-        profile_number(p),
-        mark_number(at),
-        code_of(at),
-        (c / 0x100_0000) as u8,
-        (c / 0x1_0000 % 256) as u8,
-        (c / 0x100 % 256) as u8,
-        (c % 256) as u8,
-        (w / 0x100_0000) as u8,
-        (w / 0x1_0000 % 256) as u8,
-        (w / 0x100 % 256) as u8,
-        (w % 256) as u8,
-        kept.first,
-        kept.second,
-        bit(kept.stray),
-    ]
-}
-
-fn profile_number(p: Profile) -> u8
-    ensures { λ r. ⌜ r ≡ profileNumber p ⌝ }
-{
-    match p {
-        Profile::VV5404 => 0,
-        Profile::VV5300 => 1,
-    }
-}
-
-fn mark_number(at: Mark) -> u8
-    ensures { λ r. ⌜ r ≡ markNumber at ⌝ }
-{
-    match at {
-        Mark::NoMark => NO_MARK,
-        Mark::Open(before, _) => match before {
-            Before::NoLine => 0,
-            Before::RefusedLine(kind) => kind.number(),
-            Before::HandedOut(kind) => NO_MARK + kind.number(),
-        },
-    }
-}
-
-fn code_of(at: Mark) -> u8
-    ensures { λ r. ⌜ r ≡ codeOf at ⌝ }
-{
-    match at {
-        Mark::NoMark => 0,
-        Mark::Open(_, code) => code,
-    }
 }
 
 // All bytes of one slice go into another from a place on.
@@ -376,50 +184,5 @@ fn copy(to: &mut [u8], at: usize, from: &[u8])
     while i < from.len() {
         to[at + i] = from[i];
         i += 1;
-    }
-}
-
-// A judge as a number.
-
-// How many places a judge's number has room for, by each setting of the borders.
-const PLACES: u32 = 0x1_0000;
-
-fn judge_numbered(n: u32) -> Judge
-    ensures { λ r. ⌜ r ≡ judgeNumbered n ⌝ }
-{
-    if n == 0 {
-        return Judge::Waiting;
-    }
-    let place = (n % PLACES) as u16;
-    if n < PLACES {
-        return Judge::Due(place, Borders::Unsettled);
-    }
-    if n < 2 * PLACES {
-        return Judge::Due(place, Borders::On);
-    }
-    Judge::Due(place, Borders::Off)
-}
-
-fn judge_number(judge: Judge) -> u32
-    ensures { λ r. ⌜ r ≡ judgeNumber judge ⌝ }
-{
-    match judge {
-        Judge::Waiting => 0,
-        Judge::Due(place, borders) => match borders {
-            Borders::Unsettled => place as u32,
-            Borders::On => PLACES + place as u32,
-            Borders::Off => 2 * PLACES + place as u32,
-        },
-    }
-}
-
-fn ruling_number(ruling: Ruling) -> u8
-    ensures { λ r. ⌜ r ≡ rulingNumber ruling ⌝ }
-{
-    match ruling {
-        Ruling::Waiting => 0,
-        Ruling::Going => 1,
-        Ruling::Complete => 2,
-        Ruling::Refused(n) => n,
     }
 }

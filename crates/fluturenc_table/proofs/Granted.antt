@@ -8,7 +8,8 @@ use borrow.Author.Tests.{ltb-true, leb-true, eqb-true}
 use lib.Dec.{eqb, leb, ltb}
 use lib.ListN.{length, getD}
 use Rattle.refusal.specs.Refusal.{badState, noSuchTechnician, placeNotHeld}
-use Rattle.reader_table.specs.Table.{isTechnician, nobody, placeCount, denialBy}
+use Rattle.technician.specs.Technician.{isTechnician, denialBy}
+use Rattle.reader_table.specs.Table.{nobody, placeCount}
 use Rattle.fluturenc_table.specs.TableBytes.{tableLength, placeStart, ownerAt, denialAt}
 
 nobody-denied : (who : ℕ) → denialBy who nobody ≡ 0 → ⊥

@@ -5,8 +5,9 @@ use Prim.Native.Nat.{ℕ, zero, suc, _+_, _*_}
 use lib.Dec.{eqb, leb, ltb}
 use lib.ListN.{length, getD, take, drop}
 use Rattle.refusal.specs.Refusal.{badState}
-use Rattle.reader_table.specs.Table.{nobody, placeCount, denialBy}
-use Rattle.fluturenc.specs.State.{stateLength}
+use Rattle.technician.specs.Technician.{denialBy}
+use Rattle.reader_table.specs.Table.{nobody, placeCount}
+use Rattle.reader_state.specs.State.{stateLength}
 
 -- the bytes of a place, and of a table
 abbrev pub placeLength : ℕ

@@ -9,7 +9,8 @@ use Rattle.lent_call.specs.LentCall.{Called}
 use Rattle.profile.specs.declared.Numbered.{Numbered}
 use Rattle.profile.specs.declared.Numbered.the-variants as numbered
 use Rattle.profile.specs.Profile.{profileNumbered}
-use Rattle.reader_table.specs.Table.{isTechnician, nobody, placeCount}
+use Rattle.technician.specs.Technician.{isTechnician}
+use Rattle.reader_table.specs.Table.{nobody, placeCount}
 use Rattle.fluturenc.specs.Calls.{FeedCalled, openCall, feedCall, finishCall}
 use Rattle.fluturenc_table.specs.TableBytes.{tableLength, placeStart, stateAt, withState, lowestFrom, denialAt}
 

@@ -59,7 +59,7 @@ pub extern "C" fn fluturenc_table_open(table: &mut [u8], technician: u8, profile
     if table.len() < TABLE {
         return refusal::BAD_STATE;
     }
-    if reader_table::is_technician(technician) {
+    if technician::is_technician(technician) {
         let found = Profile::numbered(profile);
         match found {
             Numbered::Profile(_) => return open_lowest(table, technician, profile),
@@ -125,9 +125,9 @@ fn denial_at(table: &[u8], technician: u8, place: usize) -> u8
         return refusal::BAD_STATE;
     }
     if place < COUNT {
-        return reader_table::denial(technician, table[PLACE * place]);
+        return technician::denial(technician, table[PLACE * place]);
     }
-    reader_table::denial(technician, NOBODY)
+    technician::denial(technician, NOBODY)
 }
 
 fn open_lowest(table: &mut [u8], technician: u8, profile: u8) -> u8

@@ -9,7 +9,8 @@ use lib.Dec.{eqb}
 use lib.ListN.{length}
 use Rattle.table_history.specs.History.{TableReply, openReply, callReply}
 use Rattle.table_history.specs.Lending.{Buffers, but, LendingRequest, requestOpen, requestRun, requestFinish, requestClose, LendingCall, lends, OwnBuffers, SameBuffers}
-use Rattle.fluturenc.specs.Calls.{FeedCalled, answerNumber}
+use Rattle.call_numbers.specs.CallNumbers.{answerNumber}
+use Rattle.fluturenc.specs.Calls.{FeedCalled}
 use Rattle.fluturenc_table.specs.TableBytes.{tableLength}
 use Rattle.fluturenc_table.specs.TableCalls.{newTable, openTable, feedTable, finishTable, closeTable}
 use Rattle.fluturenc_table_laws.specs.TableHeld.{placingNumber}

@@ -19,7 +19,8 @@ use Rattle.reader.specs.declared.Reader.{Reader}
 use Rattle.recovery.specs.Calls.{done}
 use Rattle.refinement.specs.Runs.{one}
 use Rattle.reader_table.specs.declared.ReaderTable.{ReaderTable}
-use Rattle.reader_table.specs.Table.{isTechnician, placeCount, emptyTable, heldBy, lowestFree, Placing, at-place, not-placed, notOpened, opensAt, openPlace, openNumbered, openPlaceOf, notCalled, lentTo, callHeld, callPlaceOf, closeHeld, closePlaceOf}
+use Rattle.technician.specs.Technician.{isTechnician}
+use Rattle.reader_table.specs.Table.{placeCount, emptyTable, heldBy, lowestFree, Placing, at-place, not-placed, notOpened, opensAt, openPlace, openNumbered, openPlaceOf, notCalled, lentTo, callHeld, callPlaceOf, closeHeld, closePlaceOf}
 use Rattle.table_history.specs.History.{TableReply, openReply, callReply, TableServed, serve, toldTo, openingsIn}
 use Rattle.table_history.specs.Lending.{Buffers, lends, requestInFull, buffersAfter, historyInFull, buffersLeft, requestsOf, toldFrom}
 use Rattle.table_history.specs.Isolation.{isolation}

@@ -16,7 +16,8 @@ use Rattle.profile.specs.Profile.{profileNumbered}
 use Rattle.recovery.specs.Calls.{done}
 use Rattle.refinement.specs.Runs.{RunCall, run, one}
 use Rattle.reader_table.specs.declared.ReaderTable.{ReaderTable}
-use Rattle.reader_table.specs.Table.{isTechnician, nobody, placeCount, emptyTable, placeAt, heldBy, at-place, openPlaceOf, callPlaceOf, denialBy}
+use Rattle.technician.specs.Technician.{isTechnician, denialBy}
+use Rattle.reader_table.specs.Table.{nobody, placeCount, emptyTable, placeAt, heldBy, at-place, openPlaceOf, callPlaceOf}
 use Rattle.table_history.specs.History.{TableRequest, toRead, TableCall, TableReply, TableServed, serve, tableAfter}
 use Rattle.table_history.specs.Lending.{Buffers, lends, requestInFull, buffersAfter, historyInFull}
 use Rattle.table_history.specs.Openings.{callsOf, callsBy, toldOf, toldBy, nibblesIn, nibblesOf, OpeningMeetsDemandThree}

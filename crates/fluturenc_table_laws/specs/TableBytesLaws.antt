@@ -25,11 +25,12 @@ use Rattle.recovery.specs.Calls.{done}
 use Rattle.refinement.specs.Runs.{RunCall, run, one}
 use Rattle.reader_table.specs.declared.TablePlace.{TablePlace}
 use Rattle.reader_table.specs.declared.ReaderTable.{ReaderTable}
-use Rattle.reader_table.specs.Table.{isTechnician, nobody, placeFor, freePlace, placeCount, emptyTable, placeAt, withPlace, heldBy, lowestFree, PlaceCalled, notOpened, opensAt, openPlace, openNumbered, openPlaceOf, notCalled, lentTo, callHeld, callPlaceOf, closeHeld, closePlaceOf, denialBy}
+use Rattle.technician.specs.Technician.{isTechnician, denialBy}
+use Rattle.reader_table.specs.Table.{nobody, placeFor, freePlace, placeCount, emptyTable, placeAt, withPlace, heldBy, lowestFree, PlaceCalled, notOpened, opensAt, openPlace, openNumbered, openPlaceOf, notCalled, lentTo, callHeld, callPlaceOf, closeHeld, closePlaceOf}
 use Rattle.table_history.specs.Places.{somebody, put-same, put-other, there}
 use Rattle.table_history.specs.Lowest.{put-length}
-use Rattle.fluturenc.specs.State.{stateLength, stored, readerIn}
-use Rattle.fluturenc.specs.StateLaws.{stored-length}
+use Rattle.reader_state.specs.State.{stateLength, stored, readerIn}
+use Rattle.reader_state.specs.StateLaws.{stored-length}
 use Rattle.fluturenc.specs.Calls.{FeedCalled, openFor, openCall, feedCall, finishCall}
 use Rattle.fluturenc.specs.CallLaws.{HoldsReader, opens, feeds, finishes, finish-call}
 use Rattle.fluturenc_table.specs.TableBytes.{tableLength, placeStart, ownerAt, stateAt, withState, lowestFrom, denialAt}

@@ -11,8 +11,9 @@ use Rattle.refinement.specs.Runs.{run, one}
 use Rattle.reader_table.specs.declared.TablePlace.{TablePlace}
 use Rattle.reader_table.specs.declared.ReaderTable.{ReaderTable}
 use Rattle.reader_table.specs.Table.{nobody, placeFor, freePlace, placeCount, placeAt, Placing, at-place, not-placed, PlaceOpened, PlaceCalled, openPlaceOf, callPlaceOf, closePlaceOf}
-use Rattle.fluturenc.specs.State.{readerIn}
-use Rattle.fluturenc.specs.Calls.{FeedCalled, answerNumber}
+use Rattle.reader_state.specs.State.{readerIn}
+use Rattle.call_numbers.specs.CallNumbers.{answerNumber}
+use Rattle.fluturenc.specs.Calls.{FeedCalled}
 use Rattle.fluturenc.specs.CallLaws.{HoldsReader}
 use Rattle.fluturenc_table.specs.TableBytes.{tableLength, ownerAt, stateAt}
 use Rattle.fluturenc_table.specs.TableCalls.{openTable, feedTable, finishTable, closeTable}

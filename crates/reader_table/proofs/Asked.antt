@@ -11,7 +11,8 @@ use Rattle.reader.specs.declared.Reader.{Reader}
 use Rattle.refinement.specs.Runs.{RunCall}
 use Rattle.reader_table.specs.declared.TablePlace.{TablePlace}
 use Rattle.reader_table.specs.declared.ReaderTable.{ReaderTable}
-use Rattle.reader_table.specs.Table.{PlaceCalled, isTechnician, placeAt, heldBy, notCalled, lentTo, callHeld, callPlaceOf, closeHeld, closePlaceOf, denialBy}
+use Rattle.technician.specs.Technician.{isTechnician, denialBy}
+use Rattle.reader_table.specs.Table.{PlaceCalled, placeAt, heldBy, notCalled, lentTo, callHeld, callPlaceOf, closeHeld, closePlaceOf}
 
 -- a call that does this to a reader that is held
 abbrev asked : ReaderTable → ℕ → ℕ → List ℕ → (Option Reader → PlaceCalled) → PlaceCalled

@@ -1,5 +1,5 @@
 -- The table of readers (02, A12): eight places, each free or a technician's, and what each call does. Definitions only.
-use mathlib.Core.Bool.{Bool, _||_, cond}
+use mathlib.Core.Bool.{cond}
 use mathlib.Core.List.{List, [], _∷_}
 use mathlib.Core.Option.{Option, none, some}
 use Prim.Native.Nat.{ℕ, suc}
@@ -18,16 +18,13 @@ use Rattle.reader.specs.Reader.{freshReader}
 use Rattle.run.specs.Run.{runOf}
 use Rattle.refinement.specs.ReaderCalls.{lent}
 use Rattle.refinement.specs.Runs.{RunCall, run, one, runResult}
+use Rattle.technician.specs.Technician.{isTechnician}
 use Rattle.reader_table.specs.declared.TablePlace.{TablePlace}
 use Rattle.reader_table.specs.declared.ReaderTable.{ReaderTable}
 use Rattle.reader_table.specs.declared.Opening.{Opening}
 use Rattle.reader_table.specs.declared.Opening.the-variants as opening
 
 -- Places.
-
--- technicians are 1 and 2
-unfoldable pub isTechnician : ℕ → Bool
-isTechnician who = eqb who 1 || eqb who 2
 
 -- the owner of a free place
 abbrev pub nobody : ℕ
@@ -142,7 +139,3 @@ closeHeld (some r) t i = record { table = withPlace t i freePlace; answer = answ
 
 unfoldable pub closePlaceOf : ReaderTable → ℕ → ℕ → PlaceCalled
 closePlaceOf t who i = cond (isTechnician who) (closeHeld (heldBy t who i) t i) (notCalled t noSuchTechnician [])
-
--- What a technician is refused of a place, by its owner: 32, 34, or nothing, 0.
-unfoldable pub denialBy : ℕ → ℕ → ℕ
-denialBy who owner = cond (isTechnician who) (cond (eqb owner who) 0 placeNotHeld) noSuchTechnician

@@ -9,7 +9,7 @@ ghost use mathlib.Core.Path.{_≡_};
 ghost use Rattle.stream.specs.Answers.{refused, answerFor};
 ghost use Rattle.recovery.specs.Calls.{feed, done};
 ghost use Rattle.refinement.specs.Runs.{run, one};
-ghost use Rattle.reader_table.specs.Table.{isTechnician, emptyTable, freePlace, placeFor, placeAt, withPlace, lowestFree, openPlaceOf, openPlace, notOpened, callPlaceOf, closePlaceOf, denialBy};
+ghost use Rattle.reader_table.specs.Table.{emptyTable, freePlace, placeFor, placeAt, withPlace, lowestFree, openPlaceOf, openPlace, notOpened, callPlaceOf, closePlaceOf};
 ghost use Rattle.reader_table.specs.Gives.{OpenGives, PlaceGives, FeedPlaceGives, RunPlaceGives};
 use profile::Numbered;
 use profile::Profile;
@@ -70,7 +70,7 @@ impl ReaderTable {
     pub fn open_reader(self, technician: u8, profile: u8) -> TableOpened
         ensures { λ r. ⌜ OpenGives (openPlaceOf self technician profile) r ⌝ }
     {
-        if is_technician(technician) {
+        if technician::is_technician(technician) {
             let found = Profile::numbered(profile);
             match found {
                 Numbered::Profile(p) => return self.open_place(technician, p),
@@ -86,7 +86,7 @@ impl ReaderTable {
         ensures { λ r. ⌜ FeedPlaceGives (callPlaceOf self technician place (one (feed nibble (now (buffer .entry))))) r (now (buffer .exit)) ⌝ }
     {
         let p = self.place_at(place);
-        let n = denial(technician, p.owner);
+        let n = technician::denial(technician, p.owner);
         if n == 0 {
             let r = p.reader;
             let f = r.feed(nibble, buffer);
@@ -103,7 +103,7 @@ impl ReaderTable {
         ensures { λ r. ⌜ RunPlaceGives (callPlaceOf self technician place (run (now (nibbles .entry)) (now (buffer .entry)))) r (now (buffer .exit)) ⌝ }
     {
         let p = self.place_at(place);
-        let n = denial(technician, p.owner);
+        let n = technician::denial(technician, p.owner);
         if n == 0 {
             let r = p.reader;
             let f = run::run(r, nibbles, buffer);
@@ -125,7 +125,7 @@ impl ReaderTable {
         ensures { λ r. ⌜ PlaceGives (callPlaceOf self technician place (one done)) r ⌝ }
     {
         let p = self.place_at(place);
-        let n = denial(technician, p.owner);
+        let n = technician::denial(technician, p.owner);
         if n == 0 {
             let r = p.reader;
             let f = r.finish();
@@ -142,7 +142,7 @@ impl ReaderTable {
         ensures { λ r. ⌜ PlaceGives (closePlaceOf self technician place) r ⌝ }
     {
         let p = self.place_at(place);
-        let n = denial(technician, p.owner);
+        let n = technician::denial(technician, p.owner);
         if n == 0 {
             let free = TablePlace::free();
             let table = self.put_place(place, free);
@@ -251,27 +251,4 @@ impl TablePlace {
             reader,
         }
     }
-}
-
-// What a technician is refused of a place with this owner: 32, 34, or nothing, 0.
-pub fn denial(technician: u8, owner: u8) -> u8
-    ensures { λ r. ⌜ r ≡ denialBy technician owner ⌝ }
-{
-    if is_technician(technician) {
-        if owner == technician {
-            return 0;
-        }
-        return refusal::PLACE_NOT_HELD;
-    }
-    refusal::NO_SUCH_TECHNICIAN
-}
-
-// Whether a technician has this number.
-pub fn is_technician(number: u8) -> bool
-    ensures { λ r. ⌜ r ≡ isTechnician number ⌝ }
-{
-    if number == 1 {
-        return true;
-    }
-    number == 2
 }

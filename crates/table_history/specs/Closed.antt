@@ -16,7 +16,8 @@ use Rattle.stream.specs.Answers.{nothing, answerFor, isAnswer}
 use Rattle.reader.specs.declared.Reader.{Reader}
 use Rattle.reader_table.specs.declared.TablePlace.{TablePlace}
 use Rattle.reader_table.specs.declared.ReaderTable.{ReaderTable}
-use Rattle.reader_table.specs.Table.{isTechnician, freePlace, placeAt, withPlace, heldBy, lowestFree, opensAt, openPlace, openPlaceOf, notCalled, closeHeld, closePlaceOf}
+use Rattle.technician.specs.Technician.{isTechnician}
+use Rattle.reader_table.specs.Table.{freePlace, placeAt, withPlace, heldBy, lowestFree, opensAt, openPlace, openPlaceOf, notCalled, closeHeld, closePlaceOf}
 use Rattle.table_history.specs.FreePlaces.{Free, ClosedAgain}
 use Rattle.table_history.specs.Places.{put-same, put-other, there, lowest-free}
 use Rattle.table_history.specs.Lowest.{put-length, taken-below}

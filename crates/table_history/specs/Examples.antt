@@ -11,7 +11,8 @@ use Rattle.reader.specs.Reader.{finishOf}
 use Rattle.recovery.specs.Calls.{feed, done}
 use Rattle.refinement.specs.Runs.{one}
 use Rattle.reader_table.specs.declared.ReaderTable.{ReaderTable}
-use Rattle.reader_table.specs.Table.{isTechnician, emptyTable, placeAt, withPlace, heldBy, at-place, not-placed, openPlace, openPlaceOf, callPlaceOf, closePlaceOf}
+use Rattle.technician.specs.Technician.{isTechnician}
+use Rattle.reader_table.specs.Table.{emptyTable, placeAt, withPlace, heldBy, at-place, not-placed, openPlace, openPlaceOf, callPlaceOf, closePlaceOf}
 use Rattle.table_history.specs.History.{TableRequest, toOpen, toRead, toClose, TableCall, TableReply, openReply, callReply, serve}
 use Rattle.table_history.specs.Lending.{Buffers, LendingRequest, requestOpen, requestFeed, requestRun, requestClose, LendingCall, buffersLeft, toldFrom}
 use Rattle.table_history.specs.Isolation.{isolation}

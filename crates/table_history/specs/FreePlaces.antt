@@ -8,7 +8,8 @@ use Rattle.profile.specs.declared.Profile.{Profile}
 use Rattle.profile.specs.declared.Numbered.the-variants as numbered
 use Rattle.profile.specs.Profile.{profileNumbered}
 use Rattle.reader_table.specs.declared.ReaderTable.{ReaderTable}
-use Rattle.reader_table.specs.Table.{isTechnician, nobody, placeAt, Placing, at-place, not-placed, opensAt, openPlaceOf, closePlaceOf}
+use Rattle.technician.specs.Technician.{isTechnician}
+use Rattle.reader_table.specs.Table.{nobody, placeAt, Placing, at-place, not-placed, opensAt, openPlaceOf, closePlaceOf}
 
 -- a place that is there and free
 pub record Free (t : ReaderTable) (i : ℕ) : Type 0 where

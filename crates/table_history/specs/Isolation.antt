@@ -12,7 +12,8 @@ use Rattle.reader.specs.declared.Reader.{Reader}
 use Rattle.recovery.specs.Calls.{feed, done}
 use Rattle.refinement.specs.Runs.{RunCall, run, one}
 use Rattle.reader_table.specs.declared.ReaderTable.{ReaderTable}
-use Rattle.reader_table.specs.Table.{isTechnician, emptyTable, Placing, openPlaceOf, callPlaceOf}
+use Rattle.technician.specs.Technician.{isTechnician}
+use Rattle.reader_table.specs.Table.{emptyTable, Placing, openPlaceOf, callPlaceOf}
 use Rattle.table_history.specs.History.{TableReply, toRead, openReply, callReply, TableServed, serve, toldTo, openingsIn}
 use Rattle.table_history.specs.Lending.{Buffers, but, LendingRequest, requestOpen, requestFeed, requestRun, requestFinish, requestClose, LendingCall, lends, requestInFull, buffersAfter, historyInFull, buffersLeft, requestsOf, toldFrom, LendsOwn, OwnBuffers, SameBuffers, Isolated}
 use Rattle.table_history.specs.Places.{view}

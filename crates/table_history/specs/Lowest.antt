@@ -19,7 +19,8 @@ use Rattle.reader.specs.Reader.{freshReader}
 use Rattle.refinement.specs.Runs.{runResult}
 use Rattle.reader_table.specs.declared.TablePlace.{TablePlace}
 use Rattle.reader_table.specs.declared.ReaderTable.{ReaderTable}
-use Rattle.reader_table.specs.Table.{isTechnician, nobody, placeFor, freePlace, placeCount, emptyTable, placeAt, withPlace, heldBy, lowestFree, notOpened, opensAt, openPlace, openNumbered, openPlaceOf, notCalled, lentTo, callHeld, callPlaceOf, closeHeld, closePlaceOf}
+use Rattle.technician.specs.Technician.{isTechnician}
+use Rattle.reader_table.specs.Table.{nobody, placeFor, freePlace, placeCount, emptyTable, placeAt, withPlace, heldBy, lowestFree, notOpened, opensAt, openPlace, openNumbered, openPlaceOf, notCalled, lentTo, callHeld, callPlaceOf, closeHeld, closePlaceOf}
 use Rattle.table_history.specs.History.{TableRequest, toOpen, toRead, toClose, TableCall, serve, tableAfter}
 use Rattle.table_history.specs.FreePlaces.{Free, OpensLowest, all-taken, lowest-one}
 use Rattle.table_history.specs.Places.{lowest-free}

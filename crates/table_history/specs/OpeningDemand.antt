@@ -18,7 +18,8 @@ use Rattle.refinement.specs.Runs.{RunCall, onRuns, runsTaken, runsCollected, al
 use Rattle.refinement.specs.RunsLaws.{same-as-feeds, runs-demand-three}
 use Rattle.refinement.specs.RunsReached.{runs-ok}
 use Rattle.reader_table.specs.declared.ReaderTable.{ReaderTable}
-use Rattle.reader_table.specs.Table.{isTechnician, heldBy, at-place, openPlaceOf}
+use Rattle.technician.specs.Technician.{isTechnician}
+use Rattle.reader_table.specs.Table.{heldBy, at-place, openPlaceOf}
 use Rattle.table_history.specs.History.{TableCall, TableReply}
 use Rattle.table_history.specs.Openings.{callsOf, callsAfter, nibblesIn, nibblesOf, toldCollected, collectedOf, collectedAfter, OpeningMeetsDemandThree}
 use Rattle.table_history.specs.OpeningLaws.{opened-by, opened-fresh, projected, nibbles-told, collected-told, calls-last}

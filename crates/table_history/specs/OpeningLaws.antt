@@ -20,7 +20,8 @@ use Rattle.refinement.specs.ReaderCalls.{readerCall}
 use Rattle.refinement.specs.Runs.{RunCall, run, one, runResult, runsTaken, runsCollected, runCollects, FinishLastRun}
 use Rattle.refinement.specs.Runs as runs
 use Rattle.reader_table.specs.declared.ReaderTable.{ReaderTable}
-use Rattle.reader_table.specs.Table.{isTechnician, nobody, placeAt, heldBy, lowestFree, Placing, at-place, not-placed, notOpened, opensAt, openPlace, openNumbered, openPlaceOf, runTaken, callPlaceOf, closePlaceOf}
+use Rattle.technician.specs.Technician.{isTechnician}
+use Rattle.reader_table.specs.Table.{nobody, placeAt, heldBy, lowestFree, Placing, at-place, not-placed, notOpened, opensAt, openPlace, openNumbered, openPlaceOf, runTaken, callPlaceOf, closePlaceOf}
 use Rattle.table_history.specs.History.{TableRequest, TableCall, TableReply, toOpen, toRead, toClose, callReply, TableServed, serve}
 use Rattle.table_history.specs.Openings.{andOn, callsBy, callsOf, toldBy, toldOf, readerTold, nibblesIn, toldCollected}
 use Rattle.table_history.specs.Lending.{but}

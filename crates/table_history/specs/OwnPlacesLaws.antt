@@ -27,7 +27,8 @@ use Rattle.reader_laws.specs.Passes.{Feeding, feed-state, feed-nibble, feed-roo
 use Rattle.recovery.specs.Calls.{feed, done}
 use Rattle.refinement.specs.Runs.{RunCall, run, one, runResult}
 use Rattle.reader_table.specs.declared.ReaderTable.{ReaderTable}
-use Rattle.reader_table.specs.Table.{isTechnician, emptyTable, heldBy, Placing, at-place, not-placed, openPlaceOf, callPlaceOf, closePlaceOf}
+use Rattle.technician.specs.Technician.{isTechnician}
+use Rattle.reader_table.specs.Table.{emptyTable, heldBy, Placing, at-place, not-placed, openPlaceOf, callPlaceOf, closePlaceOf}
 use Rattle.table_history.specs.History.{TableRequest, toOpen, toRead, toClose, TableCall, TableReply, openReply, callReply, serve, tableAfter}
 use Rattle.table_history.specs.Places.{view, isThere}
 use Rattle.table_history.specs.Views.{toldHeld, keptHeld, toldClosed, keptClosed, keptOpened, opens, reads, closes, strange, stranger}

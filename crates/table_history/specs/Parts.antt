@@ -10,7 +10,8 @@ use Rattle.reader.specs.declared.Reader.{Reader}
 use Rattle.recovery.specs.Calls.{Call, feed, done}
 use Rattle.refinement.specs.Runs.{RunCall, run, one, runResult, onRuns, oneByOne, allOneByOne}
 use Rattle.reader_table.specs.declared.ReaderTable.{ReaderTable}
-use Rattle.reader_table.specs.Table.{isTechnician, heldBy, openPlaceOf, callPlaceOf, closePlaceOf}
+use Rattle.technician.specs.Technician.{isTechnician}
+use Rattle.reader_table.specs.Table.{heldBy, openPlaceOf, callPlaceOf, closePlaceOf}
 use Rattle.table_history.specs.History.{TableRequest, toOpen, toRead, toClose, TableCall, serve, tableAfter}
 use Rattle.table_history.specs.Openings.{callsBy, callsOf, callsAfter, toldOf, readerTold, endsBy, endsIn, toldAfter}
 use Rattle.table_history.specs.OpeningLaws.{by-other, by-opening, by-call, by-elsewhere, by-close, projected}

@@ -12,7 +12,8 @@ use lib.Seq.{getD-set-same, getD-set-other}
 use Rattle.reader.specs.declared.Reader.{Reader}
 use Rattle.reader_table.specs.declared.TablePlace.{TablePlace}
 use Rattle.reader_table.specs.declared.ReaderTable.{ReaderTable}
-use Rattle.reader_table.specs.Table.{isTechnician, nobody, freePlace, placeAt, withPlace, heldBy, lowestFree}
+use Rattle.technician.specs.Technician.{isTechnician}
+use Rattle.reader_table.specs.Table.{nobody, freePlace, placeAt, withPlace, heldBy, lowestFree}
 use Rattle.table_history.specs.Lending.{but}
 
 -- a technician is not nobody

@@ -21,7 +21,8 @@ use Rattle.refinement.specs.ReaderCalls.{answered}
 use Rattle.refinement.specs.Runs.{RunCall, runResult, onRuns}
 use Rattle.refinement.specs.RunsReached.{runs-never-eleven}
 use Rattle.reader_table.specs.declared.ReaderTable.{ReaderTable}
-use Rattle.reader_table.specs.Table.{isTechnician, freePlace, placeCount, emptyTable, placeAt, heldBy, Placing, at-place, not-placed, openPlaceOf, notCalled, lentTo, callHeld, callPlaceOf}
+use Rattle.technician.specs.Technician.{isTechnician}
+use Rattle.reader_table.specs.Table.{freePlace, placeCount, emptyTable, placeAt, heldBy, Placing, at-place, not-placed, openPlaceOf, notCalled, lentTo, callHeld, callPlaceOf}
 use Rattle.table_history.specs.History.{TableRequest, toOpen, toRead, toClose, TableCall, serve, tableAfter}
 use Rattle.table_history.specs.Lending.{but}
 use Rattle.table_history.specs.Places.{somebody, holding, held, view}

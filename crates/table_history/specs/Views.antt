@@ -17,7 +17,8 @@ use Rattle.reader.specs.declared.Reader.{Reader}
 use Rattle.reader.specs.Reader.{freshReader}
 use Rattle.refinement.specs.Runs.{RunCall, runResult}
 use Rattle.reader_table.specs.declared.ReaderTable.{ReaderTable}
-use Rattle.reader_table.specs.Table.{isTechnician, placeFor, freePlace, heldBy, lowestFree, Placing, at-place, not-placed, notOpened, opensAt, openPlace, openNumbered, openPlaceOf, notCalled, lentTo, runTaken, callHeld, callPlaceOf, closeHeld, closePlaceOf}
+use Rattle.technician.specs.Technician.{isTechnician}
+use Rattle.reader_table.specs.Table.{placeFor, freePlace, heldBy, lowestFree, Placing, at-place, not-placed, notOpened, opensAt, openPlace, openNumbered, openPlaceOf, notCalled, lentTo, runTaken, callHeld, callPlaceOf, closeHeld, closePlaceOf}
 use Rattle.table_history.specs.History.{TableRequest, TableReply, toOpen, toRead, toClose, openReply, callReply, served, serve}
 use Rattle.table_history.specs.Lending.{but}
 use Rattle.table_history.specs.Places.{somebody, holding, view, view-put, view-foreign, owned, there, lowest-free}

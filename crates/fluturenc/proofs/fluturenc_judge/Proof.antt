@@ -25,7 +25,6 @@ pub fluturenc-judge-spec : {M : Type 1} → statement M
 fluturenc-judge-spec =
     tie.close
     (tie.spec
-    (λ c. search needs)
     (λ c κs. search needs)
     (λ c κs. search needs)
     (λ c κs. search needs)

@@ -1,0 +1,2 @@
+pub mod CallNumbers
+pub mod CallNumbersLaws
