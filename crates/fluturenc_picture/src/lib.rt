@@ -10,7 +10,7 @@
 //   fluturenc_to_body(kind, pixels, body, written)     the body that such a head sends of these pixels: 23, 15, 12
 ghost use lib.ListN.{length};
 ghost use Rattle.lent_call.specs.LentCall.{WriteGives};
-ghost use Rattle.pgm.specs.Pgm.{writeOf, readOf};
+ghost use Rattle.picture_file.specs.PictureFile.{writeOf, readOf};
 ghost use Rattle.pixel_order.specs.PixelOrder.{reorderOf};
 ghost use Rattle.pixel_order.specs.declared.Way.the-variants.{ToPixels, ToBody};
 

@@ -7,7 +7,7 @@ use lib.ListN.{length, take, drop, set, replicate, length-append, length-drop}
 use lib.Seq.{take-length, length-take-le, take-at, drop-append-add, drop-drop, sets-eq}
 use Rattle.lent_call.specs.LentCall.{bitOf}
 use Rattle.two_wire.specs.declared.Sensor.{Sensor}
-use Rattle.two_wire.specs.Registers.{registerCount}
+use Rattle.message_data.specs.Registers.{registerCount}
 use Rattle.fluturenc_two_wire.specs.SensorBytes.{indexPlace, flagPlace, sensorLength, withSensor}
 
 -- the registers fill 128 zeros

@@ -8,8 +8,8 @@ use lib.ListN.{length, getD, take, drop}
 use Rattle.refusal.specs.Refusal.{badState, noRoom}
 use Rattle.lent_call.specs.LentCall.{bitOf, Called}
 use Rattle.two_wire.specs.declared.Sensor.{Sensor}
-use Rattle.two_wire.specs.Registers.{registerCount, lastIndex, fresh}
-use Rattle.two_wire.specs.Messages.{Acceptance, accepted, refused, messageOn}
+use Rattle.message_data.specs.Registers.{registerCount, lastIndex}
+use Rattle.two_wire.specs.Messages.{fresh, Acceptance, accepted, refused, messageOn}
 
 -- the places of index and flag, and the bytes of a whole state
 abbrev pub indexPlace : ℕ

@@ -14,8 +14,8 @@ use Rattle.lent_buffer.specs.Filled.{used}
 use Rattle.lent_call.specs.LentCall.{bitOf, Called}
 use Rattle.lent_call.specs.LentCallLaws.{bit-back, bit-tag}
 use Rattle.two_wire.specs.declared.Sensor.{Sensor}
-use Rattle.two_wire.specs.Registers.{registerCount, lastIndex, fresh}
-use Rattle.two_wire.specs.Messages.{Acceptance, accepted, refused, sensorAfter, messageOn, messagesOn}
+use Rattle.message_data.specs.Registers.{registerCount, lastIndex}
+use Rattle.two_wire.specs.Messages.{fresh, Acceptance, accepted, refused, sensorAfter, messageOn, messagesOn}
 use Rattle.two_wire_write.specs.Writing.{writeOf, inThrees}
 use Rattle.two_wire.specs.TwoWireLaws.{Kept, message-keeps}
 use Rattle.two_wire_write.specs.ReadBackLaws.{SetAs, written-read-back}

@@ -9,7 +9,7 @@ use Rattle.profile.specs.Profile.{longest}
 use Rattle.lent_buffer.specs.Filled.{used}
 use Rattle.reader.specs.declared.Reader.{Reader}
 use Rattle.reader.specs.Reader.{freshReader, feedOf}
-use Rattle.pgm.specs.Pgm.{imageOf, writeOf}
+use Rattle.picture_file.specs.PictureFile.{imageOf, writeOf}
 use Rattle.frame_row.specs.declared.Order.{Order}
 use Rattle.frame_row.specs.declared.Keeping.{Keeping}
 use Rattle.frame_row.specs.declared.Keeping.the-variants.{VisiblePixels}

@@ -35,7 +35,7 @@ use Rattle.frame_laws.specs.FrameLaws.{passes-high, after-snoc, accepted-snoc, 
 use Rattle.frame_handing.specs.Handing.{handedOver, asLines, handedLines}
 use Rattle.pixel_order.specs.declared.Way.the-variants.{ToPixels}
 use Rattle.pixel_order.specs.PixelOrderLaws.{reordered-length}
-use Rattle.pgm.specs.Pgm.{size}
+use Rattle.picture_file.specs.PictureFile.{size}
 use Rattle.line_list.specs.Lines.{lineSize}
 use Rattle.frame_row.specs.declared.Order.{Order}
 use Rattle.frame_row.specs.declared.Order.the-variants.{AsSent, OddFirst}

@@ -14,9 +14,9 @@ use Rattle.frame_layout.specs.declared.Borders.the-variants.{Unsettled, On, Off
 use Rattle.frame_layout.specs.FrameLayout.{lastPlace}
 use Rattle.frame.specs.Calls.{Line, IsFrame}
 use Rattle.frame_handing.specs.Handing.{handedLines}
-use Rattle.pgm.specs.Pgm.{size}
-use Rattle.pgm.specs.declared.Format.{Format}
-use Rattle.pgm.specs.declared.Format.the-variants.{Bordered, Plain}
+use Rattle.picture_file.specs.PictureFile.{size}
+use Rattle.picture_file.specs.declared.Format.{Format}
+use Rattle.picture_file.specs.declared.Format.the-variants.{Bordered, Plain}
 use Rattle.line_list.specs.Lines.{lineSize}
 use Rattle.frame_row.specs.declared.Keeping.{Keeping}
 use Rattle.frame_row.specs.declared.Keeping.the-variants.{VisiblePixels, WholeLines}

@@ -18,8 +18,8 @@ use Rattle.lent_buffer.specs.Filled.{used}
 use Rattle.pixel_order.specs.declared.Way.the-variants.{ToPixels}
 use Rattle.pixel_order.specs.PixelOrder.{sourceOf, reordered}
 use Rattle.pixel_order.specs.PixelOrderLaws.{source-inside}
-use Rattle.pgm.specs.Pgm.{imageOf, pixels, Picture, writeAs, writeOf}
-use Rattle.pgm.specs.PgmLaws.{size-tells, picture-written}
+use Rattle.picture_file.specs.PictureFile.{imageOf, pixels, Picture, writeAs, writeOf}
+use Rattle.picture_file.specs.PictureFileLaws.{size-tells, picture-written}
 use Rattle.frame_row.specs.declared.Order.{Order}
 use Rattle.frame_row.specs.declared.Order.the-variants.{AsSent, OddFirst}
 use Rattle.frame_row.specs.declared.Keeping.the-variants.{VisiblePixels}

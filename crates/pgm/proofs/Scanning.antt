@@ -8,7 +8,7 @@ use lib.Dec.{eqb}
 use lib.ListN.{length, drop, getD, drop-of-length-le}
 use lib.Seq.{drop-cons}
 use Rattle.profile.specs.Layout.{isPixel}
-use Rattle.pgm.specs.Pgm.{pixels, starts}
+use Rattle.picture_file.specs.PictureFile.{pixels, starts}
 
 module _ (bytes : List ℕ) (i : ℕ) where
   pub pixels-step : i < length bytes → pixels (drop i bytes) ≡ (isPixel (getD bytes i 0) && pixels (drop (i + 1) bytes))

@@ -9,15 +9,10 @@ ghost use Prim.Native.Nat.{_≤_, _%_};
 ghost use lib.ListN.{length};
 ghost use Rattle.text.specs.Text.{digit};
 ghost use Rattle.lent_buffer.specs.Filled.{Gives};
-ghost use Rattle.pgm.specs.Pgm.{height, size, header, headerLength, pixels, starts, writeAs, writeOf, readAs, readOf};
+ghost use Rattle.picture_file.specs.PictureFile.{height, size, header, headerLength, pixels, starts, writeAs, writeOf, readAs, readOf};
 use lent_buffer::Filled;
+use picture_file::Format;
 use profile::Profile;
-
-// The two formats of a picture: a frame's visible lines with borders on, and plain, with borders off.
-pub enum Format {
-    Bordered,
-    Plain,
-}
 
 // The rows of a picture with borders on, and off.
 const HEIGHT_ON: usize = 292;
@@ -39,10 +34,10 @@ pub const LONGEST_FILE: usize = HEADER + MOST_PIXELS;
 pub fn write(rows: &[u8], file: &mut [u8]) -> Filled
     ensures { λ r. ⌜ Gives (writeOf (now (rows .entry)) (length (now (file .entry)))) r (now (file .entry)) (now (file .exit)) ⌝ }
 {
-    if rows.len() == Format::Bordered.size() {
+    if rows.len() == size(Format::Bordered) {
         return write_as(Format::Bordered, rows, file);
     }
-    if rows.len() == Format::Plain.size() {
+    if rows.len() == size(Format::Plain) {
         return write_as(Format::Plain, rows, file);
     }
     Filled::Refused(refusal::WRONG_PICTURE_LENGTH)
@@ -56,74 +51,72 @@ pub fn read(file: &[u8], rows: &mut [u8]) -> Filled
         return Filled::Refused(refusal::BAD_HEADER);
     }
     let body = &file[HEADER..];
-    if Format::Bordered.heads(file) {
+    if heads(Format::Bordered, file) {
         return read_as(Format::Bordered, body, rows);
     }
-    if Format::Plain.heads(file) {
+    if heads(Format::Plain, file) {
         return read_as(Format::Plain, body, rows);
     }
     Filled::Refused(refusal::BAD_HEADER)
 }
 
-impl Format {
-    // The rows of a picture.
-    fn height(self) -> usize
-        ensures { λ r. ⌜ r ≡ height self ⌝ }
-    {
-        match self {
-            Format::Bordered => HEIGHT_ON,
-            Format::Plain => HEIGHT_OFF,
+// The rows of a picture.
+fn height(format: Format) -> usize
+    ensures { λ r. ⌜ r ≡ height format ⌝ }
+{
+    match format {
+        Format::Bordered => HEIGHT_ON,
+        Format::Plain => HEIGHT_OFF,
+    }
+}
+
+// The pixels of a picture.
+fn size(format: Format) -> usize
+    ensures { λ r. ⌜ r ≡ size format ⌝ }
+{
+    height(format) * Profile::WIDTH
+}
+
+// `P5`, newline, width and height, newline, the greatest value, newline.
+fn header(format: Format) -> [u8; HEADER]
+    ensures { λ r. ⌜ r ≡ header format ⌝ }
+{
+    let width = Profile::WIDTH;
+    let height = height(format);
+    [
+        b'P',
+        b'5',
+        b'\n',
+        digit(width / 100),
+        digit(width / 10),
+        digit(width),
+        b' ',
+        digit(height / 100),
+        digit(height / 10),
+        digit(height),
+        b'\n',
+        digit(MAXVAL / 100),
+        digit(MAXVAL / 10),
+        digit(MAXVAL),
+        b'\n',
+    ]
+}
+
+// Whether a file starts with this header.
+fn heads(format: Format, file: &[u8]) -> bool
+    requires { ⌜ headerLength ≤ length (now file) ⌝ }
+    ensures { λ r. ⌜ r ≡ starts (header format) (now (file .entry)) ⌝ }
+{
+    let text = header(format);
+    let mut i: usize = 0;
+    while i < HEADER {
+        if file[i] == text[i] {
+            i += 1;
+        } else {
+            return false;
         }
     }
-
-    // The pixels of a picture.
-    fn size(self) -> usize
-        ensures { λ r. ⌜ r ≡ size self ⌝ }
-    {
-        self.height() * Profile::WIDTH
-    }
-
-    // `P5`, newline, width and height, newline, the greatest value, newline.
-    fn header(self) -> [u8; HEADER]
-        ensures { λ r. ⌜ r ≡ header self ⌝ }
-    {
-        let width = Profile::WIDTH;
-        let height = self.height();
-        [
-            b'P',
-            b'5',
-            b'\n',
-            digit(width / 100),
-            digit(width / 10),
-            digit(width),
-            b' ',
-            digit(height / 100),
-            digit(height / 10),
-            digit(height),
-            b'\n',
-            digit(MAXVAL / 100),
-            digit(MAXVAL / 10),
-            digit(MAXVAL),
-            b'\n',
-        ]
-    }
-
-    // Whether a file starts with this header.
-    fn heads(self, file: &[u8]) -> bool
-        requires { ⌜ headerLength ≤ length (now file) ⌝ }
-        ensures { λ r. ⌜ r ≡ starts (header self) (now (file .entry)) ⌝ }
-    {
-        let text = self.header();
-        let mut i: usize = 0;
-        while i < HEADER {
-            if file[i] == text[i] {
-                i += 1;
-            } else {
-                return false;
-            }
-        }
-        true
-    }
+    true
 }
 
 // The last decimal digit of a number, as a character.
@@ -142,7 +135,7 @@ fn write_as(format: Format, rows: &[u8], file: &mut [u8]) -> Filled
         if file.len() < length {
             return Filled::Refused(refusal::NO_ROOM);
         }
-        bytes::copy(&format.header(), file);
+        bytes::copy(&header(format), file);
         bytes::copy(rows, &mut file[HEADER..]);
         return Filled::Length(length);
     }
@@ -153,7 +146,7 @@ fn write_as(format: Format, rows: &[u8], file: &mut [u8]) -> Filled
 fn read_as(format: Format, body: &[u8], rows: &mut [u8]) -> Filled
     ensures { λ r. ⌜ Gives (readAs format (now (body .entry)) (length (now (rows .entry)))) r (now (rows .entry)) (now (rows .exit)) ⌝ }
 {
-    if body.len() != format.size() {
+    if body.len() != size(format) {
         return Filled::Refused(refusal::WRONG_PICTURE_LENGTH);
     }
     if all_pixels(body) {

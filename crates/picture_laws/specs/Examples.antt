@@ -15,7 +15,7 @@ use Rattle.frame_layout.specs.FrameLayout.{layout, kindsOf}
 use Rattle.frame.specs.Calls.{Line, line, IsFrame, numberedFrom}
 use Rattle.frame_laws.specs.FrameLaws.{frame-counted}
 use Rattle.slip.specs.Examples.{samplesFrom, sampleFrame, frame-writable}
-use Rattle.pgm.specs.Pgm.{size}
+use Rattle.picture_file.specs.PictureFile.{size}
 use Rattle.frame_row.specs.declared.Order.{Order}
 use Rattle.frame_row.specs.declared.Keeping.the-variants.{VisiblePixels}
 use Rattle.frame_rows_laws.specs.Gathering.{linesOf, pictureOf}

@@ -14,7 +14,7 @@ use Rattle.lent_buffer.specs.Filled.{used}
 use Rattle.frame_layout.specs.declared.Borders.{Borders}
 use Rattle.frame.specs.Frame.{opens}
 use Rattle.frame.specs.Calls.{line, IsFrame}
-use Rattle.pgm.specs.Pgm.{imageOf, writeOf}
+use Rattle.picture_file.specs.PictureFile.{imageOf, writeOf}
 use Rattle.line_list.specs.Lines.{inTwo}
 use Rattle.frame_row.specs.declared.Order.{Order}
 use Rattle.frame_row.specs.declared.Keeping.{Keeping}

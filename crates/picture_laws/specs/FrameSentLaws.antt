@@ -41,7 +41,7 @@ use Rattle.frame.specs.Calls.{called, IsFrame}
 use Rattle.frame.specs.Calls as calls
 use Rattle.frame_laws.specs.FrameLaws.{reached-passes}
 use Rattle.frame_handing.specs.Handing.{isBrokenLine, handedLines}
-use Rattle.pgm.specs.Pgm.{size}
+use Rattle.picture_file.specs.PictureFile.{size}
 use Rattle.frame_row.specs.declared.Order.{Order}
 use Rattle.frame_row.specs.declared.Keeping.{Keeping}
 use Rattle.frame_row.specs.declared.Keeping.the-variants.{VisiblePixels, WholeLines}

@@ -9,8 +9,8 @@ use Rattle.text.specs.Text.{space, newline}
 use Rattle.text.specs.Put.{AtFront}
 use Rattle.profile.specs.declared.Profile.{Profile}
 use Rattle.two_wire.specs.declared.Sensor.{Sensor}
-use Rattle.two_wire.specs.Registers.{fresh}
-use Rattle.setting.specs.Number.{isBlank}
+use Rattle.two_wire.specs.Messages.{fresh}
+use Rattle.named_value.specs.Number.{isBlank}
 use Rattle.script.specs.declared.Script.{Script}
 use Rattle.script.specs.declared.Fed.{Fed}
 use Rattle.script_line.specs.declared.Reply.{Reply}

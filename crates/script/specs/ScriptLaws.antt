@@ -10,7 +10,7 @@ use lib.ListN.{length, take, drop, getD, set, length-append, length-take, length
 use lib.Seq.{take-all, take-append-le, take-append-seam, take-length, length-take-le, getD-take, sets-eq}
 use Rattle.text.specs.Text.{space}
 use Rattle.text.specs.Put.{AtFront}
-use Rattle.setting.specs.Number.{isBlank}
+use Rattle.named_value.specs.Number.{isBlank}
 use Rattle.script_line.specs.Line.{tooLongText, textOf}
 use Rattle.script_line.specs.LineLaws.{too-long-short, text-short}
 use Rattle.script.specs.Script.{Place, lineText, appended, blankAfter, keptAfter, placeAfter, textOn, refusedOn, textWhere, scriptText, pieceText, afterPiece, Appends, KeepsBlank, KeepsCharacter}

@@ -8,7 +8,7 @@ use Rattle.exposure.specs.Exposure.{isGain}
 use Rattle.text.specs.Text.{ascii, decimal, hexDigit}
 use Rattle.profile.specs.declared.Profile.{Profile}
 use Rattle.profile.specs.declared.Profile.the-variants.{VV5404, VV5300}
-use Rattle.setting.specs.Number.{isBlank, firstWordIs, digitOnto}
+use Rattle.named_value.specs.Number.{isBlank, firstWordIs, digitOnto}
 use Rattle.setting.specs.Setting.{single, double, gainCode, sharedSetting, settingVV5404, settingVV5300}
 use Rattle.two_wire_text.specs.Hex.{isMessage}
 use Rattle.script_line.specs.Line.{lineHead, beyondText, noGainText, unknownText, tooLongText, textBy, refusedBy, textOf, refusedOf}

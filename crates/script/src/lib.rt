@@ -87,7 +87,7 @@ fn following(number: u64) -> u64
 fn keep(c: u8, line: &mut [u8], length: usize) -> usize
     ensures { λ r. ⌜ KeepsCharacter c (now (line .entry)) length (now (line .exit)) r ⌝ }
 {
-    if setting::is_blank(c) {
+    if named_value::is_blank(c) {
         return keep_blank(line, length);
     }
     append(c, line, length)

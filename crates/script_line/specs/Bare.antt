@@ -4,7 +4,7 @@ use mathlib.Core.List.{List, [], _∷_}
 use Prim.Native.Nat.{ℕ, zero, suc}
 use lib.Dec.{eqb}
 use lib.ListN.{take}
-use Rattle.setting.specs.Number.{isBlank}
+use Rattle.named_value.specs.Number.{isBlank}
 
 -- the character that starts a comment
 abbrev pub hash : ℕ

@@ -8,7 +8,7 @@ use native.Mathlib.Omega.{arith}
 use lib.Dec.{eqb}
 use lib.ListN.{length, drop, getD}
 use lib.Seq.{drop-cons}
-use Rattle.setting.specs.Number.{isBlank}
+use Rattle.named_value.specs.Number.{isBlank}
 use Rattle.script_line.specs.Bare.{hash, counted, bareLength}
 
 -- where a line ends of which some characters are read, up to an end, and some that count are left

@@ -13,7 +13,7 @@ ghost use lib.ListN.{take};
 ghost use Rattle.text.specs.Put.{Puts};
 ghost use Rattle.setting.specs.declared.Setting.the-variants.{Unknown};
 ghost use Rattle.setting.specs.Setting.{settingOf};
-ghost use Rattle.setting.specs.Number.{isBlank};
+ghost use Rattle.named_value.specs.Number.{isBlank};
 ghost use Rattle.script_line.specs.Bare.{bareLength};
 ghost use Rattle.script_line.specs.Line.{lineHead, beyondText, noGainText, unknownText, tooLongText, RepliesTo, RepliesBy};
 use profile::Profile;
@@ -130,7 +130,7 @@ fn bare_length(line: &[u8]) -> usize
 fn end_after(c: u8, end: usize, place: usize) -> usize
     ensures { λ r. ⌜ r ≡ cond (isBlank c) end place ⌝ }
 {
-    if setting::is_blank(c) {
+    if named_value::is_blank(c) {
         return end;
     }
     place

@@ -1,4 +1,2 @@
-pub mod Number
-pub mod NumberLaws
 pub mod Setting
 pub mod SettingLaws

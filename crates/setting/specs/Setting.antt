@@ -11,7 +11,7 @@ use Rattle.exposure.specs.Exposure.{fineLimit25, coarseLimit, divisorLimit, isG
 use Rattle.two_wire.specs.RegisterNames.{setup0, setup1, setup2, setup3, setup4, setup5, fineHigh, fineLow, coarseHigh, coarseLow, gain, clockDivisor}
 use Rattle.setting.specs.declared.Setting.{Setting}
 use Rattle.setting.specs.declared.Setting.the-variants.{Single, Double, Beyond, NoGain, Unknown}
-use Rattle.setting.specs.Number.{firstWordIs, valueIn}
+use Rattle.named_value.specs.Number.{firstWordIs, valueIn}
 
 -- ---- limits: those of the VV5404 are the ones of crate `exposure`, fine exposure that at 25 frames a second
 

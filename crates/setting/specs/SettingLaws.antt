@@ -9,7 +9,7 @@ use Rattle.profile.specs.declared.Profile.the-variants.{VV5404, VV5300}
 use Rattle.exposure.specs.Exposure.{isGain}
 use Rattle.setting.specs.declared.Setting.{Setting}
 use Rattle.setting.specs.declared.Setting.the-variants.{Single, Double, Beyond, NoGain, Unknown}
-use Rattle.setting.specs.Number.{firstWordIs}
+use Rattle.named_value.specs.Number.{firstWordIs}
 use Rattle.setting.specs.Setting.{single, double, gainCode, sharedSetting, settingVV5404, settingVV5300, settingOf}
 
 -- the length of that name

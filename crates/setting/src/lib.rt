@@ -13,8 +13,10 @@
 // | setup5 | 0 to 255 | |
 ghost use mathlib.Core.Path.{_≡_};
 ghost use lib.ListN.{drop};
-ghost use Rattle.setting.specs.Number.{isBlank, pastBlanks, endsWord, firstWordIs, digitOnto, numberIn, valueIn};
+ghost use Rattle.named_value.specs.Number.{valueIn};
 ghost use Rattle.setting.specs.Setting.{single, double, gainCode, sharedSetting, settingVV5404, settingVV5300, settingOf};
+use named_value::begins;
+use named_value::value;
 use profile::Profile;
 use two_wire::register;
 
@@ -41,9 +43,6 @@ const GAIN_LIMIT_VV5300: u8 = 7;
 
 const BYTE_LIMIT: u8 = 255;
 
-// What stands for a number that is missing, or above 65,535.
-const NO_NUMBER: u32 = 65536;
-
 // The setting that a line is: `settingOf`.
 pub fn read(profile: Profile, line: &[u8]) -> Setting
     ensures { λ r. ⌜ r ≡ settingOf profile (now (line .entry)) ⌝ }
@@ -52,19 +51,6 @@ pub fn read(profile: Profile, line: &[u8]) -> Setting
         Profile::VV5404 => read_vv5404(line),
         Profile::VV5300 => read_vv5300(line),
     }
-}
-
-// Whether a character is a space, a tab or a carriage return.
-pub fn is_blank(c: u8) -> bool
-    ensures { λ r. ⌜ r ≡ isBlank c ⌝ }
-{
-    if c == b' ' {
-        return true;
-    }
-    if c == b'\t' {
-        return true;
-    }
-    c == b'\r'
 }
 
 fn read_vv5404(line: &[u8]) -> Setting
@@ -167,96 +153,4 @@ fn gain_code(value: u32) -> Setting
         return Setting::Single(register::GAIN, value as u8);
     }
     Setting::NoGain
-}
-
-// Whether a line's first word is this one.
-fn begins(line: &[u8], word: &[u8]) -> bool
-    ensures { λ r. ⌜ r ≡ firstWordIs (now (word .entry)) (now (line .entry)) ⌝ }
-{
-    let mut i: usize = 0;
-    while i < word.len() {
-        if line.len() <= i {
-            return false;
-        }
-        if line[i] == word[i] {
-            i += 1;
-        } else {
-            return false;
-        }
-    }
-    ends_word(line, i)
-}
-
-// Whether a word of a line may end before a place: the line ends there, or a blank stands there.
-fn ends_word(line: &[u8], at: usize) -> bool
-    ensures { λ r. ⌜ r ≡ endsWord (drop at (now (line .entry))) ⌝ }
-{
-    if line.len() <= at {
-        return true;
-    }
-    is_blank(line[at])
-}
-
-// The value that stands in a line after a name of a length, and blanks.
-fn value(line: &[u8], at: usize) -> u32
-    ensures { λ r. ⌜ r ≡ valueIn (drop at (now (line .entry))) ⌝ }
-{
-    if line.len() <= at {
-        return NO_NUMBER;
-    }
-    if is_blank(line[at]) {
-        return number(line, past_blanks(line, at + 1));
-    }
-    NO_NUMBER
-}
-
-// The first place of a line from a place on where no blank stands.
-fn past_blanks(line: &[u8], at: usize) -> usize
-    ensures { λ r. ⌜ drop r (now (line .entry)) ≡ pastBlanks (drop at (now (line .entry))) ⌝ }
-{
-    let mut i = at;
-    while i < line.len() {
-        if is_blank(line[i]) {
-            i += 1;
-        } else {
-            return i;
-        }
-    }
-    i
-}
-
-// The number that a line is from a place on, up to 65,535.
-pub fn number(line: &[u8], at: usize) -> u32
-    ensures { λ r. ⌜ r ≡ numberIn (drop at (now (line .entry))) ⌝ }
-{
-    if line.len() <= at {
-        return NO_NUMBER;
-    }
-    let mut n: u32 = 0;
-    let mut i = at;
-    while i < line.len() {
-        n = digit_onto(n, line[i]);
-        i += 1;
-    }
-    n
-}
-
-// A number with one decimal digit more.
-fn digit_onto(n: u32, c: u8) -> u32
-    ensures { λ r. ⌜ r ≡ digitOnto n c ⌝ }
-{
-    if c < b'0' {
-        return NO_NUMBER;
-    }
-    if b'9' < c {
-        return NO_NUMBER;
-    }
-    if 6553 < n {
-        return NO_NUMBER;
-    }
-    let more = 10 * n + (c - b'0') as u32;
-    if 65535 < more {
-        return NO_NUMBER;
-    }
-    more
 }

@@ -8,7 +8,7 @@ use lib.ListN.{length, getD}
 use Rattle.lent_buffer.specs.Filled.{used}
 use Rattle.saved_setting.specs.declared.SavedSetting.{SavedSetting}
 use Rattle.two_wire.specs.declared.Sensor.{Sensor}
-use Rattle.two_wire.specs.Registers.{registerCount, lastIndex, next}
+use Rattle.message_data.specs.Registers.{registerCount, lastIndex, next}
 use Rattle.two_wire.specs.RegisterNames.{fineHigh, fineLow, coarseHigh, coarseLow, gain, clockDivisor}
 use Rattle.two_wire.specs.Messages.{Acceptance, accepted, refused, messagesOn}
 use Rattle.two_wire_write.specs.Writing.{messages, joined, writeOf, inThrees}

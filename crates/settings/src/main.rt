@@ -59,7 +59,7 @@ fn after_verb(count: usize) -> usize {
 fn number(place: usize) -> u32 {
     let mut word = io::buffer();
     let n = os::arg(place, &mut word);
-    setting::number(&word[..n], 0)
+    named_value::number(&word[..n], 0)
 }
 
 // Serves a request with the file that the arguments name.

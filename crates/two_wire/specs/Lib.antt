@@ -1,5 +1,3 @@
-pub mod Registers
-pub mod RegisterLaws
 pub mod Messages
 pub mod MessageLaws
 pub mod TwoWireLaws

@@ -4,13 +4,17 @@ use mathlib.Core.Bool.{Bool, true, false, not, cond}
 use mathlib.Core.List.{List, [], _∷_}
 use Prim.Native.Nat.{ℕ, zero, suc, _+_, _%_}
 use lib.Dec.{eqb, leb}
-use lib.ListN.{getD}
+use lib.ListN.{getD, replicate}
 use Rattle.refusal.specs.Refusal.{badState, shortMessage, wrongAddress, wrongIndex, wrongData, pastLastRegister}
 use Rattle.two_wire.specs.declared.Sensor.{Sensor}
 use Rattle.two_wire.specs.declared.Seen.{Seen}
 use Rattle.two_wire.specs.declared.Answer.{Answer}
 use Rattle.two_wire.specs.declared.Answer.the-variants as answer
-use Rattle.two_wire.specs.Registers.{lastIndex, next, passes, reached, left, stored, someDiffers}
+use Rattle.message_data.specs.Registers.{registerCount, lastIndex, next, passes, reached, left, stored, someDiffers}
+
+-- registers, current index and increment flag, all 0 when fresh
+abbrev pub fresh : Sensor
+fresh = record { registers = replicate registerCount 0; index = 0; increment = false }
 
 -- the first byte of a write (hex 20) and of a read
 abbrev pub writeAddress : ℕ

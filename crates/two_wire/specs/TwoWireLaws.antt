@@ -10,8 +10,8 @@ use lib.Dec.{eqb, leb, ltb, lit≤}
 use lib.ListN.{length, getD, set, length-set}
 use lib.Seq.{getD-set-same, getD-set-other}
 use Rattle.two_wire.specs.declared.Sensor.{Sensor}
-use Rattle.two_wire.specs.Registers.{registerCount, lastIndex, firstSettable, next, passes, reached, left, put, stored, differs, someDiffers}
-use Rattle.two_wire.specs.RegisterLaws.{passes-counts, passes-still, reached-counts, reached-still}
+use Rattle.message_data.specs.Registers.{registerCount, lastIndex, firstSettable, next, passes, reached, left, put, stored, differs, someDiffers}
+use Rattle.message_data.specs.RegisterLaws.{passes-counts, passes-still, reached-counts, reached-still}
 use Rattle.two_wire.specs.Messages.{writeAddress, readAddress, incrementBit, indexByte, indexIn, incrementIn, Acceptance, accepted, refused, refuseIf, writeData, readData, readBack, addressed, laidOut, messageOn, messagesOn, contents, readMessage, behind}
 
 -- a test's two sides

@@ -8,11 +8,14 @@
 pub mod register;
 
 ghost use mathlib.Core.Path.{_≡_};
-ghost use mathlib.Core.Bool.{false};
 ghost use Prim.Native.Nat.{_≤_};
-ghost use Rattle.two_wire.specs.Registers.{lastIndex, fresh, next, passes, reached, left, put, stored, differs, someDiffers};
-ghost use Rattle.two_wire.specs.Messages.{indexByte, refused, Told, writeData, readData, readBack, messageOn};
+ghost use Rattle.message_data.specs.Registers.{lastIndex};
+ghost use Rattle.two_wire.specs.Messages.{fresh, indexByte, refused, Told, writeData, readData, readBack, addressed, messageOn};
 ghost use Rattle.two_wire.specs.declared.Answer.the-variants as answer;
+use message_data::left;
+use message_data::passes;
+use message_data::some_differs;
+use message_data::store;
 
 // A sensor as messages see it. Calls leave an index up to 127; a state with another is refused with 11.
 pub struct Sensor {
@@ -38,13 +41,8 @@ pub const WRITE_ADDRESS: u8 = 32;
 
 const READ_ADDRESS: u8 = 33;
 
-// How many registers there are, and the last one's index.
-const REGISTERS: u8 = 128;
-
-pub const LAST_INDEX: u8 = 127;
-
-// The registers below this one are the sensor's own.
-const FIRST_SETTABLE: u8 = 5;
+// The last register's index.
+pub const LAST_INDEX: u8 = message_data::LAST_INDEX;
 
 // The increment flag in a message's second byte: its top bit.
 const INCREMENT: u8 = 128;
@@ -72,9 +70,14 @@ impl Sensor {
         if message.len() < 2 {
             return self.refused(refusal::SHORT_MESSAGE);
         }
-        let address = message[0];
-        let second = message[1];
-        let bytes = &message[2..];
+        self.addressed(message[0], message[1], &message[2..])
+    }
+
+    // By the address: a write, a read, or 25.
+    fn addressed(self, address: u8, second: u8, bytes: &[u8]) -> Seen
+        requires { ⌜ self .index ≤ lastIndex ⌝ }
+        ensures { λ r. ⌜ Told (addressed self address second (now (bytes .entry))) self r ⌝ }
+    {
         if address == WRITE_ADDRESS {
             return self.write_data(INCREMENT <= second, second % INCREMENT, bytes);
         }
@@ -86,16 +89,13 @@ impl Sensor {
 
     // A write of data from an index on.
     fn write_data(self, increment: bool, index: u8, bytes: &[u8]) -> Seen
-        requires { ⌜ index ≤ lastIndex ⌝ }
         ensures { λ r. ⌜ Told (writeData self increment index (now (bytes .entry))) self r ⌝ }
     {
-        if passes(increment, index, bytes) {
+        let mut registers = self.registers;
+        if store(&mut registers, increment, index, bytes) {
             self.refused(refusal::PAST_LAST_REGISTER)
         } else {
-            let mut registers = self.registers;
-            store(&mut registers, increment, index, bytes);
-            let end = left(increment, index, bytes);
-            accepted(registers, end, increment)
+            accepted(registers, left(increment, index, bytes), increment)
         }
     }
 
@@ -115,7 +115,6 @@ impl Sensor {
 
     // A read's data.
     fn read_data(self, bytes: &[u8]) -> Seen
-        requires { ⌜ self .index ≤ lastIndex ⌝ }
         ensures { λ r. ⌜ Told (readData self (now (bytes .entry))) self r ⌝ }
     {
         let registers = self.registers;
@@ -129,8 +128,7 @@ impl Sensor {
         if past {
             return self.refused(refusal::PAST_LAST_REGISTER);
         }
-        let end = left(increment, index, bytes);
-        accepted(registers, end, increment)
+        accepted(registers, left(increment, index, bytes), increment)
     }
 
     // The same state, and a refusal.
@@ -169,99 +167,4 @@ fn index_byte(increment: bool, index: u8) -> u8
         return INCREMENT + index;
     }
     index
-}
-
-// Whether a byte of the data would stand past the last index.
-fn passes(increment: bool, index: u8, bytes: &[u8]) -> bool
-    requires { ⌜ index ≤ lastIndex ⌝ }
-    ensures { λ r. ⌜ r ≡ passes increment index (now (bytes .entry)) ⌝ }
-{
-    if increment {
-        return ((REGISTERS - index) as usize) < bytes.len();
-    }
-    false
-}
-
-// The index that data leaves which does not pass the last one.
-fn left(increment: bool, index: u8, bytes: &[u8]) -> u8
-    requires { ⌜ (index ≤ lastIndex) × (passes increment index (now bytes) ≡ false) ⌝ }
-    ensures { λ r. ⌜ r ≡ left (reached increment index (now (bytes .entry))) ⌝ }
-{
-    if increment {
-        let end = index + bytes.len() as u8;
-        if LAST_INDEX < end {
-            return 0;
-        }
-        return end;
-    }
-    index
-}
-
-// Stores a write's data.
-fn store(registers: &mut [u8; 128], increment: bool, index: u8, bytes: &[u8])
-    requires { ⌜ passes increment index (now bytes) ≡ false ⌝ }
-    ensures { λ _. ⌜ now (registers .exit) ≡ stored increment index (now (bytes .entry)) (now (registers .entry)) ⌝ }
-{
-    let mut at = index;
-    let mut i: usize = 0;
-    while i < bytes.len() {
-        put(registers, at, bytes[i]);
-        at = next(increment, at);
-        i += 1;
-    }
-}
-
-// Stores one byte, but not in the sensor's own registers.
-fn put(registers: &mut [u8; 128], index: u8, byte: u8)
-    requires { ⌜ index ≤ lastIndex ⌝ }
-    ensures { λ _. ⌜ now (registers .exit) ≡ put (now (registers .entry)) index byte ⌝ }
-{
-    if index < FIRST_SETTABLE {
-        return;
-    }
-    registers[index as usize] = byte;
-}
-
-// The index after a data byte's.
-fn next(increment: bool, index: u8) -> u8
-    requires { ⌜ index ≤ lastIndex ⌝ }
-    ensures { λ r. ⌜ r ≡ next increment index ⌝ }
-{
-    if increment {
-        return index + 1;
-    }
-    index
-}
-
-// Whether a byte of a read's data differs. Nothing past the last index is compared.
-fn some_differs(registers: &[u8; 128], increment: bool, index: u8, bytes: &[u8]) -> bool
-    ensures { λ r. ⌜ r ≡ someDiffers increment index (now (bytes .entry)) (now (registers .entry)) ⌝ }
-{
-    let mut at = index;
-    let mut i: usize = 0;
-    while i < bytes.len() {
-        if LAST_INDEX < at {
-            return false;
-        }
-        if differs(registers, at, bytes[i]) {
-            return true;
-        }
-        at = next(increment, at);
-        i += 1;
-    }
-    false
-}
-
-// Whether a byte differs from its register. The sensor's own registers are not compared.
-fn differs(registers: &[u8; 128], index: u8, byte: u8) -> bool
-    requires { ⌜ index ≤ lastIndex ⌝ }
-    ensures { λ r. ⌜ r ≡ differs (now (registers .entry)) index byte ⌝ }
-{
-    if FIRST_SETTABLE <= index {
-        if registers[index as usize] == byte {
-            return false;
-        }
-        return true;
-    }
-    false
 }

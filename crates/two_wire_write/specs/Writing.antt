@@ -5,7 +5,7 @@ use Prim.Native.Nat.{ℕ}
 use lib.Dec.{eqb, ltb}
 use Rattle.refusal.specs.Refusal.{shortMessage, pastLastRegister}
 use Rattle.lent_buffer.specs.Filled.{Output, require, fitted}
-use Rattle.two_wire.specs.Registers.{lastIndex}
+use Rattle.message_data.specs.Registers.{lastIndex}
 use Rattle.two_wire.specs.Messages.{message}
 
 -- A list of pairs is index, value, index, value, ..

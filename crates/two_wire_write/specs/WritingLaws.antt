@@ -14,7 +14,7 @@ use Rattle.lent_buffer.specs.declared.Filled.the-variants.{Length}
 use Rattle.lent_buffer.specs.Filled.{used, Gives, require}
 use Rattle.lent_buffer.specs.FilledLaws.{fills, fitted-used, passed, used-fitted}
 use Rattle.lent_buffer.specs.StoringLaws.{sets-front}
-use Rattle.two_wire.specs.Registers.{lastIndex}
+use Rattle.message_data.specs.Registers.{lastIndex}
 use Rattle.two_wire.specs.Messages.{message}
 use Rattle.two_wire_write.specs.Writing.{endsWithinPair, someIndexPast, messages, joined, writeOf, inThrees}
 

@@ -6,15 +6,14 @@
 // written: 11 profile, 13 kind, 14 number, 15 length of the body, 16 body or gap byte, 17 more than 255 nulls, 12 room.
 // Cost: linear in what is written.
 ghost use mathlib.Core.Path.{_≡_};
-ghost use mathlib.Core.Bool.{_&&_, not};
 ghost use mathlib.Core.List.{[], _∷_};
 ghost use Prim.Native.Nat.{_+_, _*_, _≤_};
 ghost use lib.ListN.{length, replicate};
 ghost use Rattle.profile.specs.Profile.{nullByte};
-ghost use Rattle.profile.specs.Layout.{rules, fits, gapFits};
 ghost use Rattle.lent_buffer.specs.Filled.{Gives};
 ghost use Rattle.writer.specs.Writer.{around, writeOf};
 ghost use Rattle.writer.specs.Parts.{Room, PutNibbles, markBytes, lineBytes};
+use allowed_bytes::has_bad_byte;
 use lent_buffer::Filled;
 use line_code::Kind;
 use line_code::LineKind;
@@ -66,18 +65,6 @@ pub fn write(
     }
     let end = put_line(k, high, low, body, first, second, count, buffer);
     Filled::Length(end)
-}
-
-// Whether a body byte or a gap byte is not allowed.
-fn has_bad_byte(profile: Profile, kind: Kind, body: &[u8], first: u8, second: u8) -> bool
-    ensures { λ r. ⌜ r ≡ not (fits (rules profile kind) (now (body .entry)) && gapFits profile kind first second) ⌝ }
-{
-    if profile.body_fits(kind, body) {
-        if profile.gap_fits(kind, first, second) {
-            return false;
-        }
-    }
-    true
 }
 
 // The writing. Each function stores the nibbles of some bytes from a place on, and gives the place after them.

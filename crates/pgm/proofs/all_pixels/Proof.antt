@@ -3,7 +3,7 @@ use mathlib.Core.Path.{_≡_, refl, sym, _∙_}
 use Prim.Native.Nat.{_≤_, _-_}
 use borrow.Author.Needs.{needs}
 use lib.ListN.{length, drop}
-use Rattle.pgm.specs.Pgm.{pixels}
+use Rattle.picture_file.specs.PictureFile.{pixels}
 use Rattle.pgm.proofs.Scanning.{pixels-step, pixels-end}
 use Rattle.pgm.proofs.all_pixels.Statement.{statement}
 use Rattle.pgm.proofs.all_pixels.Tie as tie

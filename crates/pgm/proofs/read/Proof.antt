@@ -2,8 +2,8 @@
 use borrow.Author.Needs.{needs}
 use borrow.Rule.Slice.PartAt.{part-to-end}
 use Rattle.lent_buffer.specs.FilledLaws.{refuses}
-use Rattle.pgm.specs.Pgm.{headerLength, either, readOf}
-use Rattle.pgm.specs.PgmLaws.{cut-header}
+use Rattle.picture_file.specs.PictureFile.{headerLength, either, readOf}
+use Rattle.picture_file.specs.PictureFileLaws.{cut-header}
 use Rattle.pgm.proofs.read.Statement.{statement}
 use Rattle.pgm.proofs.read.Tie as tie
 

@@ -7,7 +7,7 @@ use lib.ListN.{length, drop}
 use lib.Seq.{take-length}
 use Rattle.lent_buffer.specs.Filled.{require}
 use Rattle.lent_buffer.specs.FilledLaws.{refuses, fills}
-use Rattle.pgm.specs.Pgm.{size}
+use Rattle.picture_file.specs.PictureFile.{size}
 use borrow.Author.Needs.{needs}
 use Rattle.pgm.proofs.read_as.Statement.{statement}
 use Rattle.pgm.proofs.read_as.Tie as tie

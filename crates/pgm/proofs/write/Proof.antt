@@ -2,8 +2,8 @@
 use mathlib.Core.Path.{sym, _∙_}
 use borrow.Author.Tests.{eq-eqb, ne-eqb}
 use Rattle.lent_buffer.specs.FilledLaws.{refuses}
-use Rattle.pgm.specs.declared.Format.the-variants.{Bordered, Plain}
-use Rattle.pgm.specs.Pgm.{size, either, writeOf}
+use Rattle.picture_file.specs.declared.Format.the-variants.{Bordered, Plain}
+use Rattle.picture_file.specs.PictureFile.{size, either, writeOf}
 use borrow.Author.Needs.{needs}
 use Rattle.pgm.proofs.write.Statement.{statement}
 use Rattle.pgm.proofs.write.Tie as tie

@@ -2,8 +2,8 @@
 use borrow.Author.Tests.{lt-leb, le-leb}
 use Rattle.lent_buffer.specs.Filled.{require}
 use Rattle.lent_buffer.specs.FilledLaws.{refuses, fills}
-use Rattle.pgm.specs.Pgm.{headerLength, imageOf}
-use Rattle.pgm.specs.PgmLaws.{header-length, image-length}
+use Rattle.picture_file.specs.PictureFile.{headerLength, imageOf}
+use Rattle.picture_file.specs.PictureFileLaws.{header-length, image-length}
 use Rattle.pgm.proofs.Copying.{copied}
 use borrow.Author.Needs.{needs}
 use Rattle.pgm.proofs.write_as.Statement.{statement}

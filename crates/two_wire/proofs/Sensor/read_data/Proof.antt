@@ -1,5 +1,5 @@
 -- 27 where a byte differs, then 28 where data passes 127; else the registers stay, and the index left is that behind the data.
-use mathlib.Core.Path.{refl, sym, _∙_}
+use mathlib.Core.Path.{refl}
 use Rattle.two_wire.specs.Messages.{readData, refuseIf}
 use borrow.Author.Needs.{needs}
 use Rattle.two_wire.proofs.Sensor.read_data.Statement.{statement}
@@ -12,9 +12,6 @@ returns c = simp (← c .before .before .before .some-differs .ensures, c .befor
 returns-2 : tie.Need-returns-2
 unfolding readData refuseIf
 returns-2 c = simp (← c .before .before .before .before .some-differs .ensures, c .before .before .if1 .left, ← c .before .before .before .passes .ensures, c .before .if2 .taken) (c .refused2 .ensures)
-
-left-requires : tie.Need-left-requires
-left-requires c κs = (search needs, sym (c .before .before .passes .ensures) ∙ c .if2 .left)
 
 returns-3 : tie.Need-returns-3
 unfolding readData refuseIf
@@ -30,6 +27,6 @@ read-data-spec =
     returns
     (λ c κs. search needs)
     returns-2
-    left-requires
+    (λ c κs. search needs)
     (λ c κs. search needs)
     returns-3)

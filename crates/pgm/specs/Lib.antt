@@ -1,2 +1,0 @@
-pub mod Pgm
-pub mod PgmLaws

@@ -1,0 +1,2 @@
+pub mod PictureFile
+pub mod PictureFileLaws
