@@ -8,19 +8,64 @@ use Rattle.frame.proofs.Judge.line.Tie as tie
 
 returns : tie.Need-returns
 unfolding judgeOf
-returns c = gives-judged _ _ (simp (← c .before .before .before .before .passes .ensures, c .before .before .before .if1 .taken, ← c .before .before .number .ensures, lt-leb _ _ (c .before .if2 .taken), c .refused .ensures))
+returns c =
+    let kind = c .before in
+    let state = kind .before .before in
+    gives-judged _ _
+    (simp (
+      ← state .before .passes .ensures,
+      state .if1 .taken,
+      ← kind .before .number .ensures,
+      lt-leb _ _ (kind .if2 .taken),
+      c .refused .ensures,
+    ))
 
 returns-2 : tie.Need-returns-2
 unfolding judgeOf
-returns-2 c = gives-judged _ _ (simp (← c .before .before .before .before .before .passes .ensures, c .before .before .before .before .if1 .taken, ← c .before .before .before .number .ensures, le-leb _ _ (c .before .before .if2 .left), eq-eqb _ _ (c .before .if3 .taken), c .broken .ensures))
+returns-2 c =
+    let kind = c .before .before in
+    let state = kind .before .before in
+    gives-judged _ _
+    (simp (
+      ← state .before .passes .ensures,
+      state .if1 .taken,
+      ← kind .before .number .ensures,
+      le-leb _ _ (kind .if2 .left),
+      eq-eqb _ _ (c .before .if3 .taken),
+      c .broken .ensures,
+    ))
 
 returns-3 : tie.Need-returns-3
 unfolding judgeOf
-returns-3 c = gives-judged _ _ (simp (← c .before .before .before .before .before .before .passes .ensures, c .before .before .before .before .before .if1 .taken, ← c .before .before .before .before .number .ensures, le-leb _ _ (c .before .before .before .if2 .left), ne-eqb _ _ (c .before .before .if3 .left), lt-leb _ _ (c .before .if4 .taken), c .refused2 .ensures))
+returns-3 c =
+    let kind = c .before .before .before in
+    let state = kind .before .before in
+    gives-judged _ _
+    (simp (
+      ← state .before .passes .ensures,
+      state .if1 .taken,
+      ← kind .before .number .ensures,
+      le-leb _ _ (kind .if2 .left),
+      ne-eqb _ _ (c .before .before .if3 .left),
+      lt-leb _ _ (c .before .if4 .taken),
+      c .refused2 .ensures,
+    ))
 
 returns-4 : tie.Need-returns-4
 unfolding judgeOf
-returns-4 c = gives-judged _ _ (simp (← c .before .before .before .before .before .before .passes .ensures, c .before .before .before .before .before .if1 .taken, ← c .before .before .before .before .number .ensures, le-leb _ _ (c .before .before .before .if2 .left), ne-eqb _ _ (c .before .before .if3 .left), le-leb _ _ (c .before .if4 .left), c .whole .ensures))
+returns-4 c =
+    let kind = c .before .before .before in
+    let state = kind .before .before in
+    gives-judged _ _
+    (simp (
+      ← state .before .passes .ensures,
+      state .if1 .taken,
+      ← kind .before .number .ensures,
+      le-leb _ _ (kind .if2 .left),
+      ne-eqb _ _ (c .before .before .if3 .left),
+      le-leb _ _ (c .before .if4 .left),
+      c .whole .ensures,
+    ))
 
 returns-5 : tie.Need-returns-5
 unfolding judgeOf
