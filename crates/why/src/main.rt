@@ -42,15 +42,19 @@ fn words() -> Asked {
     while i < count {
         let mut buf = io::buffer();
         let n = os::arg(i, &mut buf);
-        let number = number_in(&buf[..n]);
-        if number == 0 {
-            asked = with(asked, command::meaning(&buf[..n]), i);
-        } else {
-            asked = with_mark(asked, number);
-        }
+        asked = with_word(asked, &buf[..n], i);
         i += 1;
     }
     asked
+}
+
+// With the word at a place more.
+fn with_word(asked: Asked, word: &[u8], i: usize) -> Asked {
+    let number = number_in(word);
+    if number == 0 {
+        return with(asked, command::meaning(word), i);
+    }
+    with_mark(asked, number)
 }
 
 // The number that a word of digits is: 0 for any other word, and for a number that no capture has marks for.
@@ -98,43 +102,25 @@ fn with_sensor(asked: Asked, profile: Profile) -> Asked {
     }
 }
 
-fn with_mark(asked: Asked, mark: u64) -> Asked {
+fn with_mark(mut asked: Asked, mark: u64) -> Asked {
     if asked.mark == 0 {
-        let profile = asked.profile;
-        return Asked {
-            profile,
-            named: asked.named,
-            mark,
-            file: asked.file,
-            understood: asked.understood,
-        };
+        asked.mark = mark;
+        return asked;
     }
     not_understood(asked)
 }
 
-fn with_file(asked: Asked, i: usize) -> Asked {
+fn with_file(mut asked: Asked, i: usize) -> Asked {
     if asked.file == 0 {
-        let profile = asked.profile;
-        return Asked {
-            profile,
-            named: asked.named,
-            mark: asked.mark,
-            file: i,
-            understood: asked.understood,
-        };
+        asked.file = i;
+        return asked;
     }
     not_understood(asked)
 }
 
-fn not_understood(asked: Asked) -> Asked {
-    let profile = asked.profile;
-    Asked {
-        profile,
-        named: asked.named,
-        mark: asked.mark,
-        file: asked.file,
-        understood: false,
-    }
+fn not_understood(mut asked: Asked) -> Asked {
+    asked.understood = false;
+    asked
 }
 
 fn seek_asked(asked: Asked) {
