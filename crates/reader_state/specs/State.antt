@@ -19,6 +19,7 @@ use Rattle.stream.specs.Stream.{beforeBy}
 use Rattle.reader_head.specs.declared.Head.{Head}
 use Rattle.reader.specs.declared.Reader.{Reader}
 use Rattle.reader_head.specs.Head.{passes}
+use Rattle.reader.specs.Reader.{freshReader}
 
 -- the bytes of all but the body, and of a whole state
 abbrev pub headLength : ℕ
@@ -90,6 +91,10 @@ headIn s =
       window = numberOf (getD s 7 0) (getD s 8 0) (getD s 9 0) (getD s 10 0);
       kept = record { first = getD s 11 0; second = getD s 12 0; stray = eqb (getD s 13 0) 1 };
     }
+
+-- the head that bytes hold; a fresh reader's where they are too few for a state
+unfoldable pub heldHead : List ℕ → Head
+heldHead s = cond (leb stateLength (length s)) (headIn s) (freshReader VV5404 .head)
 
 abbrev pub bodyIn : List ℕ → List ℕ
 bodyIn s = take longest (drop headLength s)

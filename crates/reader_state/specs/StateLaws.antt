@@ -23,11 +23,15 @@ use Rattle.stream.specs.declared.Mark.the-variants.{NoMark, Open}
 use Rattle.reader_head.specs.declared.Head.{Head}
 use Rattle.reader.specs.declared.Reader.{Reader}
 use Rattle.reader_head.specs.Head.{passes}
-use Rattle.reader_state.specs.State.{stateLength, noMark, beforeNumber, beforeNumbered, greatestMark, markNumber, codeOf, headBytes, stored, profileOf, markNumbered, numberOf, headIn, readerIn, tagged, holdsReader}
+use Rattle.reader_state.specs.State.{stateLength, noMark, beforeNumber, beforeNumbered, greatestMark, markNumber, codeOf, headBytes, stored, profileOf, markNumbered, numberOf, headIn, heldHead, readerIn, tagged, holdsReader}
 
 pub holds-length : (s : List ℕ) → holdsReader s ≡ true → stateLength ≤ length s
 unfolding holdsReader
 holds-length s h = leb-true stateLength (length s) (and-left _ _ h)
+
+pub held-head : (s : List ℕ) → stateLength ≤ length s → heldHead s ≡ headIn s
+unfolding heldHead
+held-head s room = simp (le-leb stateLength (length s) room)
 
 -- Each part is read back.
 

@@ -3,14 +3,13 @@
 // In: bytes of any number; or a reader's head. Out: whether the bytes hold a reader that passes its own test, and the head that they hold; or the
 // head's bytes, which come first in a state, before the body. Their layout is specs/State.antt. Nothing is refused. Cost: constant.
 ghost use mathlib.Core.Path.{_≡_};
-ghost use Prim.Native.Nat.{_+_, _≤_};
-ghost use lib.ListN.{getD};
 ghost use Rattle.profile.specs.Profile.{profileNumber};
-ghost use Rattle.reader_state.specs.State.{markNumber, codeOf, markNumbered, profileOf, numberOf, headBytes, headIn, tagged, holdsReader};
+ghost use Rattle.reader_state.specs.State.{markNumber, codeOf, markNumbered, profileOf, numberOf, headBytes, heldHead, tagged, holdsReader};
 use lent_call::bit;
 use line_code::Kind;
 use mark_text::Kept;
 use profile::Profile;
+use reader::Reader;
 use reader_head::Head;
 use stream::Before;
 use stream::Mark;
@@ -52,18 +51,23 @@ pub fn is_tagged(profile: u8, mark: u8, stray: u8) -> bool
     stray <= 1
 }
 
-// The head that bytes hold, whatever they are; a byte that is not there counts as 0.
+// The head that bytes hold; a fresh reader's where they are too few for a state.
 pub fn head_in(state: &[u8]) -> Head
-    ensures { λ r. ⌜ r ≡ headIn (now (state .entry)) ⌝ }
+    ensures { λ r. ⌜ r ≡ heldHead (now (state .entry)) ⌝ }
 {
-    let profile = profile_of(byte_at(state, 0));
-    let at = mark_numbered(byte_at(state, 1), byte_at(state, 2));
-    let count = number_at(state, 3);
-    let window = number_at(state, 7);
+    if state.len() < LENGTH {
+        let fresh = Reader::fresh(Profile::VV5404);
+        let head = fresh.head;
+        return head;
+    }
+    let profile = profile_of(state[0]);
+    let at = mark_numbered(state[1], state[2]);
+    let count = number_of(state[3], state[4], state[5], state[6]);
+    let window = number_of(state[7], state[8], state[9], state[10]);
     let kept = Kept {
-        first: byte_at(state, 11),
-        second: byte_at(state, 12),
-        stray: byte_at(state, 13) == 1,
+        first: state[11],
+        second: state[12],
+        stray: state[13] == 1,
     };
     Head {
         profile,
@@ -72,28 +76,6 @@ pub fn head_in(state: &[u8]) -> Head
         window,
         kept,
     }
-}
-
-// The byte at a place, 0 past the end.
-fn byte_at(state: &[u8], i: usize) -> u8
-    ensures { λ r. ⌜ r ≡ getD (now (state .entry)) i 0 ⌝ }
-{
-    if i < state.len() {
-        return state[i];
-    }
-    0
-}
-
-// The number whose four bytes start at a place, the highest first.
-fn number_at(state: &[u8], i: usize) -> u32
-    requires { ⌜ i ≤ 7 ⌝ }
-    ensures { λ r. ⌜ r ≡ numberOf (getD (now (state .entry)) i 0) (getD (now (state .entry)) (i + 1) 0) (getD (now (state .entry)) (i + 2) 0) (getD (now (state .entry)) (i + 3) 0) ⌝ }
-{
-    let a = byte_at(state, i);
-    let b = byte_at(state, i + 1);
-    let c = byte_at(state, i + 2);
-    let d = byte_at(state, i + 3);
-    number_of(a, b, c, d)
 }
 
 fn profile_of(n: u8) -> Profile

@@ -12,42 +12,44 @@ use Rattle.signal.specs.declared.Spacing.{Spacing}
 unfoldable pub countLine : List ℕ → ℕ → List ℕ → List ℕ
 countLine before n after = cond (eqb n 0) [] (before ++ (decimal n ++ after))
 
+-- a line with a count of what has a number: `refused: 4 x 12, wrong length`, `repaired: bit 0 x 3`
+unfoldable pub numberedLine : List ℕ → ℕ → ℕ → List ℕ → List ℕ
+numberedLine before number n after = cond (eqb n 0) [] (before ++ (decimal number ++ (ascii " x " ++ (decimal n ++ after))))
+
 -- refused marks, by number: by their codes, lines, and ends of lines
+unfoldable pub refusedCount : ℕ → ℕ → List ℕ → List ℕ
+refusedCount number n after = numberedLine (ascii "refused: ") number n after
+
 unfoldable pub refusedCodes : List ℕ → List ℕ
 refusedCodes counts =
-    countLine (ascii "refused: 1 x ") (getD counts 1 0) (ascii ", damaged code\n")
-    ++ countLine (ascii "refused: 2 x ") (getD counts 2 0) (ascii ", reserved code\n")
+    refusedCount 1 (getD counts 1 0) (ascii ", damaged code\n")
+    ++ refusedCount 2 (getD counts 2 0) (ascii ", reserved code\n")
 
 unfoldable pub brokenLines : List ℕ → List ℕ
 brokenLines counts =
-    countLine (ascii "refused: 3 x ") (getD counts 3 0) (ascii ", unfinished line\n")
-    ++ (countLine (ascii "refused: 4 x ") (getD counts 4 0) (ascii ", wrong length\n")
-    ++ (countLine (ascii "refused: 5 x ") (getD counts 5 0) (ascii ", bad number\n")
-    ++ (countLine (ascii "refused: 6 x ") (getD counts 6 0) (ascii ", bad byte in the body\n")
-    ++ countLine (ascii "refused: 7 x ") (getD counts 7 0) (ascii ", no end of line\n"))))
+    refusedCount 3 (getD counts 3 0) (ascii ", unfinished line\n")
+    ++ (refusedCount 4 (getD counts 4 0) (ascii ", wrong length\n")
+    ++ (refusedCount 5 (getD counts 5 0) (ascii ", bad number\n")
+    ++ (refusedCount 6 (getD counts 6 0) (ascii ", bad byte in the body\n")
+    ++ refusedCount 7 (getD counts 7 0) (ascii ", no end of line\n"))))
 
 unfoldable pub refusedEnds : List ℕ → List ℕ
 refusedEnds counts =
-    countLine (ascii "refused: 8 x ") (getD counts 8 0) (ascii ", end of line without a line\n")
-    ++ countLine (ascii "refused: 9 x ") (getD counts 9 0) (ascii ", bad gap\n")
+    refusedCount 8 (getD counts 8 0) (ascii ", end of line without a line\n")
+    ++ refusedCount 9 (getD counts 9 0) (ascii ", bad gap\n")
 
 unfoldable pub refusedLines : List ℕ → List ℕ
 refusedLines counts = refusedCodes counts ++ (brokenLines counts ++ refusedEnds counts)
 
 -- repaired codes, by bit
+unfoldable pub bitLine : ℕ → ℕ → List ℕ
+bitLine bit n = numberedLine (ascii "repaired: bit ") bit n (ascii "\n")
+
 unfoldable pub lowBits : List ℕ → List ℕ
-lowBits counts =
-    countLine (ascii "repaired: bit 0 x ") (getD counts 0 0) (ascii "\n")
-    ++ (countLine (ascii "repaired: bit 1 x ") (getD counts 1 0) (ascii "\n")
-    ++ (countLine (ascii "repaired: bit 2 x ") (getD counts 2 0) (ascii "\n")
-    ++ countLine (ascii "repaired: bit 3 x ") (getD counts 3 0) (ascii "\n")))
+lowBits counts = bitLine 0 (getD counts 0 0) ++ (bitLine 1 (getD counts 1 0) ++ (bitLine 2 (getD counts 2 0) ++ bitLine 3 (getD counts 3 0)))
 
 unfoldable pub highBits : List ℕ → List ℕ
-highBits counts =
-    countLine (ascii "repaired: bit 4 x ") (getD counts 4 0) (ascii "\n")
-    ++ (countLine (ascii "repaired: bit 5 x ") (getD counts 5 0) (ascii "\n")
-    ++ (countLine (ascii "repaired: bit 6 x ") (getD counts 6 0) (ascii "\n")
-    ++ countLine (ascii "repaired: bit 7 x ") (getD counts 7 0) (ascii "\n")))
+highBits counts = bitLine 4 (getD counts 4 0) ++ (bitLine 5 (getD counts 5 0) ++ (bitLine 6 (getD counts 6 0) ++ bitLine 7 (getD counts 7 0)))
 
 unfoldable pub repairedLines : List ℕ → List ℕ
 repairedLines counts = lowBits counts ++ highBits counts

@@ -1,4 +1,5 @@
 -- How long the lines on a signal can be.
+use mathlib.Core.Path.{_≡_, refl}
 use mathlib.Core.Bool.{Bool, true, false, cond}
 use mathlib.Core.List.{List, [], _++_}
 use Prim.Native.Nat.{ℕ, _+_, _≤_}
@@ -9,7 +10,7 @@ use Rattle.text.specs.Text.{ascii, decimal}
 use Rattle.text.specs.TextLaws.{decimal-short}
 use Rattle.signal.specs.declared.Signal.{Signal}
 use Rattle.signal.specs.declared.Spacing.{Spacing}
-use Rattle.signal_report.specs.SignalReport.{countLine, refusedCodes, brokenLines, refusedEnds, refusedLines, lowBits, highBits, repairedLines, rangeWords, othersLine, linesNoun, periodLine, periodLines, signalLines}
+use Rattle.signal_report.specs.SignalReport.{countLine, numberedLine, refusedCount, refusedCodes, brokenLines, refusedEnds, refusedLines, bitLine, lowBits, highBits, repairedLines, rangeWords, othersLine, linesNoun, periodLine, periodLines, signalLines}
 
 -- a line with a count: its words and at most 20 digits
 pub count-short : (before : List ℕ) (n : ℕ) (after : List ℕ) → length (countLine before n after) ≤ length before + 20 + length after
@@ -20,37 +21,47 @@ count-short before n after = either (eqb n 0)
     either true = omega arith
     either false = simp length-append (omega (arith, decimal-short n))
 
+-- a line with a number of one digit
+numbered-short : (before : List ℕ) (k n : ℕ) (after : List ℕ) → length (decimal k) ≡ 1
+    → length (numberedLine before k n after) ≤ length before + 24 + length after
+unfolding numberedLine
+numbered-short before k n after digit = either (eqb n 0)
+  where
+    either : (b : Bool) → length (cond b [] (before ++ (decimal k ++ (ascii " x " ++ (decimal n ++ after))))) ≤ length before + 24 + length after
+    either true = omega arith
+    either false = simp length-append (omega (arith, decimal-short n, digit))
+
 refused-short : (c : List ℕ) → length (refusedLines c) ≤ 510
-unfolding refusedLines refusedCodes brokenLines refusedEnds
+unfolding refusedLines refusedCodes brokenLines refusedEnds refusedCount decimal
 refused-short c =
     simp length-append
     (omega (
       arith,
-      count-short (ascii "refused: 1 x ") (getD c 1 0) (ascii ", damaged code\n"),
-      count-short (ascii "refused: 2 x ") (getD c 2 0) (ascii ", reserved code\n"),
-      count-short (ascii "refused: 3 x ") (getD c 3 0) (ascii ", unfinished line\n"),
-      count-short (ascii "refused: 4 x ") (getD c 4 0) (ascii ", wrong length\n"),
-      count-short (ascii "refused: 5 x ") (getD c 5 0) (ascii ", bad number\n"),
-      count-short (ascii "refused: 6 x ") (getD c 6 0) (ascii ", bad byte in the body\n"),
-      count-short (ascii "refused: 7 x ") (getD c 7 0) (ascii ", no end of line\n"),
-      count-short (ascii "refused: 8 x ") (getD c 8 0) (ascii ", end of line without a line\n"),
-      count-short (ascii "refused: 9 x ") (getD c 9 0) (ascii ", bad gap\n"),
+      numbered-short (ascii "refused: ") 1 (getD c 1 0) (ascii ", damaged code\n") refl,
+      numbered-short (ascii "refused: ") 2 (getD c 2 0) (ascii ", reserved code\n") refl,
+      numbered-short (ascii "refused: ") 3 (getD c 3 0) (ascii ", unfinished line\n") refl,
+      numbered-short (ascii "refused: ") 4 (getD c 4 0) (ascii ", wrong length\n") refl,
+      numbered-short (ascii "refused: ") 5 (getD c 5 0) (ascii ", bad number\n") refl,
+      numbered-short (ascii "refused: ") 6 (getD c 6 0) (ascii ", bad byte in the body\n") refl,
+      numbered-short (ascii "refused: ") 7 (getD c 7 0) (ascii ", no end of line\n") refl,
+      numbered-short (ascii "refused: ") 8 (getD c 8 0) (ascii ", end of line without a line\n") refl,
+      numbered-short (ascii "refused: ") 9 (getD c 9 0) (ascii ", bad gap\n") refl,
     ))
 
 repaired-short : (c : List ℕ) → length (repairedLines c) ≤ 320
-unfolding repairedLines lowBits highBits
+unfolding repairedLines lowBits highBits bitLine decimal
 repaired-short c =
     simp length-append
     (omega (
       arith,
-      count-short (ascii "repaired: bit 0 x ") (getD c 0 0) (ascii "\n"),
-      count-short (ascii "repaired: bit 1 x ") (getD c 1 0) (ascii "\n"),
-      count-short (ascii "repaired: bit 2 x ") (getD c 2 0) (ascii "\n"),
-      count-short (ascii "repaired: bit 3 x ") (getD c 3 0) (ascii "\n"),
-      count-short (ascii "repaired: bit 4 x ") (getD c 4 0) (ascii "\n"),
-      count-short (ascii "repaired: bit 5 x ") (getD c 5 0) (ascii "\n"),
-      count-short (ascii "repaired: bit 6 x ") (getD c 6 0) (ascii "\n"),
-      count-short (ascii "repaired: bit 7 x ") (getD c 7 0) (ascii "\n"),
+      numbered-short (ascii "repaired: bit ") 0 (getD c 0 0) (ascii "\n") refl,
+      numbered-short (ascii "repaired: bit ") 1 (getD c 1 0) (ascii "\n") refl,
+      numbered-short (ascii "repaired: bit ") 2 (getD c 2 0) (ascii "\n") refl,
+      numbered-short (ascii "repaired: bit ") 3 (getD c 3 0) (ascii "\n") refl,
+      numbered-short (ascii "repaired: bit ") 4 (getD c 4 0) (ascii "\n") refl,
+      numbered-short (ascii "repaired: bit ") 5 (getD c 5 0) (ascii "\n") refl,
+      numbered-short (ascii "repaired: bit ") 6 (getD c 6 0) (ascii "\n") refl,
+      numbered-short (ascii "repaired: bit ") 7 (getD c 7 0) (ascii "\n") refl,
     ))
 
 others-short : (s : Spacing) → length (othersLine s) ≤ 100

@@ -3,7 +3,7 @@
 // In: the signal's counts, a lent buffer and a place in it. Out: the lines there, and the place after them. A count that is 0 has no line. Nothing is
 // refused: where the buffer ends before the lines do, the rest is left out. Cost: linear in the lines.
 ghost use Rattle.text.specs.Put.{Puts};
-ghost use Rattle.signal_report.specs.SignalReport.{countLine, refusedCodes, brokenLines, refusedEnds, refusedLines, lowBits, highBits, repairedLines, rangeWords, linesNoun, periodLine, periodLines, signalLines};
+ghost use Rattle.signal_report.specs.SignalReport.{countLine, numberedLine, refusedCount, refusedCodes, brokenLines, refusedEnds, refusedLines, bitLine, lowBits, highBits, repairedLines, rangeWords, linesNoun, periodLine, periodLines, signalLines};
 use signal::Signal;
 use signal::Spacing;
 use text::put;
@@ -44,45 +44,54 @@ fn put_refused_codes(signal: Signal, out: &mut [u8], at: usize) -> usize
     ensures { λ r. ⌜ Puts (now (out .entry)) at (refusedCodes (signal .refused)) r (now (out .exit)) ⌝ }
 {
     let refused = signal.refused;
-    let at = put_count(b"refused: 1 x ", refused[1], b", damaged code\n", out, at);
-    put_count(b"refused: 2 x ", refused[2], b", reserved code\n", out, at)
+    let at = put_refused_count(1, refused[1], b", damaged code\n", out, at);
+    put_refused_count(2, refused[2], b", reserved code\n", out, at)
 }
 
 fn put_broken_lines(signal: Signal, out: &mut [u8], at: usize) -> usize
     ensures { λ r. ⌜ Puts (now (out .entry)) at (brokenLines (signal .refused)) r (now (out .exit)) ⌝ }
 {
     let refused = signal.refused;
-    let at = put_count(
-        b"refused: 3 x ",
-        refused[3],
-        b", unfinished line\n",
-        out,
-        at,
-    );
-    let at = put_count(b"refused: 4 x ", refused[4], b", wrong length\n", out, at);
-    let at = put_count(b"refused: 5 x ", refused[5], b", bad number\n", out, at);
-    let at = put_count(
-        b"refused: 6 x ",
-        refused[6],
-        b", bad byte in the body\n",
-        out,
-        at,
-    );
-    put_count(b"refused: 7 x ", refused[7], b", no end of line\n", out, at)
+    let at = put_refused_count(3, refused[3], b", unfinished line\n", out, at);
+    let at = put_refused_count(4, refused[4], b", wrong length\n", out, at);
+    let at = put_refused_count(5, refused[5], b", bad number\n", out, at);
+    let at = put_refused_count(6, refused[6], b", bad byte in the body\n", out, at);
+    put_refused_count(7, refused[7], b", no end of line\n", out, at)
 }
 
 fn put_refused_ends(signal: Signal, out: &mut [u8], at: usize) -> usize
     ensures { λ r. ⌜ Puts (now (out .entry)) at (refusedEnds (signal .refused)) r (now (out .exit)) ⌝ }
 {
     let refused = signal.refused;
-    let at = put_count(
-        b"refused: 8 x ",
-        refused[8],
-        b", end of line without a line\n",
-        out,
-        at,
-    );
-    put_count(b"refused: 9 x ", refused[9], b", bad gap\n", out, at)
+    let at = put_refused_count(8, refused[8], b", end of line without a line\n", out, at);
+    put_refused_count(9, refused[9], b", bad gap\n", out, at)
+}
+
+fn put_refused_count(number: u64, count: u64, after: &[u8], out: &mut [u8], at: usize) -> usize
+    ensures { λ r. ⌜ Puts (now (out .entry)) at (refusedCount number count (now (after .entry))) r (now (out .exit)) ⌝ }
+{
+    put_numbered(b"refused: ", number, count, after, out, at)
+}
+
+// Puts a line with a count of what has a number, where that count is not 0.
+fn put_numbered(
+    before: &[u8],
+    number: u64,
+    count: u64,
+    after: &[u8],
+    out: &mut [u8],
+    at: usize,
+) -> usize
+    ensures { λ r. ⌜ Puts (now (out .entry)) at (numberedLine (now (before .entry)) number count (now (after .entry))) r (now (out .exit)) ⌝ }
+{
+    if count == 0 {
+        return at;
+    }
+    let at = put(before, out, at);
+    let at = put_decimal(number, out, at);
+    let at = put(b" x ", out, at);
+    let at = put_decimal(count, out, at);
+    put(after, out, at)
 }
 
 // Repaired codes, by bit: the depot's tally of bad wires.
@@ -97,20 +106,26 @@ fn put_low_bits(signal: Signal, out: &mut [u8], at: usize) -> usize
     ensures { λ r. ⌜ Puts (now (out .entry)) at (lowBits (signal .repaired)) r (now (out .exit)) ⌝ }
 {
     let repaired = signal.repaired;
-    let at = put_count(b"repaired: bit 0 x ", repaired[0], b"\n", out, at);
-    let at = put_count(b"repaired: bit 1 x ", repaired[1], b"\n", out, at);
-    let at = put_count(b"repaired: bit 2 x ", repaired[2], b"\n", out, at);
-    put_count(b"repaired: bit 3 x ", repaired[3], b"\n", out, at)
+    let at = put_bit(0, repaired[0], out, at);
+    let at = put_bit(1, repaired[1], out, at);
+    let at = put_bit(2, repaired[2], out, at);
+    put_bit(3, repaired[3], out, at)
 }
 
 fn put_high_bits(signal: Signal, out: &mut [u8], at: usize) -> usize
     ensures { λ r. ⌜ Puts (now (out .entry)) at (highBits (signal .repaired)) r (now (out .exit)) ⌝ }
 {
     let repaired = signal.repaired;
-    let at = put_count(b"repaired: bit 4 x ", repaired[4], b"\n", out, at);
-    let at = put_count(b"repaired: bit 5 x ", repaired[5], b"\n", out, at);
-    let at = put_count(b"repaired: bit 6 x ", repaired[6], b"\n", out, at);
-    put_count(b"repaired: bit 7 x ", repaired[7], b"\n", out, at)
+    let at = put_bit(4, repaired[4], out, at);
+    let at = put_bit(5, repaired[5], out, at);
+    let at = put_bit(6, repaired[6], out, at);
+    put_bit(7, repaired[7], out, at)
+}
+
+fn put_bit(bit: u64, count: u64, out: &mut [u8], at: usize) -> usize
+    ensures { λ r. ⌜ Puts (now (out .entry)) at (bitLine bit count) r (now (out .exit)) ⌝ }
+{
+    put_numbered(b"repaired: bit ", bit, count, b"\n", out, at)
 }
 
 // The periods of the lines: a drifting clock shows in the last line.

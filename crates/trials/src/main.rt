@@ -1,6 +1,11 @@
 // Captures that are made and judged: those that misled before, and their like. Each is written as lines by our own writer, both sensors',
-// with one kind of damage; what `frames` says of it is in stdout, below its title.
+// with one kind of damage. They are lines of standard input: the file stdin says how to read them. What `frames` says of each is in stdout,
+// below its title.
+ghost use mathlib.Core.Path.{_≡_};
+ghost use Prim.Native.Nat.{_≤_};
+ghost use lib.ListN.{length};
 use lent_buffer::Filled;
+use libc::STDIN_FILENO;
 use libc::STDOUT_FILENO;
 use line_code::Kind;
 use list_frames::FrameLister;
@@ -9,148 +14,166 @@ use profile::Profile;
 // The bytes of the largest capture: ten frames of a VV5300.
 const MOST: usize = 320000;
 
-// What happens to a line on its way: nothing; two bits of its start code flip; a nibble of its gap is another; a nibble of its body is missing.
-enum Damage {
-    Nothing,
-    Start,
-    Gap,
-    Slip,
+// Lines of a frame from one place on, up to another: the sensor, whether borders are on, and what happens to each line on its way: two bits of
+// the nibble at a place flip, none where that is 0, and the nibbles from one place on, up to another, are missing.
+struct Lines {
+    profile: Profile,
+    on: bool,
+    from: usize,
+    to: usize,
+    flipped: usize,
+    out: usize,
+    back: usize,
 }
 
 fn main() {
-    let mut bytes = [0u8; MOST];
-    clean_vv5404(&mut bytes);
-    clean_vv5300(&mut bytes);
-    no_signal(&mut bytes);
-    damaged_starts(&mut bytes);
-    bad_gaps(&mut bytes);
-    lost_signal(&mut bytes);
-    cut_frames(&mut bytes);
-    slipped_clip(&mut bytes);
-    other_sensor(&mut bytes);
-    short_captures(&mut bytes);
+    let mut script = io::buffer();
+    let n = io::read_full(STDIN_FILENO, &mut script);
+    run(&script[..n]);
 }
 
-fn clean_vv5404(bytes: &mut [u8]) {
-    let n = put_lines(Profile::VV5404, true, 0, 304, bytes, 0);
-    judge(b"VV5404, one frame, borders on", Profile::VV5404, bytes, n);
-    let n = put_lines(Profile::VV5404, false, 0, 304, bytes, 0);
-    judge(b"VV5404, one frame, borders off", Profile::VV5404, bytes, n);
+fn run(script: &[u8]) {
+    let mut bytes = room();
+    follow(script, &mut bytes);
 }
 
-fn clean_vv5300(bytes: &mut [u8]) {
-    let n = put_lines(Profile::VV5300, true, 0, 147, bytes, 0);
-    judge(b"VV5300, one frame, borders on", Profile::VV5300, bytes, n);
-    let n = put_lines(Profile::VV5300, false, 0, 147, bytes, 0);
-    judge(b"VV5300, one frame, borders off", Profile::VV5300, bytes, n);
+// Room for any capture.
+fn room() -> [u8; MOST]
+    ensures { λ r. ⌜ 320000 ≡ length r ⌝ }
+{
+    [0; MOST]
 }
 
-fn no_signal(bytes: &mut [u8]) {
-    judge(b"an empty capture", Profile::VV5404, bytes, 0);
-    let n = put_zeros(5000, bytes, 0);
-    judge(b"zeros", Profile::VV5300, bytes, n);
-}
-
-fn damaged_starts(bytes: &mut [u8]) {
-    let mut at = put_lines(Profile::VV5300, true, 0, 147, bytes, 0);
-    let mut i: u16 = 0;
-    while i < 9 {
-        at = put_line(Profile::VV5300, true, 0, Damage::Start, bytes, at);
-        at = put_lines(Profile::VV5300, true, 1, 147, bytes, at);
-        i += 1;
-    }
-    judge(
-        b"a frame, then nine whose start is damaged",
-        Profile::VV5300,
-        bytes,
-        at,
-    );
-}
-
-fn bad_gaps(bytes: &mut [u8]) {
+// Each line of a script.
+fn follow(script: &[u8], bytes: &mut [u8]) {
     let mut at: usize = 0;
-    let mut i: u16 = 0;
-    while i < 304 {
-        at = put_line(Profile::VV5404, true, i, Damage::Gap, bytes, at);
+    let mut start: usize = 0;
+    while start < script.len() {
+        let end = line_end(script, start);
+        at = step(&script[start..end], bytes, at);
+        if end == script.len() {
+            return;
+        }
+        start = end + 1;
+    }
+}
+
+// The place of the first end of a line from a place on, or the text's end.
+fn line_end(text: &[u8], from: usize) -> usize
+    requires { ⌜ from ≤ length (now text) ⌝ }
+    ensures { λ r. ⌜ (from ≤ r) × (r ≤ length (now (text .entry))) ⌝ }
+{
+    let mut i = from;
+    while i < text.len() {
+        if text[i] == b'\n' {
+            return i;
+        }
         i += 1;
     }
-    judge(
-        b"a frame, all of whose gaps are refused",
-        Profile::VV5404,
-        bytes,
-        at,
-    );
+    i
 }
 
-fn lost_signal(bytes: &mut [u8]) {
-    let at = put_lines(Profile::VV5404, true, 0, 304, bytes, 0);
-    let n = put_zeros(100000, bytes, at);
-    judge(b"a frame, then zeros", Profile::VV5404, bytes, n);
-}
-
-fn cut_frames(bytes: &mut [u8]) {
-    let at = put_part(Profile::VV5300, 40, 101, bytes, 0);
-    let at = put_lines(Profile::VV5300, true, 41, 147, bytes, at);
-    let at = put_lines(Profile::VV5300, true, 0, 147, bytes, at);
-    let at = put_lines(Profile::VV5300, true, 0, 25, bytes, at);
-    judge(
-        b"cut within a line and within a frame",
-        Profile::VV5300,
-        bytes,
-        at,
-    );
-}
-
-fn slipped_clip(bytes: &mut [u8]) {
-    let at = put_lines(Profile::VV5300, true, 0, 147, bytes, 0);
-    let at = put_lines(Profile::VV5300, true, 0, 47, bytes, at);
-    let at = put_line(Profile::VV5300, true, 47, Damage::Slip, bytes, at);
-    let at = put_lines(Profile::VV5300, true, 48, 147, bytes, at);
-    let at = put_lines(Profile::VV5300, true, 0, 147, bytes, at);
-    judge(
-        b"a nibble missing in line 47 of the second frame of three",
-        Profile::VV5300,
-        bytes,
-        at,
-    );
-}
-
-fn other_sensor(bytes: &mut [u8]) {
-    let n = put_lines(Profile::VV5300, true, 0, 147, bytes, 0);
-    judge(b"a VV5300 taken for a VV5404", Profile::VV5404, bytes, n);
-    let n = put_lines(Profile::VV5404, true, 1, 304, bytes, 0);
-    judge(b"a frame without its start", Profile::VV5404, bytes, n);
-}
-
-fn short_captures(bytes: &mut [u8]) {
-    let n = put_lines(Profile::VV5404, true, 0, 2, bytes, 0);
-    judge(b"two lines", Profile::VV5404, bytes, n);
-    let at = put_lines(Profile::VV5300, true, 40, 147, bytes, 0);
-    let n = put_lines(Profile::VV5300, true, 0, 100, bytes, at);
-    judge(
-        b"the end of a frame and the start of the next",
-        Profile::VV5300,
-        bytes,
-        n,
-    );
-}
-
-// Judges the first nibbles of some bytes, and writes the report below a title.
-fn judge(title: &[u8], profile: Profile, bytes: &[u8], nibbles: usize) {
-    say(b"# ");
-    say(title);
-    say(b"\n");
-    let length = nibbles / 2;
-    if bytes.len() < length {
-        return;
+// A line of the script, by its first letter: the place of the capture's next nibble after it. Any other line is passed over.
+fn step(line: &[u8], bytes: &mut [u8], at: usize) -> usize {
+    if line.len() == 0 {
+        return at;
     }
+    match line[0] {
+        b'#' => titled(line),
+        b'l' => put_lines(lines_in(line), bytes, at),
+        b'z' => put_zeros(number_at(line, 1), bytes, at),
+        b'j' => judged(sensor(number_at(line, 1)), bytes, at),
+        _ => at,
+    }
+}
+
+// A title is written; the next capture begins.
+fn titled(line: &[u8]) -> usize {
+    say(line);
+    say(b"\n");
+    0
+}
+
+fn lines_in(line: &[u8]) -> Lines {
+    let profile = sensor(number_at(line, 1));
+    Lines {
+        profile,
+        on: number_at(line, 2) == 1,
+        from: number_at(line, 3),
+        to: number_at(line, 4),
+        flipped: number_at(line, 5),
+        out: number_at(line, 6),
+        back: number_at(line, 7),
+    }
+}
+
+fn sensor(number: usize) -> Profile {
+    if number == 0 {
+        return Profile::VV5404;
+    }
+    Profile::VV5300
+}
+
+// The number that is a line's word with this number, the first being 0; where there is none, 0.
+fn number_at(line: &[u8], word: usize) -> usize {
+    let mut n: usize = 0;
+    let mut words: usize = 0;
+    let mut i: usize = 0;
+    while i < line.len() {
+        if words == word {
+            n = with_digit(n, line[i]);
+        }
+        words += ends_word(line[i]);
+        i += 1;
+    }
+    n
+}
+
+// 1 where a sign ends a word.
+fn ends_word(sign: u8) -> usize
+    ensures { λ r. ⌜ r ≤ 1 ⌝ }
+{
+    if sign == b' ' {
+        return 1;
+    }
+    0
+}
+
+// A number with one digit more; another sign, and what makes the number too large, is passed over.
+fn with_digit(n: usize, sign: u8) -> usize {
+    if sign < b'0' {
+        return n;
+    }
+    if b'9' < sign {
+        return n;
+    }
+    if MOST < n {
+        return n;
+    }
+    10 * n + (sign - b'0') as usize
+}
+
+// Judges the first nibbles of some bytes, and writes the report: they stay the capture.
+fn judged(profile: Profile, bytes: &[u8], nibbles: usize) -> usize {
+    let length = nibbles / 2;
+    if length <= bytes.len() {
+        judge(profile, &bytes[..length]);
+    }
+    nibbles
+}
+
+fn judge(profile: Profile, capture: &[u8]) {
     let mut out = io::large_buffer();
+    report(profile, capture, &mut out);
+}
+
+fn report(profile: Profile, capture: &[u8], out: &mut [u8]) {
     let lister = FrameLister::new(profile);
-    let listed = lister.list(&bytes[..length], 0, &mut out);
-    say_front(&out, listed.used);
+    let listed = lister.list(capture, 0, out);
+    say_front(out, listed.used);
     let lister = listed.lister;
-    let last = lister.finish(&mut out);
-    say_front(&out, last.used);
+    let last = lister.finish(out);
+    say_front(out, last.used);
 }
 
 fn say(text: &[u8]) {
@@ -164,80 +187,61 @@ fn say_front(text: &[u8], count: usize) {
     }
 }
 
-// Puts lines of a frame from one place on, up to another, at a nibble's place, and gives the place after them.
-fn put_lines(profile: Profile, on: bool, from: u16, to: u16, bytes: &mut [u8], at: usize) -> usize {
+// Puts lines at a nibble's place, and gives the place after them.
+fn put_lines(lines: Lines, bytes: &mut [u8], at: usize) -> usize {
     let mut next = at;
-    let mut place = from;
-    while place < to {
-        next = put_line(profile, on, place, Damage::Nothing, bytes, next);
+    let mut place = lines.from;
+    while place < lines.to {
+        next = put_line(lines, place, bytes, next);
         place += 1;
     }
     next
 }
 
 // Puts the line at a place of a frame.
-fn put_line(
-    profile: Profile,
-    on: bool,
-    place: u16,
-    damage: Damage,
-    bytes: &mut [u8],
-    at: usize,
-) -> usize {
+fn put_line(lines: Lines, place: usize, bytes: &mut [u8], at: usize) -> usize {
     let mut nibbles = [0u8; 800];
-    let n = write(profile, on, place, &mut nibbles);
-    match damage {
-        Damage::Nothing => put_nibbles(&nibbles, 0, n, bytes, at),
-        Damage::Start => {
-            flip(&mut nibbles, 7);
-            put_nibbles(&nibbles, 0, n, bytes, at)
-        }
-        Damage::Gap => {
-            flip(&mut nibbles, before(n));
-            put_nibbles(&nibbles, 0, n, bytes, at)
-        }
-        Damage::Slip => {
-            let next = put_nibbles(&nibbles, 0, 100, bytes, at);
-            put_nibbles(&nibbles, 101, n, bytes, next)
-        }
-    }
+    let profile = lines.profile;
+    let n = write(profile, lines.on, place, &mut nibbles);
+    flip(&mut nibbles, lines.flipped);
+    let next = put_nibbles(&nibbles, 0, lines.out, bytes, at);
+    put_nibbles(&nibbles, lines.back, n, bytes, next)
 }
 
-// Flips two bits of the nibble at a place.
+// Flips two bits of the nibble at a place, none at 0.
 fn flip(nibbles: &mut [u8], at: usize) {
+    if at == 0 {
+        return;
+    }
     if at < nibbles.len() {
         nibbles[at] = nibbles[at] ^ 6;
     }
 }
 
-fn before(n: usize) -> usize {
-    if n == 0 {
-        return 0;
-    }
-    n - 1
-}
-
-// Puts a line of a frame without its first nibbles.
-fn put_part(profile: Profile, place: u16, from: usize, bytes: &mut [u8], at: usize) -> usize {
-    let mut nibbles = [0u8; 800];
-    let n = write(profile, true, place, &mut nibbles);
-    put_nibbles(&nibbles, from, n, bytes, at)
-}
-
 // The nibbles of the line at a place of a frame, with no null bytes, and how many they are. Filler may stand in every body.
-fn write(profile: Profile, on: bool, place: u16, nibbles: &mut [u8]) -> usize {
+fn write(profile: Profile, on: bool, place: usize, nibbles: &mut [u8]) -> usize {
     let body = [Profile::FILLER; Profile::LONGEST];
-    let gap = gap_byte(profile);
     let length = profile.body_length();
     if Profile::LONGEST < length {
         return 0;
     }
-    let kind = kind_at(profile, on, place).number();
+    let kind = kind_at(profile, on, place);
+    write_line(profile, kind, place, &body[..length], nibbles)
+}
+
+fn write_line(
+    profile: Profile,
+    kind: Kind,
+    place: usize,
+    body: &[u8],
+    nibbles: &mut [u8],
+) -> usize {
+    let gap = gap_byte(profile);
     let filled = writer::write(
         profile_number(profile),
-        kind,
-        place,
-        &body[..length],
+        kind.number(),
+        (place % 65536) as u16,
+        body,
         gap,
         gap,
         0,
@@ -265,7 +269,7 @@ fn gap_byte(profile: Profile) -> u8 {
 }
 
 // The kind of the line at a place (004's figures; 000, 'Frame Level Formatting').
-fn kind_at(profile: Profile, on: bool, place: u16) -> Kind {
+fn kind_at(profile: Profile, on: bool, place: usize) -> Kind {
     match profile {
         Profile::VV5404 => {
             if on {
@@ -282,7 +286,7 @@ fn kind_at(profile: Profile, on: bool, place: u16) -> Kind {
     }
 }
 
-fn kind_within(first: u16, last: u16, end: u16, place: u16) -> Kind {
+fn kind_within(first: usize, last: usize, end: usize, place: usize) -> Kind {
     if place == 0 {
         return Kind::SOF;
     }

@@ -1,5 +1,6 @@
 -- 11 for a short state and for numbers no reader has; else a run is lent the body, and its head is stored where it took something.
 use Rattle.reader_state.specs.State.{stateLength, holdsReader}
+use Rattle.reader_state.specs.StateLaws.{held-head}
 use mathlib.Core.Path.{sym, ap, _∙_}
 use mathlib.Core.Logic.{⊎-elim}
 use native.Mathlib.Omega.{arith}
@@ -41,7 +42,7 @@ returns-2 c =
     let h = run .before .before .before .head-in .result in
     let r = run .run-lent in
     let room = test .before .before .before .before .if1 .left in
-    let read = run .before .before .before .head-in .ensures in
+    let read = run .before .before .before .head-in .ensures ∙ held-head s room in
     let e = feed-lent s room w line h read (sym (test .is-tagged .ensures) ∙ run .before .before .before .before .before .if2 .taken) in
     let told = answer-of (h .profile) (r .result .answer) (r .last .1 .1 .1 .0) (lentRun h s w line .outcome) (r .ensures .says) in
     let left = ⊎-elim (λ b. b .5 ∙ b .2 .ensures ∙ left-stored s room w line h read (r .result .taken) (r .last .1 .0) (r .ensures .count) (r .ensures .keeps) (omega (arith, b .0 .taken)) (r .result .head) (r .ensures .next)) (λ b. b .1 ∙ left-same s room w line h read (r .result .taken) (r .last .1 .0) (r .ensures .count) (r .ensures .keeps) (omega (arith, b .0 .left))) (c .before .if3 .came) in

@@ -4,13 +4,17 @@ use lib.ListN.{replicate, length-take, length-drop}
 use denote.Ref.{now}
 use Rattle.profile.specs.Profile.{longest}
 use Rattle.reader_state.specs.State.{bodyIn}
+use Rattle.reader_state.specs.StateLaws.{held-head}
 use Rattle.fluturenc.proofs.Pasting.{paste-all}
 use borrow.Author.Needs.{needs}
 use Rattle.fluturenc.proofs.reader_in.Statement.{statement}
 use Rattle.fluturenc.proofs.reader_in.Tie as tie
 
 returns : tie.Need-returns
-returns c = simp (c .before .before .before .before .head-in .ensures, c .before .copy .ensures, paste-all (replicate longest 0) (bodyIn (now (c .before .before .before .before .before .before .args .state))) (simp (length-take, length-drop) (omega arith)))
+returns c =
+    let s = now (c .before .before .before .before .before .before .args .state) in
+    let held = held-head s (omega arith) in
+    simp (c .before .before .before .before .head-in .ensures, held, c .before .copy .ensures, paste-all (replicate longest 0) (bodyIn s) (simp (length-take, length-drop) (omega arith)))
 
 pub reader-in-spec : {M : Type 1} → statement M
 reader-in-spec =

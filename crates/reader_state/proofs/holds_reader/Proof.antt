@@ -3,7 +3,7 @@ use native.Mathlib.Omega.{arith}
 use lib.ListN.{length}
 use denote.Ref.{now}
 use borrow.Author.Tests.{lt-leb, le-leb}
-use Rattle.reader_state.specs.State.{stateLength, holdsReader}
+use Rattle.reader_state.specs.State.{stateLength, heldHead, holdsReader}
 use borrow.Author.Needs.{needs}
 use Rattle.reader_state.proofs.holds_reader.Statement.{statement}
 use Rattle.reader_state.proofs.holds_reader.Tie as tie
@@ -13,7 +13,7 @@ unfolding holdsReader
 returns c = simp (lt-leb stateLength (length (now (c .before .before .args .state))) (omega (arith, c .if1 .taken)))
 
 returns-2 : tie.Need-returns-2
-unfolding holdsReader
+unfolding holdsReader heldHead
 returns-2 c =
     let args = c .before .before .before .before .before .before .before .before .before .args in
     let test-1 = c .before .before .before .before .before .before .before .if1 in

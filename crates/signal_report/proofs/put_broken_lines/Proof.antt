@@ -9,15 +9,15 @@ returns : tie.Need-returns
 unfolding brokenLines
 returns c =
     let seven = c .before .before in
-    let six = seven .before .before .before .before .before .before in
-    let five = six .before .before .before .before .before .before in
-    let four = five .before .before .before .before .before .before in
-    let three = four .before .before .before .before .before .before in
-    then (three .put-count .ensures)
-    (then (four .put-count2 .ensures)
-    (then (five .put-count3 .ensures)
-    (then (six .put-count4 .ensures)
-    (seven .put-count5 .ensures))))
+    let six = seven .before .before .before .before .before in
+    let five = six .before .before .before .before .before in
+    let four = five .before .before .before .before .before in
+    let three = four .before .before .before .before .before in
+    then (three .put-refused-count .ensures)
+    (then (four .put-refused-count2 .ensures)
+    (then (five .put-refused-count3 .ensures)
+    (then (six .put-refused-count4 .ensures)
+    (seven .put-refused-count5 .ensures))))
 
 pub put-broken-lines-spec : {M : Type 1} → statement M
 put-broken-lines-spec =
@@ -25,21 +25,16 @@ put-broken-lines-spec =
     (tie.spec
     (λ c. search needs)
     (λ c. search needs)
-    (λ c. search needs)
     (λ c κs. search needs)
-    (λ c. search needs)
-    (λ c. search needs)
-    (λ c. search needs)
-    (λ c κs. search needs)
-    (λ c. search needs)
     (λ c. search needs)
     (λ c. search needs)
     (λ c κs. search needs)
     (λ c. search needs)
     (λ c. search needs)
-    (λ c. search needs)
     (λ c κs. search needs)
     (λ c. search needs)
+    (λ c. search needs)
+    (λ c κs. search needs)
     (λ c. search needs)
     (λ c. search needs)
     (λ c κs. search needs)

@@ -9,9 +9,9 @@ returns : tie.Need-returns
 unfolding refusedCodes
 returns c =
     let two = c .before .before in
-    let one = two .before .before .before .before .before .before in
-    then (one .put-count .ensures)
-    (two .put-count2 .ensures)
+    let one = two .before .before .before .before .before in
+    then (one .put-refused-count .ensures)
+    (two .put-refused-count2 .ensures)
 
 pub put-refused-codes-spec : {M : Type 1} → statement M
 put-refused-codes-spec =
@@ -19,9 +19,7 @@ put-refused-codes-spec =
     (tie.spec
     (λ c. search needs)
     (λ c. search needs)
-    (λ c. search needs)
     (λ c κs. search needs)
-    (λ c. search needs)
     (λ c. search needs)
     (λ c. search needs)
     (λ c κs. search needs)

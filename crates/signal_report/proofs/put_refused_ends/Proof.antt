@@ -9,9 +9,9 @@ returns : tie.Need-returns
 unfolding refusedEnds
 returns c =
     let nine = c .before .before in
-    let eight = nine .before .before .before .before .before .before in
-    then (eight .put-count .ensures)
-    (nine .put-count2 .ensures)
+    let eight = nine .before .before .before .before .before in
+    then (eight .put-refused-count .ensures)
+    (nine .put-refused-count2 .ensures)
 
 pub put-refused-ends-spec : {M : Type 1} → statement M
 put-refused-ends-spec =
@@ -19,9 +19,7 @@ put-refused-ends-spec =
     (tie.spec
     (λ c. search needs)
     (λ c. search needs)
-    (λ c. search needs)
     (λ c κs. search needs)
-    (λ c. search needs)
     (λ c. search needs)
     (λ c. search needs)
     (λ c κs. search needs)

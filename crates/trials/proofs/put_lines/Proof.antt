@@ -7,10 +7,10 @@ use Rattle.trials.proofs.put_lines.Statement.{statement}
 use Rattle.trials.proofs.put_lines.Tie as tie
 
 abbrev Inv-loop : tie.InvT-loop
-Inv-loop profile on from to bytes₀ at next₀ place₀ bytes next place = length bytes ≡ length bytes₀
+Inv-loop lines bytes₀ at next₀ place₀ bytes next place = length bytes ≡ length bytes₀
 
 abbrev μ-loop : tie.MeasureT-loop
-μ-loop profile on from to bytes₀ at next₀ place₀ bytes next place = to - place
+μ-loop lines bytes₀ at next₀ place₀ bytes next place = lines .to - place
 
 pub put-lines-spec : {M : Type 1} → statement M
 put-lines-spec =
