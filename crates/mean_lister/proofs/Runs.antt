@@ -20,11 +20,12 @@ use Rattle.reader_laws.specs.ByRuns.{took}
 use Rattle.mean_rows.specs.MeanRows.{meansRoom}
 use Rattle.text.specs.Put.{Put}
 use Rattle.listers.specs.RunLaws.{ByReader, Along, ran, head-is, body-is, answer-is, line-is, along-next, along-end}
-use Rattle.mean_lister.specs.declared.Awaits.{Awaits}
-use Rattle.mean_lister.specs.declared.Awaits.the-variants as awaits
+use Rattle.awaited_gap.specs.declared.Awaits.{Awaits}
+use Rattle.awaited_gap.specs.declared.Awaits.the-variants as awaits
 use Rattle.mean_lister.specs.declared.MeanLister.{MeanLister}
 use Rattle.mean_lister.specs.declared.MeansListed.{MeansListed}
-use Rattle.mean_lister.specs.MeanLister.{awaitsAfter, answerRow, textOf, withOutcome, outcomeText, afterNibble, nibbleText, meansLists, listedOf, ListsMeans}
+use Rattle.awaited_gap.specs.AwaitedGap.{awaitsAfter}
+use Rattle.mean_lister.specs.MeanLister.{answerRow, textOf, withOutcome, outcomeText, afterNibble, nibbleText, meansLists, listedOf, ListsMeans}
 
 -- a lister whose parts are these
 abbrev pub lister : Head → List ℕ → List ℕ → Awaits → MeanLister

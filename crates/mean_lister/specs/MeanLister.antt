@@ -5,12 +5,10 @@ use mathlib.Core.List.{List, []}
 use Prim.Native.Nat.{ℕ}
 use lib.Dec.{ltb}
 use lib.ListN.{length, take, replicate}
-use Rattle.line_code.specs.declared.Kind.{Kind}
-use Rattle.line_code.specs.declared.Kind.the-variants.{BL, BK, VL, SOF, EOF}
+use Rattle.line_code.specs.declared.Kind.the-variants.{VL}
 use Rattle.line_code.specs.LineCode.{kindNumber}
 use Rattle.profile.specs.declared.Profile.the-variants.{VV5300}
 use Rattle.profile.specs.Profile.{profileNumber, bodyLength, longest}
-use Rattle.stream.specs.declared.LineFacts.{LineFacts}
 use Rattle.stream.specs.declared.GapFacts.{GapFacts}
 use Rattle.stream.specs.declared.Answer.{Answer}
 use Rattle.stream.specs.declared.Answer.the-variants as answer
@@ -21,8 +19,9 @@ use Rattle.text.specs.Put.{onFront}
 use Rattle.listers.specs.Lists.{Lists, takenFrom, ListedText, listedUpTo}
 use Rattle.half_means.specs.HalfMeans.{halvesOf}
 use Rattle.mean_rows.specs.MeanRows.{refusedRow, meansRow, meansRoom}
-use Rattle.mean_lister.specs.declared.Awaits.{Awaits}
-use Rattle.mean_lister.specs.declared.Awaits.the-variants as awaits
+use Rattle.awaited_gap.specs.declared.Awaits.{Awaits}
+use Rattle.awaited_gap.specs.declared.Awaits.the-variants as awaits
+use Rattle.awaited_gap.specs.AwaitedGap.{awaitsAfter}
 use Rattle.mean_lister.specs.declared.MeanLister.{MeanLister}
 use Rattle.mean_lister.specs.declared.MeansListed.{MeansListed}
 
@@ -31,23 +30,6 @@ abbrev pub freshLister : MeanLister
 freshLister = record { reader = freshReader VV5300; line = replicate longest 0; awaits = awaits.Line }
 
 -- What an answer brings.
-
--- the gap of a visible line is awaited after it
-abbrev pub afterKind : Kind → ℕ → Awaits
-afterKind BL n = awaits.Line
-afterKind BK n = awaits.Line
-afterKind VL n = awaits.Gap n
-afterKind SOF n = awaits.Line
-afterKind EOF n = awaits.Line
-
-abbrev pub afterLine : LineFacts → Awaits
-afterLine f = afterKind (f .kind) (f .number)
-
-unfoldable pub awaitsAfter : Awaits → Answer → Awaits
-awaitsAfter w answer.Nothing = w
-awaitsAfter w (answer.Line f) = afterLine f
-awaitsAfter w (answer.Gap g) = awaits.Line
-awaitsAfter w (answer.Refused n) = awaits.Line
 
 -- the row of the visible line with a number, whose body is at the front of the line buffer: a good gap holds the sensor's means
 unfoldable pub gapRow : ℕ → GapFacts → List ℕ → List ℕ

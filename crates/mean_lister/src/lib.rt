@@ -11,20 +11,14 @@ ghost use Rattle.profile.specs.Profile.{longest};
 ghost use Rattle.stream.specs.Written.{nibbles};
 ghost use Rattle.text.specs.Put.{Put};
 ghost use Rattle.mean_rows.specs.MeanRows.{meansRow, meansRoom};
-ghost use Rattle.mean_lister.specs.MeanLister.{freshLister, afterLine, awaitsAfter, gapRow, answerRow, textOf, listedOf, finishedOf, ListsMeans};
+ghost use Rattle.mean_lister.specs.MeanLister.{freshLister, gapRow, answerRow, textOf, listedOf, finishedOf, ListsMeans};
+use awaited_gap::Awaits;
 use half_means::Halves;
 use line_code::Kind;
 use profile::Profile;
 use reader::Reader;
 use stream::Answer;
 use stream::GapFacts;
-use stream::LineFacts;
-
-// What is awaited: a visible line; or the gap of the visible line with this number.
-pub enum Awaits {
-    Line,
-    Gap(u16),
-}
 
 // A reader, the line buffer that it is lent, and what is awaited of its answers.
 pub struct MeanLister {
@@ -73,7 +67,7 @@ impl MeanLister {
                 let answer = t.answer;
                 at += t.taken;
                 used = put_text(awaits, answer, &line, out, used);
-                awaits = after(awaits, answer);
+                awaits = awaited_gap::after(awaits, answer);
             }
             let reader = Reader { head, body };
             let lister = MeanLister {
@@ -124,31 +118,6 @@ impl MeanLister {
             taken: 0,
             used,
         }
-    }
-}
-
-// What is awaited after an answer.
-fn after(awaits: Awaits, answer: Answer) -> Awaits
-    ensures { λ r. ⌜ r ≡ awaitsAfter awaits answer ⌝ }
-{
-    match answer {
-        Answer::Nothing => awaits,
-        Answer::Line(facts) => after_line(facts),
-        Answer::Gap(_) => Awaits::Line,
-        Answer::Refused(_) => Awaits::Line,
-    }
-}
-
-fn after_line(facts: LineFacts) -> Awaits
-    ensures { λ r. ⌜ r ≡ afterLine facts ⌝ }
-{
-    let kind = facts.kind;
-    match kind {
-        Kind::BL => Awaits::Line,
-        Kind::BK => Awaits::Line,
-        Kind::VL => Awaits::Gap(facts.number),
-        Kind::SOF => Awaits::Line,
-        Kind::EOF => Awaits::Line,
     }
 }
 

@@ -30,11 +30,6 @@ pub passes-past : (increment : Bool) (i : ℕ) (bytes : List ℕ) → lastIndex 
 passes-past increment i [] h = sym (le-ltb 0 0 (omega arith))
 passes-past increment i (b ∷ bytes) h = rw (lt-ltb lastIndex i h) (sym (lt-ltb 0 (length (b ∷ bytes)) (omega arith)))
 
-pub within : (i : ℕ) (bytes : List ℕ) → i ≤ lastIndex → passes true i bytes ≡ false → i + length bytes ≤ registerCount
-within i bytes h p =
-    let l : length bytes ≤ registerCount - i = ltb-false (registerCount - i) (length bytes) (sym (passes-counts i bytes (omega arith)) ∙ p) in
-    omega arith
-
 pub passes-still : (i : ℕ) (bytes : List ℕ) → i ≤ lastIndex → passes false i bytes ≡ false
 unfolding next
 passes-still i [] h = refl

@@ -20,9 +20,10 @@ use Rattle.stream.specs.declared.Answer.the-variants.{Nothing, Line, Gap, Refus
 use Rattle.stream.specs.Answers.{isLineAnswer}
 use Rattle.signal.specs.declared.First.{First}
 use Rattle.signal.specs.declared.First.the-variants.{Unseen, InsideLine, Other}
-use Rattle.signal.specs.declared.Spacing.{Spacing}
+use Rattle.spacing.specs.declared.Spacing.{Spacing}
+use Rattle.spacing.specs.Spacing.{lesser, greater, withPeriod, byRate}
 use Rattle.signal.specs.declared.Signal.{Signal}
-use Rattle.signal.specs.Signal.{refusals, codeWidth, withRepair, seen, isStart, withFirst, lineSeen, gapSeen, refusalSeen, lesser, greater, withPeriod, byRate, freshSignal, takeOf, isCut, closeOf}
+use Rattle.signal.specs.Signal.{refusals, codeWidth, withRepair, seen, isStart, withFirst, lineSeen, gapSeen, refusalSeen, freshSignal, takeOf, isCut, closeOf}
 use Rattle.signal.specs.Seen.{signalled, captureSignal, answersOf, fromStart, isRefusal, repairs, isBitNumbered, carried, periods, isRate, isUnnamed, otherPeriods, leastOf, greatestOf, firstOf, CountsAnswers}
 
 -- a part of the signal that a first mark alone doesn't change

@@ -5,11 +5,10 @@
 // these calls; an answer that is no mark's changes nothing. Cost: constant.
 ghost use mathlib.Core.Path.{_≡_};
 ghost use Rattle.counts.specs.Counts.{oneMoreAt};
-ghost use Rattle.signal.specs.Signal.{freshSignal, seen, isStart, withFirst, withRepair, lesser, greater, noPeriods, thirtyMore, twentyFiveMore, otherMore, withPeriod, lineSeen, gapSeen, refusalSeen, takeOf, isCut, closeOf};
+ghost use Rattle.signal.specs.Signal.{freshSignal, seen, isStart, withFirst, withRepair, lineSeen, gapSeen, refusalSeen, takeOf, isCut, closeOf};
 use counts::one_more;
 use line_code::Repair;
-use period::Nibbles;
-use period::Rate;
+use spacing::Spacing;
 use stream::Answer;
 use stream::GapFacts;
 use stream::LineFacts;
@@ -19,16 +18,6 @@ pub enum First {
     Unseen,
     InsideLine,
     Other,
-}
-
-// The periods of lines handed out (paper 02, A7): how many are named 30 and 25 frames a second, how many have another length, and the least and
-// the greatest of those, in nibbles; 0 where there are none.
-pub struct Spacing {
-    pub thirty: u64,
-    pub twentyfive: u64,
-    pub others: u64,
-    pub least: u16,
-    pub greatest: u16,
 }
 
 pub struct Signal {
@@ -192,94 +181,6 @@ impl First {
             First::Other => First::Other,
         }
     }
-}
-
-impl Spacing {
-    fn new() -> Spacing
-        ensures { λ r. ⌜ r ≡ noPeriods ⌝ }
-    {
-        Spacing {
-            thirty: 0,
-            twentyfive: 0,
-            others: 0,
-            least: 0,
-            greatest: 0,
-        }
-    }
-
-    // With the period of a gap: 0 is none.
-    fn with(self, period: Nibbles) -> Spacing
-        ensures { λ r. ⌜ r ≡ withPeriod self period ⌝ }
-    {
-        if period.0 == 0 {
-            return self;
-        }
-        let rate = period.rate();
-        match rate {
-            Rate::Thirty => self.thirty_more(),
-            Rate::TwentyFive => self.twenty_five_more(),
-            Rate::Unnamed => self.other(period.0),
-        }
-    }
-
-    fn thirty_more(self) -> Spacing
-        ensures { λ r. ⌜ r ≡ thirtyMore self ⌝ }
-    {
-        Spacing {
-            thirty: one_more(self.thirty),
-            twentyfive: self.twentyfive,
-            others: self.others,
-            least: self.least,
-            greatest: self.greatest,
-        }
-    }
-
-    fn twenty_five_more(self) -> Spacing
-        ensures { λ r. ⌜ r ≡ twentyFiveMore self ⌝ }
-    {
-        Spacing {
-            thirty: self.thirty,
-            twentyfive: one_more(self.twentyfive),
-            others: self.others,
-            least: self.least,
-            greatest: self.greatest,
-        }
-    }
-
-    // A period of another length.
-    fn other(self, nibbles: u16) -> Spacing
-        ensures { λ r. ⌜ r ≡ otherMore self nibbles ⌝ }
-    {
-        Spacing {
-            thirty: self.thirty,
-            twentyfive: self.twentyfive,
-            others: one_more(self.others),
-            least: lesser(self.least, nibbles),
-            greatest: greater(self.greatest, nibbles),
-        }
-    }
-}
-
-// The least so far, 0 for none, with one more.
-fn lesser(least: u16, n: u16) -> u16
-    ensures { λ r. ⌜ r ≡ lesser least n ⌝ }
-{
-    if least == 0 {
-        return n;
-    }
-    if n < least {
-        return n;
-    }
-    least
-}
-
-fn greater(greatest: u16, n: u16) -> u16
-    ensures { λ r. ⌜ r ≡ greater greatest n ⌝ }
-{
-    if greatest < n {
-        return n;
-    }
-    greatest
 }
 
 // Whether finish's answer tells only that the capture's end cut off a line or a gap.

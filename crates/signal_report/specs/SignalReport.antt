@@ -6,7 +6,7 @@ use lib.Dec.{eqb}
 use lib.ListN.{getD}
 use Rattle.text.specs.Text.{ascii, decimal}
 use Rattle.signal.specs.declared.Signal.{Signal}
-use Rattle.signal.specs.declared.Spacing.{Spacing}
+use Rattle.spacing.specs.declared.Spacing.{Spacing}
 
 -- a line with a count: the words before it, the count, the words after it
 unfoldable pub countLine : List ℕ → ℕ → List ℕ → List ℕ

@@ -5,7 +5,7 @@
 ghost use Rattle.text.specs.Put.{Puts};
 ghost use Rattle.signal_report.specs.SignalReport.{countLine, numberedLine, refusedCount, refusedCodes, brokenLines, refusedEnds, refusedLines, bitLine, lowBits, highBits, repairedLines, rangeWords, linesNoun, periodLine, periodLines, signalLines};
 use signal::Signal;
-use signal::Spacing;
+use spacing::Spacing;
 use text::put;
 use text::put_decimal;
 

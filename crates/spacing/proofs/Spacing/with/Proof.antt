@@ -1,9 +1,9 @@
 -- By the period's name; 0 is no period.
 use borrow.Author.Tests.{eq-eqb, ne-eqb}
-use Rattle.signal.specs.Signal.{withPeriod}
+use Rattle.spacing.specs.Spacing.{withPeriod}
 use borrow.Author.Needs.{needs}
-use Rattle.signal.proofs.Spacing.with.Statement.{statement}
-use Rattle.signal.proofs.Spacing.with.Tie as tie
+use Rattle.spacing.proofs.Spacing.with.Statement.{statement}
+use Rattle.spacing.proofs.Spacing.with.Tie as tie
 
 returns : tie.Need-returns
 unfolding withPeriod

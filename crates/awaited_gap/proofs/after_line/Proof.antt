@@ -1,7 +1,7 @@
 -- By the line's kind: only a visible line's gap is awaited.
 use borrow.Author.Needs.{needs}
-use Rattle.mean_lister.proofs.after_line.Statement.{statement}
-use Rattle.mean_lister.proofs.after_line.Tie as tie
+use Rattle.awaited_gap.proofs.after_line.Statement.{statement}
+use Rattle.awaited_gap.proofs.after_line.Tie as tie
 
 returns-3 : tie.Need-returns-3
 returns-3 c = simp (c .enum-told3 .given .1)

@@ -1,7 +1,7 @@
 -- One more of these.
 use borrow.Author.Needs.{needs}
-use Rattle.signal.proofs.Spacing.thirty_more.Statement.{statement}
-use Rattle.signal.proofs.Spacing.thirty_more.Tie as tie
+use Rattle.spacing.proofs.Spacing.thirty_more.Statement.{statement}
+use Rattle.spacing.proofs.Spacing.thirty_more.Tie as tie
 
 returns : tie.Need-returns
 returns c = simp (c .one-more .ensures)

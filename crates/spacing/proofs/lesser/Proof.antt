@@ -1,8 +1,8 @@
 -- 0 stands for none; else the test picks the lesser.
 use borrow.Author.Tests.{lt-ltb, le-ltb, eq-eqb, ne-eqb}
-use Rattle.signal.specs.Signal.{lesser}
-use Rattle.signal.proofs.lesser.Statement.{statement}
-use Rattle.signal.proofs.lesser.Tie as tie
+use Rattle.spacing.specs.Spacing.{lesser}
+use Rattle.spacing.proofs.lesser.Statement.{statement}
+use Rattle.spacing.proofs.lesser.Tie as tie
 
 returns : tie.Need-returns
 unfolding lesser

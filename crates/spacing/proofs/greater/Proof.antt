@@ -1,8 +1,8 @@
 -- The test picks the greater.
 use borrow.Author.Tests.{lt-ltb, le-ltb}
-use Rattle.signal.specs.Signal.{greater}
-use Rattle.signal.proofs.greater.Statement.{statement}
-use Rattle.signal.proofs.greater.Tie as tie
+use Rattle.spacing.specs.Spacing.{greater}
+use Rattle.spacing.proofs.greater.Statement.{statement}
+use Rattle.spacing.proofs.greater.Tie as tie
 
 returns : tie.Need-returns
 unfolding greater

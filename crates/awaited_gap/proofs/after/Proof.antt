@@ -1,8 +1,8 @@
 -- By the answer.
-use Rattle.mean_lister.specs.MeanLister.{awaitsAfter}
+use Rattle.awaited_gap.specs.AwaitedGap.{awaitsAfter}
 use borrow.Author.Needs.{needs}
-use Rattle.mean_lister.proofs.after.Statement.{statement}
-use Rattle.mean_lister.proofs.after.Tie as tie
+use Rattle.awaited_gap.proofs.after.Statement.{statement}
+use Rattle.awaited_gap.proofs.after.Tie as tie
 
 returns : tie.Need-returns
 unfolding awaitsAfter

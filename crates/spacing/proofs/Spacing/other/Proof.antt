@@ -1,7 +1,7 @@
 -- One more, with the least and the greatest.
 use borrow.Author.Needs.{needs}
-use Rattle.signal.proofs.Spacing.other.Statement.{statement}
-use Rattle.signal.proofs.Spacing.other.Tie as tie
+use Rattle.spacing.proofs.Spacing.other.Statement.{statement}
+use Rattle.spacing.proofs.Spacing.other.Tie as tie
 
 returns : tie.Need-returns
 returns c = simp (c .before .before .one-more .ensures, c .before .lesser .ensures, c .greater .ensures)
