@@ -1,4 +1,5 @@
 pub mod Calls
+pub mod CallsLaws
 pub mod Marks
 pub mod AnswerLaws
 pub mod AnswerTable
