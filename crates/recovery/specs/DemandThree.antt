@@ -22,10 +22,10 @@ use Rattle.stream.specs.Written.{Sent, AllWritable, stream}
 use Rattle.recovery.specs.Calls.{Call, feed, done, FinishLast, no-call, done-last, feed-first, CallResult, takes, takenBy, changed, startAfter, linesFrom, gapAsSent, closed, markNibbles, Collector, collects, lineCollector, gapCollector, onCollected, onRun, onTaken, onLines, onGaps, MeetsDemandThree, fed, meaningCall}
 use Rattle.recovery.specs.CallsLaws.{others-take}
 use Rattle.recovery.specs.AnswerLaws.{step-cases}
-use Rattle.recovery.specs.Collected.{collected}
-use Rattle.recovery.specs.Resync.{lines, BringsNoLine, no-line}
+use Rattle.recovery.specs.Collected.{collected, lines, gaps}
+use Rattle.recovery.specs.ResyncLaws.{BringsNoLine, no-line}
 use Rattle.recovery.specs.Damage.{by-test, places-within, drop-changed, writable-from, recovers}
-use Rattle.recovery.specs.Gaps.{gaps, gaps-before, gaps-from}
+use Rattle.recovery.specs.Gaps.{gaps-before, gaps-from}
 
 -- Calls and the nibbles that they take.
 

@@ -25,7 +25,8 @@ use Rattle.recovery.specs.DemandThree.{taking-by, taking-append, taken-append, 
 use Rattle.reader_laws.specs.Passes.{passes-test, fresh-ok, take-ok}
 use Rattle.reader_laws.specs.Passing.{Ok}
 use Rattle.refinement.specs.Refine.{fedOutcomes}
-use Rattle.refinement.specs.ReaderCalls.{readerCall, calls-ok, reader-demand-three}
+use Rattle.refinement.specs.ReaderCalls.{readerCall}
+use Rattle.refinement.specs.ReaderCallsLaws.{calls-ok, reader-demand-three}
 use Rattle.refinement.specs.Runs.{RunCall, run, one, runResult, runTakes, onRuns, runsTaken, runCollects, runsCollected, answerCollector, feeds, starts, oneByOne, allOneByOne, FinishLastRun, no-call, done-last, feed-first, run-first, SameAsFeeds, RunsMeetDemandThree}
 
 -- One nibble of a run, as a feeding call.

@@ -20,7 +20,7 @@ use Rattle.mark_answer.specs.Sound.{refusalOf, at-most-nine}
 use Rattle.reader.specs.ReaderLaws.{take-sound}
 use Rattle.reader_laws.specs.Passes.{passes-test, fresh-ok}
 use Rattle.reader_laws.specs.Passing.{Ok}
-use Rattle.refinement.specs.ReaderCalls.{answered, eleven, calls-ok}
+use Rattle.refinement.specs.ReaderCallsLaws.{answered, eleven, calls-ok}
 use Rattle.refinement.specs.Runs.{RunCall, run, one, runResult, onRuns, allOneByOne}
 use Rattle.refinement.specs.RunsLaws.{same-as-feeds}
 
