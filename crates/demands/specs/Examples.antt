@@ -25,7 +25,7 @@ use Rattle.run.specs.Run.{Ran, ran, runOf}
 use Rattle.writer.specs.Writer.{roomFor}
 use Rattle.writer.specs.WriterTable.{writeSent}
 use Rattle.writer.specs.WriterLaws.{writes}
-use Rattle.mark_answer.specs.Sound.{at-most-nine}
+use Rattle.mark_answer.specs.SoundLaws.{at-most-nine}
 use Rattle.reader.specs.ReaderLaws.{take-sound}
 use Rattle.reader_laws.specs.Passes.{passes-test, fresh-ok, take-ok}
 use Rattle.reader_laws.specs.Passing.{Ok}

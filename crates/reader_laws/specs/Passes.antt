@@ -26,7 +26,8 @@ use Rattle.reader_head.specs.Head.{topPlace, groupNumber, isMark, slide, countS
 use Rattle.reader.specs.Reader.{Took, freshReader, refusing, takeHead, takeOutcome, taking, feedOf, finishOf}
 use Rattle.reader_laws.specs.Passing.{Fits, Passed, Byte, Ok, finished}
 use Rattle.mark_text.specs.MarkTextLaws.{gap-start-small}
-use Rattle.mark_answer.specs.Sound.{Sound, line-ends, kept-sound, refusalOf, at-most-nine}
+use Rattle.mark_answer.specs.Sound.{Sound, refusalOf}
+use Rattle.mark_answer.specs.SoundLaws.{line-ends, kept-sound, at-most-nine}
 use Rattle.reader.specs.ReaderLaws.{bump-more, take-sound}
 
 -- The test and its facts.

@@ -17,7 +17,8 @@ use Rattle.reader.specs.declared.Reader.{Reader}
 use Rattle.reader.specs.Reader.{Took, freshReader, refusing, taking, feedOf}
 use Rattle.run.specs.Run.{Ran, ran, stops, stopPlace, runOf, onward}
 use Rattle.stream.specs.AnswersLaws.{no-answer}
-use Rattle.mark_answer.specs.Sound.{refusalOf, at-most-nine}
+use Rattle.mark_answer.specs.Sound.{refusalOf}
+use Rattle.mark_answer.specs.SoundLaws.{at-most-nine}
 use Rattle.reader.specs.ReaderLaws.{take-profile, take-sound}
 use Rattle.recovery.specs.Calls.{Call, feed, FinishLast, takes, Collector, lineCollector, gapCollector, onRun, onTaken, onCollected}
 use Rattle.recovery.specs.Calls as calls
