@@ -20,7 +20,8 @@ use Rattle.reader.specs.ReaderLaws.{take-profile}
 use Rattle.run.specs.Run.{Ran, ran, onward, runOf, lentRunOf}
 use Rattle.reader_laws.specs.Passing.{Small, Byte, Ok}
 use Rattle.reader_laws.specs.Passes.{passed, passes-test}
-use Rattle.reader_laws.specs.ByRuns.{ByNibbles, run-on}
+use Rattle.reader_laws.specs.ByRuns.{ByNibbles}
+use Rattle.reader_laws.specs.ByRunsLaws.{run-on}
 
 -- a run with k nibbles before it
 abbrev pub later : ℕ → Ran → Ran

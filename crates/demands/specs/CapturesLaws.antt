@@ -10,7 +10,8 @@ use Rattle.stream.specs.Stream.{fresh, finish, run, outcomes}
 use Rattle.stream.specs.Written.{Sent, AllWritable, stream}
 use Rattle.reader.specs.Reader.{freshReader}
 use Rattle.recovery.specs.Calls.{lineIn, gapIn}
-use Rattle.recovery.specs.Collected.{collected, collected-append}
+use Rattle.recovery.specs.Collected.{collected}
+use Rattle.recovery.specs.CollectedLaws.{collected-append}
 use Rattle.recovery.specs.CleanAnswers.{saidIn, said, cleanAnswers}
 use Rattle.recovery.specs.CleanAnswersLaws.{clean-answers}
 use Rattle.recovery.specs.CallAnswers.{broughtBy}

@@ -7,7 +7,7 @@ use Rattle.lent_buffer.specs.Filled.{used}
 use Rattle.profile.specs.declared.Profile.{Profile}
 use Rattle.stream.specs.Written.{Sent}
 use Rattle.reader.specs.Reader.{freshReader}
-use Rattle.writer.specs.WriterLaws.{writeSent}
+use Rattle.writer.specs.WriterTable.{writeSent}
 use Rattle.recovery.specs.Calls.{DemandThree}
 use Rattle.refinement.specs.ReaderCalls.{readerCall}
 use Rattle.refinement.specs.Runs.{RunCall, runsTaken, allOneByOne, FinishLastRun, SameAsFeeds}

@@ -6,7 +6,8 @@ use lib.ListN.{length, take, drop}
 use Rattle.lent_buffer.specs.Filled.{used}
 use Rattle.profile.specs.declared.Profile.{Profile}
 use Rattle.stream.specs.Written.{Sent, Writable, AllWritable, no-lines, and-line, written, stream}
-use Rattle.writer.specs.WriterLaws.{LineAnswer, line, writeSent, sent-answer}
+use Rattle.writer.specs.WriterTable.{LineAnswer, line, writeSent}
+use Rattle.writer.specs.WriterLaws.{sent-answer}
 use Rattle.refinement.specs.RunsLaws.{runs-demand-three}
 use Rattle.demands.specs.DemandThreeWritten.{WroteAll, wrote-none, and-wrote, MeetsWritten}
 

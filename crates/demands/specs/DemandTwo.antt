@@ -19,7 +19,7 @@ use Rattle.stream.specs.Answers.{Outcome, refused}
 use Rattle.stream.specs.Written.{Sent, markOf}
 use Rattle.reader.specs.Reader.{freshReader}
 use Rattle.writer.specs.Writer.{sent}
-use Rattle.writer.specs.WriterLaws.{writeSent}
+use Rattle.writer.specs.WriterTable.{writeSent}
 use Rattle.recovery.specs.CallAnswers.{markCollector}
 use Rattle.flip_laws.specs.Flips.{Flips, no-bit, two-bits, Arrived, withFlips, arrivedWith, unflipped, closedAnswers, flipAnswers}
 use Rattle.refinement.specs.Runs.{RunCall, runsTaken, runsCollected, FinishLastRun}

@@ -13,12 +13,14 @@ use Rattle.stream.specs.Answers.{Outcome, refused}
 use Rattle.stream.specs.Stream.{fresh}
 use Rattle.stream.specs.Written.{Sent, AllWritable, no-lines, and-line, markOf}
 use Rattle.writer.specs.Writer.{sent, writeOf}
-use Rattle.writer.specs.WriterLaws.{LineAnswer, line, Answer, of-line, answer, sent-answer}
+use Rattle.writer.specs.WriterTable.{LineAnswer, line, Answer, of-line}
+use Rattle.writer.specs.WriterLaws.{answer, sent-answer}
 use Rattle.recovery.specs.CleanAnswers.{said}
 use Rattle.recovery.specs.CallAnswers.{broughtBy}
 use Rattle.flip_laws.specs.Flips.{no-bit, two-bits, Arrived, withFlips, arrivedWith, unflipped, closedAnswers, flipAnswers}
 use Rattle.flip_laws.specs.FlippedCodesLaws.{flips-are-codes}
-use Rattle.flip_laws.specs.FlipsLaws.{allSent, arriving, flip-answers, flip-answers-first, answers-append}
+use Rattle.flip_laws.specs.Arrivals.{allSent, arriving}
+use Rattle.flip_laws.specs.FlipsLaws.{flip-answers, flip-answers-first, answers-append}
 use Rattle.refinement.specs.RunAnswers.{runsFinish}
 use Rattle.refinement.specs.RunAnswersLaws.{runs-said}
 use Rattle.demands.specs.DemandTwo.{AllArrived, none-arrived, and-arrived, ReadAs, DemandTwo, Accepted, endThen, StartBeyondRepair, EndBeyondRepair}

@@ -23,8 +23,9 @@ use Rattle.reader.specs.Reader.{Took, freshReader, taking}
 use Rattle.reader.specs.ReaderLaws.{take-profile}
 use Rattle.run.specs.Run.{Ran, ran, runOf}
 use Rattle.writer.specs.Writer.{roomFor}
-use Rattle.writer.specs.WriterLaws.{writeSent, writes}
-use Rattle.mark_answer.specs.Sound.{at-most-nine}
+use Rattle.writer.specs.WriterTable.{writeSent}
+use Rattle.writer.specs.WriterLaws.{writes}
+use Rattle.mark_answer.specs.SoundLaws.{at-most-nine}
 use Rattle.reader.specs.ReaderLaws.{take-sound}
 use Rattle.reader_laws.specs.Passes.{passes-test, fresh-ok, take-ok}
 use Rattle.reader_laws.specs.Passing.{Ok}
@@ -34,7 +35,8 @@ use Rattle.recovery.specs.WrittenLaws.{AllNibbles, no-nibble, and-nibble, all-c
 use Rattle.recovery.specs.Examples.{sample, sample-writable, four, four-writable, from, to, new, new-nibbles, room, stretch-ordered, stretch-within}
 use Rattle.refinement.specs.CallTable.{not-a-nibble, no-room, taken}
 use Rattle.refinement.specs.CallTableLaws.{feeds-by-table}
-use Rattle.refinement.specs.ReaderCalls.{gives, readerCall, reader-demand-three}
+use Rattle.refinement.specs.ReaderCalls.{gives, readerCall}
+use Rattle.refinement.specs.ReaderCallsLaws.{reader-demand-three}
 use Rattle.refinement.specs.Runs.{RunCall, run, one, runsTaken, allOneByOne, FinishLastRun, done-last, feed-first, run-first, SameAsFeeds}
 use Rattle.refinement.specs.RunsLaws.{takes-it}
 use Rattle.refinement.specs.RunAnswers.{runsFinish}

@@ -10,7 +10,7 @@ use Rattle.profile.specs.declared.Profile.{Profile}
 use Rattle.profile.specs.Profile.{bodyLength}
 use Rattle.stream.specs.Answers.{outcomeOf}
 use Rattle.stream.specs.Written.{Sent}
-use Rattle.writer.specs.WriterLaws.{writeSent}
+use Rattle.writer.specs.WriterTable.{writeSent}
 use Rattle.recovery.specs.Calls.{Call, feed, CallResult, takes, LineOut, lineIn, onLines}
 
 -- Readers of the type R, by their calls.

@@ -15,7 +15,7 @@ use Rattle.profile.specs.declared.Profile.the-variants.{VV5404, VV5300}
 use Rattle.profile.specs.Profile.{bodyLength}
 use Rattle.stream.specs.Written.{Sent, AllWritable, no-lines, and-line, written}
 use Rattle.writer.specs.Writer.{roomFor}
-use Rattle.writer.specs.WriterLaws.{writeSent}
+use Rattle.writer.specs.WriterTable.{writeSent}
 use Rattle.recovery.specs.Calls.{Call, feed, done, CallResult, changed, LineOut, asSent, onTaken, onLines, MeetsDemandThree}
 use Rattle.recovery.specs.WrittenLaws.{AllNibbles, no-nibble, and-nibble, all-changed}
 use Rattle.recovery.specs.Examples.{sample, sample-writable, fedThenDone, finish-last, room}

@@ -24,7 +24,8 @@ use Rattle.profile.specs.Profile.{bodyLength, fillerByte, nullByte}
 use Rattle.profile.specs.Layout.{isPixel, allows, fits, rules, gapFits}
 use Rattle.stream.specs.Answers.{facts, Outcome, line, require, goodGap, bytesOnto, lineFrom, turned, allF, twoBytesThenF, gapFrom}
 use Rattle.stream.specs.Written.{nibbles}
-use Rattle.recovery.specs.MarkFree.{spacedOut, rules-spaced}
+use Rattle.recovery.specs.MarkFree.{spacedOut}
+use Rattle.recovery.specs.MarkFreeLaws.{rules-spaced}
 use Rattle.reader_laws.specs.Passing.{Small, small-more}
 use Rattle.refinement.specs.Stored.{refuses}
 

@@ -23,11 +23,13 @@ use Rattle.recovery.specs.Calls.{Call, feed, done, CallResult, meaningCall}
 use Rattle.recovery.specs.Resync.{stateWith}
 use Rattle.reader_laws.specs.Passing.{Small, Passed, Ok}
 use Rattle.reader_laws.specs.SmallLaws.{small-append}
-use Rattle.refinement.specs.Window.{no-mark-yet}
-use Rattle.refinement.specs.Stored.{storedKept}
+use Rattle.refinement.specs.WindowLaws.{no-mark-yet}
+use Rattle.refinement.specs.StoredText.{storedKept}
 use Rattle.reader_laws.specs.Passes.{passed}
-use Rattle.refinement.specs.Refine.{Follows, fresh-follows, fedReader, fed-follows}
-use Rattle.refinement.specs.ReaderCalls.{readerCall, alike}
+use Rattle.refinement.specs.Refine.{Follows, fedReader}
+use Rattle.refinement.specs.RefineLaws.{fresh-follows, fed-follows}
+use Rattle.refinement.specs.ReaderCalls.{readerCall}
+use Rattle.refinement.specs.ReaderCallsLaws.{alike}
 use Rattle.explained.specs.Explained.{Store, Out, outs, TypedReader, Explained}
 use Rattle.explained.specs.Equivalent.{baseOf, base-small, Equivalent, same-call}
 use Rattle.explained.specs.Reachable.{Reachable, reachable}

@@ -23,9 +23,9 @@ use Rattle.reader_head.specs.declared.Head.{Head}
 use Rattle.reader.specs.declared.Reader.{Reader}
 use Rattle.reader_head.specs.Head.{topPlace, isMark, slide, bump, countStop, leaveKept, leaveBody, opened, shifted, flushed, passes}
 use Rattle.reader.specs.Reader.{Took, takeHead, takeOutcome, taking, freshReader, refusing, feedOf, finishOf}
-use Rattle.reader_laws.specs.Passes.{finished, fresh-ok, feed-ok, passes-test}
-use Rattle.reader_laws.specs.Passing.{Ok}
-use Rattle.refinement.specs.Refine.{no-body, finish-passed}
+use Rattle.reader_laws.specs.Passing.{finished, Ok}
+use Rattle.reader_laws.specs.Passes.{fresh-ok, feed-ok, passes-test}
+use Rattle.refinement.specs.RefineLaws.{no-body, finish-passed}
 use Rattle.explained.specs.Explained.{Store}
 use Rattle.explained.specs.Used.{endsLine, SameUsed, no-nibbles, used-fewer, used-commit, answer-same}
 

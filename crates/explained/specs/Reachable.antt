@@ -29,9 +29,9 @@ use Rattle.stream.specs.Stream.{State, strip, group, Completed, not-yet, markIf
 use Rattle.stream.specs.Written.{markOf, content}
 use Rattle.reader_head.specs.Head.{handedFits}
 use Rattle.recovery.specs.Resync.{stateWith}
-use Rattle.recovery.specs.Marks.{strip-none}
-use Rattle.recovery.specs.MarkFree.{strip-wrong}
-use Rattle.recovery.specs.ReadBack.{run-append, line-opens}
+use Rattle.recovery.specs.MarksLaws.{strip-none}
+use Rattle.recovery.specs.MarkFreeLaws.{strip-wrong}
+use Rattle.recovery.specs.ReadBackLaws.{run-append, line-opens}
 use Rattle.recovery.specs.WrittenLaws.{AllNibbles, no-nibble as none-left, and-nibble, all-content}
 use Rattle.recovery.specs.Examples.{sample, sample-writable}
 use Rattle.reader_laws.specs.Passing.{Small, small-none, small-more, Byte}

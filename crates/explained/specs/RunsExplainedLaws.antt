@@ -21,8 +21,10 @@ use Rattle.run.specs.Run.{Ran, ran, onward, runOf}
 use Rattle.recovery.specs.Calls.{Call, feed, done, CallResult}
 use Rattle.reader_laws.specs.Passing.{Ok}
 use Rattle.reader_laws.specs.Passes.{Feeding, feed-state, feed-nibble, feed-room, feed-taken, feeding, Finishing, finish-state, finish-taken, finishing, passed}
-use Rattle.refinement.specs.Refine.{fresh-follows, fedReader, fed-follows}
-use Rattle.refinement.specs.ReaderCalls.{gives, readerCall, calls-ok}
+use Rattle.refinement.specs.Refine.{fedReader}
+use Rattle.refinement.specs.RefineLaws.{fresh-follows, fed-follows}
+use Rattle.refinement.specs.ReaderCalls.{gives, readerCall}
+use Rattle.refinement.specs.ReaderCallsLaws.{calls-ok}
 use Rattle.refinement.specs.Runs.{RunCall, run, one, runResult}
 use Rattle.refinement.specs.RunsLaws.{fed-taken, run-starts, run-short}
 use Rattle.explained.specs.Explained.{Out, outs, TypedReader}

@@ -20,7 +20,8 @@ use Rattle.reader_head.specs.Head.{aged}
 use Rattle.refinement.specs.Window.{num}
 use Rattle.reader_laws.specs.Passing.{Small, small-none, small-more, Byte, Fits}
 use Rattle.reader_laws.specs.SmallLaws.{small-append}
-use Rattle.refinement.specs.Stored.{storedKept, storedBody, stored-length}
+use Rattle.refinement.specs.StoredText.{storedKept, storedBody}
+use Rattle.refinement.specs.Stored.{stored-length}
 use Rattle.explained.specs.Equivalent.{baseOf}
 use Rattle.explained.specs.Explained.{Store, Typed}
 use Rattle.explained.specs.Used.{commit, byteNumbered, nibbleOf, commit-new, commit-old, endsLine, SameNibbles, SameUsed, no-nibbles}

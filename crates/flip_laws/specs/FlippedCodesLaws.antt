@@ -26,16 +26,12 @@ use Rattle.profile.specs.Layout.{rules}
 use Rattle.profile.specs.LayoutLaws.{rules-length, fits-length}
 use Rattle.stream.specs.Written.{Sent, Writable, markOf, content, endMark, tail, written}
 use Rattle.stream.specs.NibblesLaws.{nibbles-length}
-use Rattle.recovery.specs.ReadBack.{read-small, writtenWith}
+use Rattle.recovery.specs.ReadBack.{writtenWith}
+use Rattle.recovery.specs.ReadBackLaws.{read-small}
 use Rattle.flip_laws.specs.Flips.{Flips, no-bit, one-bit, two-bits, flipNibble, flipBit, flipBits, endCodePlace, Arrived, withFlips, repairBy}
+use Rattle.flip_laws.specs.FlippedCodes.{flippedCode, startCode, endingCode}
 
 -- Code bytes.
-
--- a code byte with these bits flipped
-abbrev pub flippedCode : Flips → ℕ → ℕ
-flippedCode no-bit c = c
-flippedCode (one-bit i l) c = flipped c i
-flippedCode (two-bits i j l k d) c = flipped (flipped c i) j
 
 -- the reading of a code of which so much is repaired
 abbrev pub readingBy : Meaning → Option Repair → Reading
@@ -124,12 +120,6 @@ code-flipped u m (two-bits i j l k d) w =
     ap (flipBit (length u) j) (bit-flipped u (cleanByte m) i w (flipped-small m no-bit) l) ∙ bit-flipped u (flipped (cleanByte m) i) j w (flipped-small m (one-bit i l)) k
 
 -- Lines.
-
-abbrev pub startCode : Arrived → ℕ
-startCode a = flippedCode (a .start) (cleanByte (Line (a .sent .kind)))
-
-abbrev pub endingCode : Arrived → ℕ
-endingCode a = flippedCode (a .end) (cleanByte EndOfLine)
 
 abbrev sixNibbles : List ℕ
 sixNibbles = 15 ∷ 15 ∷ 15 ∷ 15 ∷ 0 ∷ 0 ∷ []

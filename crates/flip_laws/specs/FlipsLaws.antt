@@ -16,27 +16,26 @@ use Rattle.line_code.specs.LineCode.{readingOf, kindOf, isEnd, repairOf}
 use Rattle.profile.specs.declared.Profile.{Profile}
 use Rattle.stream.specs.declared.Before.{Before}
 use Rattle.stream.specs.declared.Before.the-variants.{NoLine, RefusedLine, HandedOut}
-use Rattle.stream.specs.declared.Mark.{Mark}
 use Rattle.stream.specs.declared.Mark.the-variants.{Open}
 use Rattle.stream.specs.Answers.{facts, Outcome, line, isLine, require, goodGap, periodOf, byReading, answerOf}
 use Rattle.stream.specs.Stream.{State, fresh, beforeBy, answerAt, finish, run, outcomes}
 use Rattle.stream.specs.Written.{Sent, Writable, AllWritable, no-lines, and-line, markOf, content, endMark, tail, written}
-use Rattle.recovery.specs.Collected.{nothings, collected-append, collected-nothings}
-use Rattle.recovery.specs.Resync.{stateWith, opened, Opens, resync}
-use Rattle.recovery.specs.MarkFree.{Lengthens, no-mark, few-no-group, lineText, few-line, no-inner-mark}
-use Rattle.recovery.specs.ReadBack.{run-append, outcomes-append, sevenThen, MarkTold, marked, writtenWith, gapText, line-by-end, line-answer, no-group-gap, gap-answer, written-length}
+use Rattle.recovery.specs.Collected.{nothings}
+use Rattle.recovery.specs.CollectedLaws.{collected-append, collected-nothings}
+use Rattle.recovery.specs.Resync.{stateWith, opened}
+use Rattle.recovery.specs.ResyncLaws.{Opens, resync}
+use Rattle.recovery.specs.MarkFree.{Lengthens}
+use Rattle.recovery.specs.MarkFreeLaws.{no-mark, few-no-group, lineText, few-line, no-inner-mark}
+use Rattle.recovery.specs.ReadBack.{sevenThen, writtenWith, gapText}
+use Rattle.recovery.specs.ReadBackLaws.{run-append, outcomes-append, MarkTold, marked, line-by-end, line-answer, no-group-gap, gap-answer, written-length}
 use Rattle.recovery.specs.CleanAnswers.{saidIn, said, lineRead, gapRead, cleanAnswers}
 use Rattle.recovery.specs.CallAnswers.{broughtBy}
 use Rattle.flip_laws.specs.Flips.{Arrived, unflipped, repairBy, lineBy, gapBy, startAnswer, endAnswer, closedAnswers, flipAnswers}
-use Rattle.flip_laws.specs.FlippedCodesLaws.{readingBy, flipped-small, flipped-reads, startCode, endingCode}
+use Rattle.flip_laws.specs.FlippedCodes.{startCode, endingCode}
+use Rattle.flip_laws.specs.FlippedCodesLaws.{readingBy, flipped-small, flipped-reads}
+use Rattle.flip_laws.specs.Arrivals.{leftBy, arrival, endOf, leaves, LineArrives, allSent, arriving}
 
 -- The two answers of a line, by what is repaired of its two codes.
-
--- what the start mark is to the end mark
-abbrev leftBy : Sent → Option Repair → Option Repair → Before
-leftBy s none end = NoLine
-leftBy s (some r) none = RefusedLine (s .kind)
-leftBy s (some r) (some q) = HandedOut (s .kind)
 
 -- the period that a gap carries: none where finish closes it
 abbrev periodAt : ℕ → Option ℕ → ℕ
@@ -92,25 +91,6 @@ gap-said s none (some q) n = refl
 gap-said s (some r) (some q) n = refl
 
 -- One line.
-
--- its nibbles
-abbrev pub arrival : Arrived → List ℕ
-arrival a = writtenWith (startCode a) (endingCode a) (a .sent)
-
--- the end mark, when the start mark has been answered
-abbrev endOf : Arrived → Mark
-endOf a = Open (leftBy (a .sent) (repairBy (a .start)) (repairBy (a .end))) (endingCode a)
-
--- the state that they lead to: the end mark open, the gap and the nulls its text
-abbrev leaves : Arrived → State
-leaves a = stateWith (endOf a) (gapText (endingCode a) (a .sent))
-
--- what the nibbles of a line bring in any state, and where they lead
-pub record LineArrives (p : Profile) (a : Arrived) (x : State) : Type 0 where
-  -- after the start mark they bring nothing, but that the end code's last nibble brings the start mark's answer
-  pub told : outcomes p x (arrival a)
-      ≡ outcomes p x (markOf (startCode a)) ++ (nothings (content (a .sent)) ++ (sevenThen (startAnswer a) ++ nothings (tail (a .sent))))
-  leads : run p x (arrival a) ≡ leaves a
 
 not-end : (s : Sent) (r : Option Repair) → isEnd (readingBy (Line (s .kind)) r) ≡ false
 not-end s none = refl
@@ -207,15 +187,6 @@ module _ (p : Profile) (a : Arrived) (g : Writable p (a .sent)) where
   at-finish true = ap (λ (os : List Outcome). os ++ []) (answered none)
 
 -- All lines.
-
--- what was sent
-abbrev pub allSent : List Arrived → List Sent
-allSent all = map (λ a. a .sent) all
-
--- their nibbles
-abbrev pub arriving : List Arrived → List ℕ
-arriving [] = []
-arriving (a ∷ later) = arrival a ++ arriving later
 
 -- the line's answers and those of the lines after it, where these are the answers after the last start mark's
 abbrev toldThen : (Arrived → List Outcome) → Arrived → List Arrived → List Outcome

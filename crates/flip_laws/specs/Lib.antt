@@ -1,3 +1,5 @@
 pub mod Flips
+pub mod FlippedCodes
 pub mod FlippedCodesLaws
+pub mod Arrivals
 pub mod FlipsLaws

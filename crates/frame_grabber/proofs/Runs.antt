@@ -26,7 +26,8 @@ use Rattle.run.specs.Run.{Ran, lentRunOf, onward}
 use Rattle.run.specs.Gives.{LentRunGives}
 use Rattle.reader_laws.specs.Passing.{Ok}
 use Rattle.reader_laws.specs.SmallLaws.{small-drop}
-use Rattle.reader_laws.specs.ByRuns.{ByNibbles, RunOn, run-on, lent-onward}
+use Rattle.reader_laws.specs.ByRuns.{ByNibbles, RunOn}
+use Rattle.reader_laws.specs.ByRunsLaws.{run-on, lent-onward}
 use Rattle.capture_bytes.specs.UnpackedLaws.{nibbles-small}
 use Rattle.frame_rows.specs.declared.Gatherer.{Gatherer}
 use Rattle.frame_rows.specs.declared.Gathered.{Gathered}

@@ -32,6 +32,7 @@ use Rattle.frame_layout.specs.PlaceLaws.{kind-by-range, blank-after}
 use Rattle.frame_layout.specs.FrameLength.{frame-length}
 use Rattle.frame.specs.Calls.{Line, line, called, after, rulings, isComplete, accepts, acceptedOne, accepted, fits, laidFrom, FirstLines, IsFrame, numberedFrom, frameLines}
 use Rattle.bits.specs.Agree.{agree}
+use Rattle.frame_laws.specs.CompleteFrames.{toComplete, Completes}
 
 -- The layout.
 
@@ -454,10 +455,6 @@ from-call : (p : Profile) (j : Judge) (l : Line) (r : Judged) (ls : List Line) �
     → (rulings p j (l ∷ ls) ≡ r .ruling ∷ rulings p (r .judge) ls) × (after p j (l ∷ ls) ≡ after p (r .judge) ls)
 from-call p j l r ls e = (ap (λ (x : Judged). x .ruling ∷ rulings p (x .judge) ls) e, ap (λ (x : Judged). after p (x .judge) ls) e)
 
--- so many lines are Going, the last one Complete
-abbrev pub toComplete : ℕ → List Ruling
-toComplete n = replicate n ruling.Going ++ (ruling.Complete ∷ [])
-
 rest-complete : (p : Profile) (b : Borders) (n : ℕ) (l : Line) (ls : List Line) → suc n + length ls ≡ lastPlace p → laidFrom p b (suc n) (l ∷ ls) ≡ true
     → (rulings p (judgeAt p b (suc n)) (l ∷ ls) ≡ toComplete (length ls)) × (after p (judgeAt p b (suc n)) (l ∷ ls) ≡ Waiting)
 rest-complete p b n l [] e h =
@@ -466,10 +463,6 @@ rest-complete p b n l (m ∷ ls) e h =
     let f = from-call p (judgeAt p b (suc n)) l (goesOn p b (suc n)) (m ∷ ls) (fitting p b (suc n) l (goesOn p b (suc n)) (and-left _ _ h) (answers-going p b n (omega arith))) in
     let r = rest-complete p b (suc n) m ls (omega arith) (and-right (fits p b (suc n) l) _ h) in
     (f .0 ∙ ap (λ (vs : List Ruling). ruling.Going ∷ vs) (r .0), f .1 ∙ r .1)
-
--- the lines are answered v, then Going up to the last, which is Complete; then the judge waits
-abbrev pub Completes : Profile → Judge → Ruling → List Line → Type 0
-Completes p j v ls = (rulings p j ls ≡ v ∷ toComplete (lastPlace p - 1)) × (after p j ls ≡ Waiting)
 
 -- a whole frame is Complete wherever the judge is: in another frame its first line is refused, and opens it
 pub frame-complete-anywhere : (p : Profile) (j : Judge) → passes p j ≡ true → (b : Borders) (ls : List Line) → IsFrame p b ls → Completes p j (called p j (line (kindNumber SOF) 0) .ruling) ls

@@ -1,3 +1,4 @@
+pub mod CompleteFrames
 pub mod FrameLaws
 pub mod Drawn
 pub mod SentFrames

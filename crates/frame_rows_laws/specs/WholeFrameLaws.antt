@@ -20,7 +20,8 @@ use Rattle.frame.specs.declared.Ruling.the-variants as ruling
 use Rattle.frame_layout.specs.FrameLayout.{lastPlace}
 use Rattle.frame.specs.Frame.{begun, passes, judgeOf}
 use Rattle.frame.specs.Calls.{Line, line, called, rulings, IsFrame}
-use Rattle.frame_laws.specs.FrameLaws.{first-is, sof-within, Effect, wrongKind, wrongNumber, waits, breaks, strays, starts, restarts, goes, ends, effect, passes-after, reached-passes, toComplete, frame-complete}
+use Rattle.frame_laws.specs.CompleteFrames.{toComplete}
+use Rattle.frame_laws.specs.FrameLaws.{first-is, sof-within, Effect, wrongKind, wrongNumber, waits, breaks, strays, starts, restarts, goes, ends, effect, passes-after, reached-passes, frame-complete}
 use Rattle.frame_handing.specs.Handing.{handedLines}
 use Rattle.frame_row.specs.declared.Keeping.{Keeping}
 use Rattle.frame_rows.specs.declared.Gatherer.{Gatherer}

@@ -22,7 +22,8 @@ use Rattle.run.specs.Run.{Ran, lentRunOf, onward}
 use Rattle.run.specs.Gives.{LentRunGives}
 use Rattle.reader_laws.specs.Passing.{Ok}
 use Rattle.reader_laws.specs.SmallLaws.{small-drop}
-use Rattle.reader_laws.specs.ByRuns.{ByNibbles, took, RunOn, run-on, lent-onward}
+use Rattle.reader_laws.specs.ByRuns.{ByNibbles, took, RunOn}
+use Rattle.reader_laws.specs.ByRunsLaws.{run-on, lent-onward}
 use Rattle.capture_bytes.specs.UnpackedLaws.{nibbles-small}
 use Rattle.text.specs.Put.{Put, onFront}
 use Rattle.text.specs.PutLaws.{none, joined, on-front, put-length, put-within}

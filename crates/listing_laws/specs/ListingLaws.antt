@@ -16,7 +16,8 @@ use Rattle.reader.specs.declared.Reader.{Reader}
 use Rattle.reader.specs.Reader.{freshReader, feedOf}
 use Rattle.reader_laws.specs.Passing.{Small, small-none, small-more}
 use Rattle.recovery.specs.CleanAnswers.{saidIn, said, outcomesFinished}
-use Rattle.refinement.specs.Refine.{Follows, fresh-follows, feed-steps, finish-steps}
+use Rattle.refinement.specs.Refine.{Follows}
+use Rattle.refinement.specs.RefineLaws.{fresh-follows, feed-steps, finish-steps}
 use Rattle.capture_bytes.specs.UnpackedLaws.{nibbles-small}
 use Rattle.listers.specs.Lists.{endToEnd, PieceCalls}
 use Rattle.list_rows.specs.Rows.{headerRow, rowOf, rowRoom, rowIfRoom}

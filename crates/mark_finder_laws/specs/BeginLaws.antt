@@ -12,10 +12,11 @@ use Rattle.stream.specs.Answers.{Outcome, answerFor, isAnswer, turned}
 use Rattle.stream.specs.AnswersLaws.{no-answer}
 use Rattle.stream.specs.Stream.{State, Step, Completed, not-yet, mark, fresh, detect, advance, step, run, outcomes}
 use Rattle.recovery.specs.CleanAnswers.{saidIn, said}
-use Rattle.recovery.specs.Collected.{collected-append}
+use Rattle.recovery.specs.CollectedLaws.{collected-append}
 use Rattle.recovery.specs.CutTexts.{onto-append}
-use Rattle.recovery.specs.Marks.{onto, isMark, completes, MarkEnds, completes-there, marks-are-places}
-use Rattle.recovery.specs.ReadBack.{run-append, outcomes-append}
+use Rattle.recovery.specs.Marks.{onto, isMark, completes, MarkEnds}
+use Rattle.recovery.specs.MarksLaws.{completes-there, marks-are-places}
+use Rattle.recovery.specs.ReadBackLaws.{run-append, outcomes-append}
 use Rattle.mark_finder_laws.specs.Standing.{answers, beginFrom, beginIn, BeginsAt}
 
 -- Newest first, and back.

@@ -17,7 +17,8 @@ use Rattle.reader.specs.Reader.{Took, taking}
 use Rattle.run.specs.Run.{Ran, ran, onward}
 use Rattle.reader_laws.specs.Passing.{Small, small-none, small-more}
 use Rattle.recovery.specs.CleanAnswers.{saidIn, said}
-use Rattle.refinement.specs.Refine.{Follows, Steps, taking-steps}
+use Rattle.refinement.specs.Refine.{Follows}
+use Rattle.refinement.specs.RefineLaws.{Steps, taking-steps}
 use Rattle.mark_finder_laws.specs.Standing.{beginFrom}
 
 -- of the nibbles v from the state s on, i taken before

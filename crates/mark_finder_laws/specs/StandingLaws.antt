@@ -20,14 +20,15 @@ use Rattle.stream.specs.Stream.{State, fresh, run, outcomes, finish}
 use Rattle.stream.specs.Written.{nibbles}
 use Rattle.stream.specs.NibblesLaws.{nibbles-length, nibbles-append}
 use Rattle.recovery.specs.CleanAnswers.{saidIn, said}
-use Rattle.recovery.specs.Collected.{collected-append}
-use Rattle.recovery.specs.ReadBack.{run-append, outcomes-append}
+use Rattle.recovery.specs.CollectedLaws.{collected-append}
+use Rattle.recovery.specs.ReadBackLaws.{run-append, outcomes-append}
 use Rattle.recovery.specs.Damage.{outcomes-length, outcomes-take}
 use Rattle.reader.specs.Reader.{freshReader, finishOf}
 use Rattle.run.specs.Run.{Ran, onward}
 use Rattle.reader_laws.specs.SmallLaws.{small-drop}
-use Rattle.reader_laws.specs.ByRuns.{lent-onward}
-use Rattle.refinement.specs.Refine.{Follows, fresh-follows, finish-steps}
+use Rattle.reader_laws.specs.ByRunsLaws.{lent-onward}
+use Rattle.refinement.specs.Refine.{Follows}
+use Rattle.refinement.specs.RefineLaws.{fresh-follows, finish-steps}
 use Rattle.refinement.specs.Stored.{stored-length}
 use Rattle.capture_bytes.specs.Unpacked.{runFrom}
 use Rattle.capture_bytes.specs.UnpackedLaws.{nibbles-small}

@@ -24,13 +24,15 @@ use Rattle.reader_laws.specs.Passes.{passes-test, fresh-ok}
 use Rattle.reader_laws.specs.Passing.{Small, small-none, small-more}
 use Rattle.reader_laws.specs.SmallLaws.{small-append}
 use Rattle.recovery.specs.Calls.{lineIn}
-use Rattle.recovery.specs.Collected.{nothings, collected, collected-append, collected-nothings}
+use Rattle.recovery.specs.Collected.{nothings, collected, lines}
+use Rattle.recovery.specs.CollectedLaws.{collected-append, collected-nothings}
 use Rattle.recovery.specs.CleanAnswers.{lineRead}
 use Rattle.recovery.specs.WrittenLaws.{AllNibbles, no-nibble, and-nibble, all-changed}
-use Rattle.recovery.specs.Resync.{lines}
-use Rattle.recovery.specs.ReadBack.{seven, outcomes-append, restTold}
+use Rattle.recovery.specs.ReadBack.{seven, restTold}
+use Rattle.recovery.specs.ReadBackLaws.{outcomes-append}
 use Rattle.recovery.specs.Gaps.{after, back, sentGap, next-told}
-use Rattle.refinement.specs.Refine.{Follows, fresh-follows, feed-steps}
+use Rattle.refinement.specs.Refine.{Follows}
+use Rattle.refinement.specs.RefineLaws.{fresh-follows, feed-steps}
 use Rattle.frame_layout.specs.declared.Borders.{Borders}
 use Rattle.frame_handing.specs.declared.Handed.the-variants as hand
 use Rattle.frame.specs.declared.Judge.{Judge}

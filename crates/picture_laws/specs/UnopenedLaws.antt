@@ -29,7 +29,7 @@ use Rattle.stream.specs.declared.Mark.the-variants.{NoMark, Open}
 use Rattle.stream.specs.Answers.{facts, Outcome, nothing, line, gap, refused, bufferAfter, require, bytesOnto, lineFrom, lineAnswer, goodGap, periodOf, turned, allF, afterCode, gapAnswer, byReading, answerOf}
 use Rattle.stream.specs.Stream.{Completed, not-yet, mark, detect, State, answerAt, advance, step, outcomes}
 use Rattle.recovery.specs.Calls.{LineOut, lineIn}
-use Rattle.recovery.specs.Resync.{lines}
+use Rattle.recovery.specs.Collected.{lines}
 use Rattle.frame_handing.specs.declared.Handed.the-variants as hand
 use Rattle.frame.specs.declared.Judge.{Judge}
 use Rattle.frame.specs.declared.Judge.the-variants.{Waiting}

@@ -9,7 +9,8 @@ use lib.Dec.{leb}
 use Rattle.refusal.specs.Refusal.{badState, notANibble, noRoom}
 use Rattle.profile.specs.Profile.{bodyLength}
 use Rattle.stream.specs.Answers.{nothing}
-use Rattle.mark_answer.specs.Sound.{Sound, sound-nothing, kept-sound, Legible, legible}
+use Rattle.mark_answer.specs.Sound.{Sound, sound-nothing, Legible}
+use Rattle.mark_answer.specs.SoundLaws.{kept-sound, legible}
 use Rattle.reader_head.specs.declared.Head.{Head}
 use Rattle.reader.specs.declared.Reader.{Reader}
 use Rattle.reader_head.specs.Head.{isMark, slide, leaveKept, leaveBody, shifted, opened, passes}

@@ -3,3 +3,4 @@ pub mod SmallLaws
 pub mod Bodies
 pub mod Passes
 pub mod ByRuns
+pub mod ByRunsLaws

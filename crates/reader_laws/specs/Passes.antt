@@ -24,9 +24,10 @@ use Rattle.reader_head.specs.declared.Head.{Head}
 use Rattle.reader.specs.declared.Reader.{Reader}
 use Rattle.reader_head.specs.Head.{topPlace, groupNumber, isMark, slide, countStop, bump, leaveKept, leaveBody, shifted, opened, aged, windowFits, handedFits, passes, flushed}
 use Rattle.reader.specs.Reader.{Took, freshReader, refusing, takeHead, takeOutcome, taking, feedOf, finishOf}
-use Rattle.reader_laws.specs.Passing.{Fits, Passed, Byte, Ok}
+use Rattle.reader_laws.specs.Passing.{Fits, Passed, Byte, Ok, finished}
 use Rattle.mark_text.specs.MarkTextLaws.{gap-start-small}
-use Rattle.mark_answer.specs.Sound.{Sound, line-ends, kept-sound, refusalOf, at-most-nine}
+use Rattle.mark_answer.specs.Sound.{Sound, refusalOf}
+use Rattle.mark_answer.specs.SoundLaws.{line-ends, kept-sound, at-most-nine}
 use Rattle.reader_head.specs.HeadLaws.{bump-more}
 use Rattle.reader.specs.ReaderLaws.{take-sound}
 
@@ -251,14 +252,6 @@ feeding r n room = go (passes (r .head)) (leb n 15) (leb (bodyLength (r .head .p
     go true false c e f g = feed-nibble (leb-false n 15 f)
     go true true false e f g = feed-room (leb-false (bodyLength (r .head .profile)) room g)
     go true true true e f g = feed-taken (let l = leb-true n 15 f in omega arith)
-
--- finish where the test passes
-abbrev pub finished : Reader → Took
-finished r =
-    record {
-      reader = freshReader (r .head .profile);
-      outcome = keptAnswer (r .head .profile) (r .head .at) (r .head .count) (flushed 8 (r .head) .kept) [] none;
-    }
 
 finish-sound : (r : Reader) → Sound (r .head .profile) (finished r .outcome)
 finish-sound r = kept-sound (r .head .profile) (r .head .at) (r .head .count) (flushed 8 (r .head) .kept) [] none

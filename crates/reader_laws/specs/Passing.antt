@@ -7,7 +7,11 @@ use Rattle.profile.specs.Profile.{gapStart}
 use Rattle.stream.specs.declared.Mark.{Mark}
 use Rattle.stream.specs.declared.Mark.the-variants.{NoMark, Open}
 use Rattle.reader_head.specs.declared.Head.{Head}
-use Rattle.reader_head.specs.Head.{isMark, countStop, aged, handedFits}
+use Rattle.reader_head.specs.Head.{isMark, countStop, aged, handedFits, flushed}
+use mathlib.Core.Option.{none}
+use Rattle.mark_answer.specs.KeptAnswer.{keptAnswer}
+use Rattle.reader.specs.declared.Reader.{Reader}
+use Rattle.reader.specs.Reader.{Took, freshReader}
 
 -- each number is a nibble
 pub data Small : List ℕ → Type 0 where
@@ -41,3 +45,11 @@ Byte (Open before code) = code < 256
 pub record Ok (h : Head) : Type 0 where
   pub byte : Byte (h .at)
   pub test : Passed h
+
+-- finish where the test passes
+abbrev pub finished : Reader → Took
+finished r =
+    record {
+      reader = freshReader (r .head .profile);
+      outcome = keptAnswer (r .head .profile) (r .head .at) (r .head .count) (flushed 8 (r .head) .kept) [] none;
+    }

@@ -17,11 +17,12 @@ use Rattle.line_code.specs.declared.LineKind.{LineKind}
 use Rattle.line_code.specs.declared.LineKind.the-variants.{NotLine, LineOf}
 use Rattle.stream.specs.Answers.{Outcome, nothing, isLine, turned, answerOf}
 use Rattle.stream.specs.Stream.{State, fresh, group, strip, Completed, not-yet, mark, markIf, detect, kindAt, beforeBy, answerAt, advance, step, run, outcomes}
-use Rattle.recovery.specs.Marks.{onto, isMark, completes, strip-none, marks-are-places}
+use Rattle.recovery.specs.Marks.{onto, isMark, completes}
+use Rattle.recovery.specs.MarksLaws.{strip-none, marks-are-places}
 use Rattle.recovery.specs.AnswerLaws.{mark-cases}
 use Rattle.recovery.specs.CutTexts.{onto-append}
 use Rattle.recovery.specs.Resync.{stateWith}
-use Rattle.recovery.specs.ReadBack.{run-append}
+use Rattle.recovery.specs.ReadBackLaws.{run-append}
 use Rattle.reason.specs.declared.Next.{Next}
 use Rattle.reason.specs.declared.Next.the-variants.{Finish, Code}
 use Rattle.reason.specs.Explanation.{opener, codeAfter, codeAt, isCode, nextMark, textIn, nextIn}

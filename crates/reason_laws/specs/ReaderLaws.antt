@@ -18,18 +18,20 @@ use Rattle.profile.specs.Profile.{profileNumbered, profileNumber, bodyLength}
 use Rattle.stream.specs.declared.Mark.the-variants.{Open}
 use Rattle.stream.specs.Answers.{Outcome, nothing, line, gap, refused, turned}
 use Rattle.stream.specs.Stream.{State, Completed, not-yet, mark, fresh, detect, kindAt, advance, step, finish, run, outcomes}
-use Rattle.recovery.specs.Marks.{onto, isMark, completes, marks-are-places}
+use Rattle.recovery.specs.Marks.{onto, isMark, completes}
+use Rattle.recovery.specs.MarksLaws.{marks-are-places}
 use Rattle.recovery.specs.Calls.{markNibbles}
 use Rattle.recovery.specs.CallAnswers.{markCollector, broughtBy}
 use Rattle.recovery.specs.CleanAnswers.{saidIn, said}
-use Rattle.recovery.specs.Collected.{collected-append}
+use Rattle.recovery.specs.CollectedLaws.{collected-append}
 use Rattle.recovery.specs.CutTexts.{onto-append}
 use Rattle.recovery.specs.Resync.{stateWith}
-use Rattle.recovery.specs.ReadBack.{run-append, outcomes-append}
+use Rattle.recovery.specs.ReadBackLaws.{run-append, outcomes-append}
 use Rattle.reader.specs.Reader.{freshReader}
 use Rattle.reader_laws.specs.Passing.{Small, small-none, small-more}
 use Rattle.reader_laws.specs.SmallLaws.{small-append}
-use Rattle.refinement.specs.Refine.{fresh-follows, fedReader, fed-follows, refines, finish-refines}
+use Rattle.refinement.specs.Refine.{fedReader}
+use Rattle.refinement.specs.RefineLaws.{fresh-follows, fed-follows, refines, finish-refines}
 use Rattle.refinement.specs.RunAnswers.{runsFinish}
 use Rattle.refinement.specs.RunAnswersLaws.{runs-said}
 use Rattle.refinement.specs.Runs.{RunCall, FinishLastRun, runsTaken, runsCollected}

@@ -9,8 +9,10 @@ use Rattle.stream.specs.Answers.{Outcome, goodGap}
 use Rattle.stream.specs.Stream.{State, fresh, finish, run, outcomes}
 use Rattle.stream.specs.Written.{Sent, Writable, AllWritable, no-lines, and-line, content, tail, written, stream}
 use Rattle.recovery.specs.Calls.{lineIn, asSent, gapIn, gapAsSent}
-use Rattle.recovery.specs.Collected.{collected-append, collected-nothings, nothings}
-use Rattle.recovery.specs.ReadBack.{run-append, outcomes-append, restTold, read-back}
+use Rattle.recovery.specs.Collected.{nothings}
+use Rattle.recovery.specs.CollectedLaws.{collected-append, collected-nothings}
+use Rattle.recovery.specs.ReadBack.{restTold}
+use Rattle.recovery.specs.ReadBackLaws.{run-append, outcomes-append, read-back}
 use Rattle.recovery.specs.Gaps.{after, back, sentGap, next-told}
 use Rattle.recovery.specs.CleanAnswers.{saidIn, said, outcomesFinished, lineRead, gapRead, cleanAnswers}
 

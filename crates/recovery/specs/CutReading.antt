@@ -23,9 +23,11 @@ use Rattle.stream.specs.Answers.{Outcome, nothing, line, gap, refused, require,
 use Rattle.stream.specs.Stream.{State, Completed, answerAt, advance, step, finish, run, outcomes}
 use Rattle.stream.specs.Written.{mostText, markOf}
 use Rattle.recovery.specs.Marks.{onto}
-use Rattle.recovery.specs.Collected.{nothings, collected-nothings}
-use Rattle.recovery.specs.Resync.{stateWith, opened, becomes, byte-joined}
-use Rattle.recovery.specs.MarkFree.{NoGroup, no-group-more, no-group-onto, no-group-older, none-completed}
+use Rattle.recovery.specs.Collected.{nothings}
+use Rattle.recovery.specs.CollectedLaws.{collected-nothings}
+use Rattle.recovery.specs.Resync.{stateWith, opened, becomes}
+use Rattle.recovery.specs.ResyncLaws.{byte-joined}
+use Rattle.recovery.specs.MarkFreeLaws.{NoGroup, no-group-more, no-group-onto, no-group-older, none-completed}
 use Rattle.recovery.specs.Gaps.{endCode}
 use Rattle.recovery.specs.CleanAnswers.{saidIn, said}
 use Rattle.recovery.specs.CutStream.{Tidy, tidy-none, tidy-line, tidy-both, Orderly, all-tidy, began-within, LastAnswer, no-mark-read, within-line, within-gap, gap-closed, end-alone, TextShort}

@@ -13,8 +13,7 @@ use Rattle.stream.specs.Answers.{Outcome, nothing, line, gap, refused}
 use Rattle.stream.specs.Stream.{State, fresh, finish, run, outcomes}
 use Rattle.stream.specs.Written.{Sent, mostText, stream}
 use Rattle.recovery.specs.Calls.{asSent, endedBy, startFrom, linesFrom, gapAsSent, closedBy}
-use Rattle.recovery.specs.Resync.{lines}
-use Rattle.recovery.specs.Gaps.{gaps}
+use Rattle.recovery.specs.Collected.{lines, gaps}
 use Rattle.recovery.specs.CleanAnswers.{said}
 
 -- the nibbles of a clean stream from the place i on: n of them, or fewer where it ends

@@ -27,13 +27,15 @@ use Rattle.stream.specs.Stream.{State, fresh, beforeBy, answerAt, finish, run, 
 use Rattle.stream.specs.Written.{Sent, mostText, Writable, AllWritable, no-lines, and-line, startMark, content, endMark, tail, written, stream}
 use Rattle.recovery.specs.Calls.{lineIn, asSent, gapIn, gapAsSent, endedBy, startFrom, linesFrom, closedBy}
 use Rattle.recovery.specs.Marks.{onto}
-use Rattle.recovery.specs.Collected.{collected, collected-nothings, take-past}
-use Rattle.recovery.specs.Resync.{lines, stateWith, becomes}
-use Rattle.recovery.specs.MarkFree.{NoGroup, no-group-empty, few-no-group, lineText, few-line}
-use Rattle.recovery.specs.ReadBack.{outcomes-append, marked, restTold, read-small, gapText, body-long, line-answer, gap-answer, no-group-gap, length-onto}
+use Rattle.recovery.specs.Collected.{collected, lines, gaps}
+use Rattle.recovery.specs.CollectedLaws.{collected-nothings, take-past}
+use Rattle.recovery.specs.Resync.{stateWith, becomes}
+use Rattle.recovery.specs.MarkFreeLaws.{NoGroup, no-group-empty, few-no-group, lineText, few-line}
+use Rattle.recovery.specs.ReadBack.{restTold, gapText}
+use Rattle.recovery.specs.ReadBackLaws.{outcomes-append, marked, read-small, body-long, line-answer, gap-answer, no-group-gap, length-onto}
 use Rattle.stream.specs.NibblesLaws.{nibbles-length}
 use Rattle.recovery.specs.Damage.{outcomes-take, outcomes-length, lines-up-to, writable-from}
-use Rattle.recovery.specs.Gaps.{gaps, endCode, after, back, rest-none, gaps-up-to}
+use Rattle.recovery.specs.Gaps.{endCode, after, back, rest-none, gaps-up-to}
 use Rattle.recovery.specs.CleanAnswers.{said}
 use Rattle.recovery.specs.CutStream.{cutOut, Orderly, LastAnswer, TextShort, CutStream}
 use Rattle.recovery.specs.CutTexts.{no-group-cut}

@@ -11,8 +11,9 @@ use lib.Dec.{eqb}
 use lib.ListN.{length, take, drop, take-append-drop}
 use Rattle.stream.specs.Stream.{group, strip}
 use Rattle.stream.specs.Written.{markOf}
-use Rattle.recovery.specs.Marks.{onto, strip-none}
-use Rattle.recovery.specs.MarkFree.{NoGroup, no-group-empty, no-group-more}
+use Rattle.recovery.specs.Marks.{onto}
+use Rattle.recovery.specs.MarksLaws.{strip-none}
+use Rattle.recovery.specs.MarkFreeLaws.{NoGroup, no-group-empty, no-group-more}
 
 -- what is left of a text, newest first, without its oldest nibbles
 onto-below : (t old w : List ℕ) → onto (t ++ old) w ≡ onto t w ++ old

@@ -18,9 +18,10 @@ use Rattle.stream.specs.Answers.{facts, Outcome, line}
 use Rattle.stream.specs.Stream.{State, step, run, outcomes}
 use Rattle.stream.specs.Written.{Sent, Writable, AllWritable, no-lines, and-line, startMark, content, endMark, tail, written, stream}
 use Rattle.recovery.specs.Calls.{LineOut, lineIn, asSent, changed, upToEnd, endedBy, startFrom, linesFrom, startAfter}
-use Rattle.recovery.specs.Collected.{nothings, collected, collected-append, collected-nothings, front-collected, map-test}
-use Rattle.recovery.specs.Resync.{lines}
-use Rattle.recovery.specs.ReadBack.{seven, outcomes-append, comes-back}
+use Rattle.recovery.specs.Collected.{nothings, collected, lines}
+use Rattle.recovery.specs.CollectedLaws.{collected-append, collected-nothings, front-collected, map-test}
+use Rattle.recovery.specs.ReadBack.{seven}
+use Rattle.recovery.specs.ReadBackLaws.{outcomes-append, comes-back}
 
 -- Lines of nibbles.
 

@@ -9,7 +9,6 @@ use native.Mathlib.Omega.{arith}
 use lib.Dec.{eqb, leb}
 use lib.ListN.{length, take, drop, length-append}
 use lib.Seq.{take-at, drop-at, length-take-le}
-use borrow.Author.Tests.{ne-eqb}
 use Rattle.refusal.specs.Refusal.{notANibble, noRoom}
 use Rattle.line_code.specs.declared.Meaning.the-variants.{Line}
 use Rattle.profile.specs.declared.Profile.{Profile}
@@ -21,11 +20,12 @@ use Rattle.stream.specs.Answers.{Outcome, nothing, line, gap, refused, outcomeO
 use Rattle.stream.specs.Stream.{State, fresh, step, finish, outcomes}
 use Rattle.stream.specs.Written.{Sent, AllWritable, stream}
 use Rattle.recovery.specs.Calls.{Call, feed, done, FinishLast, no-call, done-last, feed-first, CallResult, takes, takenBy, changed, startAfter, linesFrom, gapAsSent, closed, markNibbles, Collector, collects, lineCollector, gapCollector, onCollected, onRun, onTaken, onLines, onGaps, MeetsDemandThree, fed, meaningCall}
+use Rattle.recovery.specs.CallsLaws.{others-take}
 use Rattle.recovery.specs.AnswerLaws.{step-cases}
-use Rattle.recovery.specs.Collected.{collected}
-use Rattle.recovery.specs.Resync.{lines, BringsNoLine, no-line}
+use Rattle.recovery.specs.Collected.{collected, lines, gaps}
+use Rattle.recovery.specs.ResyncLaws.{BringsNoLine, no-line}
 use Rattle.recovery.specs.Damage.{by-test, places-within, drop-changed, writable-from, recovers}
-use Rattle.recovery.specs.Gaps.{gaps, gaps-before, gaps-from}
+use Rattle.recovery.specs.Gaps.{gaps-before, gaps-from}
 
 -- Calls and the nibbles that they take.
 
@@ -39,7 +39,7 @@ said p s n buffer =
 pub step-taken : (p : Profile) (s : State) (n : ℕ) (w : List ℕ) → takes (answerFor (step p s n .outcome)) n w ≡ n ∷ w
 step-taken p s n w =
     step-cases (λ (o : Outcome). takes (answerFor o) n w ≡ n ∷ w) refl (λ g. refl)
-    (λ m l. ap₂ (λ (x y : Bool). cond (x || y) w (n ∷ w)) (ne-eqb m notANibble (λ q. omega arith)) (ne-eqb m noRoom (λ q. omega arith))) p s n
+    (λ m l. others-take m n w (λ q. omega arith) (λ q. omega arith)) p s n
     (λ f body e. refl)
 
 -- What is collected of calls is collected of the nibbles that they take, where nothing and a refusal bring none, and finish brings none.

@@ -19,14 +19,12 @@ use Rattle.stream.specs.Answers.{Outcome, goodGap}
 use Rattle.stream.specs.Stream.{State, fresh, run, outcomes}
 use Rattle.stream.specs.Written.{Sent, Writable, AllWritable, no-lines, and-line, startMark, content, tail, written, stream}
 use Rattle.recovery.specs.Calls.{gapIn, gapAsSent, closedBy, closed, markNibbles}
-use Rattle.recovery.specs.Collected.{nothings, collected, collected-append, collected-nothings, take-past, front-collected, map-test}
+use Rattle.recovery.specs.Collected.{nothings, collected, gaps}
+use Rattle.recovery.specs.CollectedLaws.{collected-append, collected-nothings, take-past, front-collected, map-test}
 use Rattle.recovery.specs.Resync.{stateWith}
-use Rattle.recovery.specs.ReadBack.{seven, outcomes-append, gapText, restTold, ComesBack, comes-back, gap-told}
+use Rattle.recovery.specs.ReadBack.{seven, gapText, restTold}
+use Rattle.recovery.specs.ReadBackLaws.{outcomes-append, ComesBack, comes-back, gap-told}
 use Rattle.recovery.specs.Damage.{outcomes-take, outcomes-length}
-
--- the good gaps that nibbles bring out
-abbrev pub gaps : Profile → State → List ℕ → List GapFacts
-gaps p s w = collected gapIn (outcomes p s w)
 
 -- Gaps of a line as written.
 

@@ -1,11 +1,17 @@
 pub mod Calls
+pub mod CallsLaws
 pub mod Marks
+pub mod MarksLaws
 pub mod AnswerLaws
 pub mod AnswerTable
 pub mod Collected
+pub mod CollectedLaws
 pub mod Resync
+pub mod ResyncLaws
 pub mod MarkFree
+pub mod MarkFreeLaws
 pub mod ReadBack
+pub mod ReadBackLaws
 pub mod Damage
 pub mod Gaps
 pub mod CleanAnswers

@@ -12,9 +12,10 @@ use Rattle.profile.specs.declared.Profile.{Profile}
 use Rattle.stream.specs.declared.Mark.{Mark}
 use Rattle.stream.specs.Answers.{groupNibbles}
 use Rattle.stream.specs.Stream.{fresh, group, Completed, not-yet, mark, detect, answerAt, advance, run}
-use Rattle.recovery.specs.Marks.{onto, isMark, completes, Since, all-taken, since-group, detected, kept-completes}
+use Rattle.recovery.specs.Marks.{onto, isMark, completes, Since, all-taken, since-group}
+use Rattle.recovery.specs.MarksLaws.{detected, kept-completes}
 use Rattle.recovery.specs.MarkPlaces.{Noted, marksOf}
-use Rattle.recovery.specs.ReadBack.{length-onto}
+use Rattle.recovery.specs.ReadBackLaws.{length-onto}
 use Rattle.recovery.specs.Periods as periods
 use Rattle.recovery.specs.Periods.{Stands, stands-all}
 use Rattle.recovery.specs.CutTexts.{onto-append, onto-split}

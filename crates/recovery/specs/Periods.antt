@@ -35,8 +35,9 @@ use Rattle.stream.specs.Written.{Sent, Writable, content, endMark, tail, writte
 use Rattle.stream.specs.NibblesLaws.{nibbles-length}
 use Rattle.recovery.specs.Calls.{gapAsSent, markNibbles}
 use Rattle.recovery.specs.MarkPlaces.{Noted, noted, notedFrom, marksOf, periodBy}
-use Rattle.recovery.specs.ReadBack.{body-long}
-use Rattle.recovery.specs.Marks.{onto, isMark, Since, all-taken, since-group, kept-completes, kept-step, detected}
+use Rattle.recovery.specs.ReadBackLaws.{body-long}
+use Rattle.recovery.specs.Marks.{onto, isMark, Since, all-taken, since-group}
+use Rattle.recovery.specs.MarksLaws.{kept-completes, kept-step, detected}
 
 -- A gap's period is the one that its mark has for it.
 

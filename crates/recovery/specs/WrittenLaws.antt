@@ -25,7 +25,7 @@ use Rattle.profile.specs.Layout.{isPixel, allows, fits, rules, bothAre, gapFits
 use Rattle.stream.specs.Written.{Sent, Writable, AllWritable, no-lines, and-line, nibbles, markOf, content, written, stream}
 use Rattle.line_number.specs.LineNumberLaws.{byte-small}
 use Rattle.recovery.specs.Calls.{changed}
-use Rattle.recovery.specs.ReadBack.{read-small}
+use Rattle.recovery.specs.ReadBackLaws.{read-small}
 
 -- each is 0 to 15
 pub data AllNibbles : List ℕ → Type 0 where

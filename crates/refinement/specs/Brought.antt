@@ -12,7 +12,8 @@ use Rattle.stream.specs.Stream.{fresh}
 use Rattle.reader.specs.declared.Reader.{Reader}
 use Rattle.reader.specs.Reader.{freshReader}
 use Rattle.recovery.specs.Calls.{feed, done, Collector}
-use Rattle.recovery.specs.Collected.{collected, collected-append}
+use Rattle.recovery.specs.Collected.{collected}
+use Rattle.recovery.specs.CollectedLaws.{collected-append}
 use Rattle.recovery.specs.CleanAnswers.{saidIn, said}
 use Rattle.recovery.specs.CallAnswers.{markAnswerIn, markCollector, broughtBy}
 use Rattle.refinement.specs.Runs.{RunCall, run, one, runResult, runsTaken, runCollects, runsCollected, FinishLastRun}

@@ -7,7 +7,7 @@ use Rattle.profile.specs.Profile.{bodyLength}
 use Rattle.reader.specs.declared.Reader.{Reader}
 use Rattle.reader_head.specs.Head.{passes}
 use Rattle.reader.specs.Reader.{Took, refusing, taking}
-use Rattle.reader_laws.specs.Passes.{finished}
+use Rattle.reader_laws.specs.Passing.{finished}
 
 -- feeding the input n, with a buffer of so many bytes
 pub data FeedTable (r : Reader) (n room : ℕ) : Took → Type 0 where

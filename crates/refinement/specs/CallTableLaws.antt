@@ -10,7 +10,7 @@ use Rattle.profile.specs.Profile.{bodyLength}
 use Rattle.reader.specs.declared.Reader.{Reader}
 use Rattle.reader_head.specs.Head.{passes}
 use Rattle.reader.specs.Reader.{Took, refusing, taking, feedOf, finishOf}
-use Rattle.reader_laws.specs.Passes.{finished}
+use Rattle.reader_laws.specs.Passing.{finished}
 use Rattle.refinement.specs.CallTable.{FeedTable, bad-state, not-a-nibble, no-room, taken, FinishTable, finish-bad, finish-good}
 
 module _ (r : Reader) (n room : ℕ) where

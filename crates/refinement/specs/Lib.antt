@@ -1,9 +1,13 @@
 pub mod CallTable
 pub mod CallTableLaws
 pub mod Window
+pub mod WindowLaws
+pub mod StoredText
 pub mod Stored
 pub mod Refine
+pub mod RefineLaws
 pub mod ReaderCalls
+pub mod ReaderCallsLaws
 pub mod Runs
 pub mod RunsLaws
 pub mod RunsReached

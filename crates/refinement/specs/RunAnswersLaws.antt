@@ -17,8 +17,10 @@ use Rattle.recovery.specs.DemandThree.{same-run, same-collected, same-taken}
 use Rattle.recovery.specs.CleanAnswers.{said}
 use Rattle.recovery.specs.CallAnswers.{markCollector, withFinish, broughtBy}
 use Rattle.recovery.specs.CallAnswersLaws.{calls-run, calls-said}
-use Rattle.refinement.specs.Refine.{Follows, fresh-follows}
-use Rattle.refinement.specs.ReaderCalls.{readerCall, alike}
+use Rattle.refinement.specs.Refine.{Follows}
+use Rattle.refinement.specs.RefineLaws.{fresh-follows}
+use Rattle.refinement.specs.ReaderCalls.{readerCall}
+use Rattle.refinement.specs.ReaderCallsLaws.{alike}
 use Rattle.refinement.specs.Runs.{RunCall, run, one, runResult, onRuns, runsTaken, runsCollected, feeds, starts, allOneByOne, FinishLastRun}
 use Rattle.refinement.specs.RunsLaws.{same-list, finish-last}
 use Rattle.refinement.specs.RunAnswers.{runsFinish}

@@ -13,6 +13,8 @@ use Rattle.reader.specs.declared.Reader.{Reader}
 use Rattle.reader_head.specs.Head.{passes}
 use Rattle.recovery.specs.Calls.{feed, CallResult}
 use Rattle.refinement.specs.ReaderCalls.{readerCall}
+use Rattle.run.specs.Run.{runOf}
+use Rattle.refinement.specs.Runs.{run, runResult}
 
 -- a call that leaves the buffer as it was
 abbrev pub untouched : Reader → Answer → List ℕ → CallResult Reader
@@ -45,3 +47,7 @@ pub data RunDoes (r : Reader) (buffer : List ℕ) : List ℕ → CallResult Read
   -- an input above 15 before any answer: 10, just before that place; what was taken stays taken
   to-no-nibble : (before after : List ℕ) (n : ℕ) {there : Reader} → Begins r buffer → Quiet buffer r before there → 15 < n
       → RunDoes r buffer (before ++ (n ∷ after)) (untouched there (answers.Refused notANibble) buffer) (length before)
+
+-- a run's result and its count are these
+abbrev pub RunIs : Reader → List ℕ → List ℕ → CallResult Reader → ℕ → Type 0
+RunIs r w buffer c k = (runResult r (run w buffer) ≡ c) × (runOf r w (length buffer) .taken ≡ k)

@@ -26,7 +26,7 @@ use Rattle.recovery.specs.Calls.{feed, CallResult}
 use Rattle.refinement.specs.ReaderCalls.{gives, readerCall}
 use Rattle.refinement.specs.Runs.{run, runResult}
 use Rattle.refinement.specs.RunsLaws.{fed-taken}
-use Rattle.refinement.specs.RunBySingles.{untouched, Quiet, no-single, and-single, Begins, RunDoes, bad-state, no-room, to-its-end, to-an-answer, to-no-nibble}
+use Rattle.refinement.specs.RunBySingles.{untouched, Quiet, no-single, and-single, Begins, RunDoes, bad-state, no-room, to-its-end, to-an-answer, to-no-nibble, RunIs}
 
 -- what a run gives back, of what it does and the buffer lent to it
 abbrev gaveBack : Ran → List ℕ → CallResult Reader
@@ -148,10 +148,6 @@ past-quiet buffer (and-single {r} {next} {end} {n} {w = later} l e q) ok room =
           ∙ k .goes w (i + 1)
           ∙ ap (onward end w) (let z : i + 1 + length later ≡ i + suc (length later) = omega arith in z));
     }
-
--- a run's result and its count are these
-abbrev RunIs : Reader → List ℕ → List ℕ → CallResult Reader → ℕ → Type 0
-RunIs r w buffer c k = (runResult r (run w buffer) ≡ c) × (runOf r w (length buffer) .taken ≡ k)
 
 run-is : (r : Reader) (w buffer : List ℕ) (t : Ran) {c : CallResult Reader} {k : ℕ} → runOf r w (length buffer) ≡ t → gaveBack t buffer ≡ c → t .taken ≡ k
     → RunIs r w buffer c k

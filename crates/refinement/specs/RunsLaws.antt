@@ -17,7 +17,8 @@ use Rattle.reader.specs.declared.Reader.{Reader}
 use Rattle.reader.specs.Reader.{Took, freshReader, refusing, taking, feedOf}
 use Rattle.run.specs.Run.{Ran, ran, stops, stopPlace, runOf, onward}
 use Rattle.stream.specs.AnswersLaws.{no-answer}
-use Rattle.mark_answer.specs.Sound.{refusalOf, at-most-nine}
+use Rattle.mark_answer.specs.Sound.{refusalOf}
+use Rattle.mark_answer.specs.SoundLaws.{at-most-nine}
 use Rattle.reader.specs.ReaderLaws.{take-profile, take-sound}
 use Rattle.recovery.specs.Calls.{Call, feed, FinishLast, takes, Collector, lineCollector, gapCollector, onRun, onTaken, onCollected}
 use Rattle.recovery.specs.Calls as calls
@@ -25,7 +26,8 @@ use Rattle.recovery.specs.DemandThree.{taking-by, taking-append, taken-append, 
 use Rattle.reader_laws.specs.Passes.{passes-test, fresh-ok, take-ok}
 use Rattle.reader_laws.specs.Passing.{Ok}
 use Rattle.refinement.specs.Refine.{fedOutcomes}
-use Rattle.refinement.specs.ReaderCalls.{readerCall, calls-ok, reader-demand-three}
+use Rattle.refinement.specs.ReaderCalls.{readerCall}
+use Rattle.refinement.specs.ReaderCallsLaws.{calls-ok, reader-demand-three}
 use Rattle.refinement.specs.Runs.{RunCall, run, one, runResult, runTakes, onRuns, runsTaken, runCollects, runsCollected, answerCollector, feeds, starts, oneByOne, allOneByOne, FinishLastRun, no-call, done-last, feed-first, run-first, SameAsFeeds, RunsMeetDemandThree}
 
 -- One nibble of a run, as a feeding call.

@@ -16,11 +16,12 @@ use Rattle.reader.specs.declared.Reader.{Reader}
 use Rattle.reader_head.specs.Head.{passes}
 use Rattle.reader.specs.Reader.{freshReader, taking}
 use Rattle.run.specs.Run.{ran, onward, runOf}
-use Rattle.mark_answer.specs.Sound.{refusalOf, at-most-nine}
+use Rattle.mark_answer.specs.Sound.{refusalOf}
+use Rattle.mark_answer.specs.SoundLaws.{at-most-nine}
 use Rattle.reader.specs.ReaderLaws.{take-sound}
 use Rattle.reader_laws.specs.Passes.{passes-test, fresh-ok}
 use Rattle.reader_laws.specs.Passing.{Ok}
-use Rattle.refinement.specs.ReaderCalls.{answered, eleven, calls-ok}
+use Rattle.refinement.specs.ReaderCallsLaws.{answered, eleven, calls-ok}
 use Rattle.refinement.specs.Runs.{RunCall, run, one, runResult, onRuns, allOneByOne}
 use Rattle.refinement.specs.RunsLaws.{same-as-feeds}
 

@@ -31,22 +31,12 @@ use Rattle.stream.specs.Answers.{facts, Outcome, line, refused, require, goodGa
 use Rattle.stream.specs.Stream.{answerAt}
 use Rattle.mark_text.specs.declared.Kept.{Kept}
 use Rattle.reader_laws.specs.Bodies.{bodyBy, length-body}
-use Rattle.mark_text.specs.MarkText.{bodyPlace, nothingKept, byteAt, strayAt, keptAt, bodyAt}
+use Rattle.mark_text.specs.MarkText.{bodyPlace, byteAt, strayAt, keptAt, bodyAt}
 use Rattle.gap_answer.specs.KeptGap.{keptGap}
 use Rattle.line_answer.specs.KeptLine.{keptLine}
 use Rattle.mark_answer.specs.KeptAnswer.{keptByMeaning, keptByReading, keptAnswer}
 use Rattle.profile.specs.LayoutLaws.{body-small}
-
--- What is kept of a text, newest first, that has all left the window: the number of a nibble is the count of those older.
-
-abbrev pub storedKept : Profile → List ℕ → Kept
-storedKept p [] = nothingKept
-storedKept p (v ∷ c) = keptAt p (length c) v (storedKept p c)
-
--- the body, from the one that stood there at the mark
-abbrev pub storedBody : List ℕ → List ℕ → List ℕ
-storedBody b [] = b
-storedBody b (v ∷ c) = bodyAt (length c) v (storedBody b c)
+use Rattle.refinement.specs.StoredText.{storedKept, storedBody}
 
 -- The text's nibbles, by number.
 

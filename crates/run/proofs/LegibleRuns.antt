@@ -6,7 +6,8 @@ use Prim.Native.Nat.{ℕ, _+_}
 use lib.Dec.{leb}
 use Rattle.refusal.specs.Refusal.{notANibble}
 use Rattle.stream.specs.Answers.{refused, answerFor, isAnswer}
-use Rattle.mark_answer.specs.Sound.{Legible, legible}
+use Rattle.mark_answer.specs.Sound.{Legible}
+use Rattle.mark_answer.specs.SoundLaws.{legible}
 use Rattle.reader.specs.declared.Reader.{Reader}
 use Rattle.reader.specs.Reader.{Took, taking}
 use Rattle.reader.specs.ReaderLaws.{take-profile, take-sound}

@@ -1,4 +1,5 @@
 pub mod Run
+pub mod Stopping
 pub mod RunLaws
 pub mod Gives
 pub mod Parts

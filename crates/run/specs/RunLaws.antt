@@ -17,19 +17,9 @@ use Rattle.reader.specs.declared.Reader.{Reader}
 use Rattle.reader_head.specs.Head.{passes}
 use Rattle.reader.specs.Reader.{Took, taking}
 use Rattle.run.specs.Run.{Ran, ran, onward, stops, stopPlace, runOf}
+use Rattle.run.specs.Stopping.{takingAll, stopping}
 
 -- By the place of its stop.
-
--- the reader after nibbles that are taken one by one
-abbrev pub takingAll : Reader → List ℕ → Reader
-takingAll r [] = r
-takingAll r (n ∷ w) = takingAll (taking r n .reader) w
-
--- a run at its stop: the reader there, the inputs from there on, and the place. An input that brings an answer is taken, and one above 15
--- is not
-abbrev pub stopping : Reader → List ℕ → ℕ → Ran
-stopping r [] i = ran r nothing i
-stopping r (n ∷ w) i = cond (leb n 15) (ran (taking r n .reader) (taking r n .outcome) (i + 1)) (ran r (refused notANibble) i)
 
 onward-stops : (w : List ℕ) (r : Reader) (i : ℕ)
     → onward r w i ≡ stopping (takingAll r (take (stopPlace r w) w)) (drop (stopPlace r w) w) (i + stopPlace r w)

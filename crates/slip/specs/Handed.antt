@@ -27,10 +27,12 @@ use Rattle.frame_handing.specs.Handing.{isBrokenLine, handedLines, asLines}
 use Rattle.frame_handing.specs.declared.Handed.the-variants as hand
 use Rattle.frame.specs.Frame.{brokenKind}
 use Rattle.frame_laws.specs.SentFrames.{judgedLine}
-use Rattle.recovery.specs.Collected.{nothings, collected, collected-append, collected-nothings}
+use Rattle.recovery.specs.Collected.{nothings, collected}
+use Rattle.recovery.specs.CollectedLaws.{collected-append, collected-nothings}
 use Rattle.recovery.specs.Resync.{stateWith, opened, becomes}
-use Rattle.recovery.specs.MarkFree.{NoGroup, no-group-empty}
-use Rattle.recovery.specs.ReadBack.{run-append, outcomes-append, marked, comes-back, read-small, gapText, no-group-gap, restTold}
+use Rattle.recovery.specs.MarkFreeLaws.{NoGroup, no-group-empty}
+use Rattle.recovery.specs.ReadBack.{gapText, restTold}
+use Rattle.recovery.specs.ReadBackLaws.{run-append, outcomes-append, marked, comes-back, read-small, no-group-gap}
 
 -- what an outcome hands to the judge, and what nibbles do
 abbrev pub handedBy : Outcome → List judged.Line

@@ -32,10 +32,13 @@ use Rattle.frame.specs.Calls as judged
 use Rattle.frame_handing.specs.Handing.{isBrokenLine, asLines}
 use Rattle.frame.specs.Frame.{brokenKind}
 use Rattle.recovery.specs.Calls.{markNibbles}
-use Rattle.recovery.specs.Collected.{collected, collected-nothings}
-use Rattle.recovery.specs.Resync.{stateWith, opened, becomes, byte-joined}
-use Rattle.recovery.specs.MarkFree.{NoGroup, no-mark}
-use Rattle.recovery.specs.ReadBack.{run-append, gapText, no-group-gap, read-small}
+use Rattle.recovery.specs.Collected.{collected}
+use Rattle.recovery.specs.CollectedLaws.{collected-nothings}
+use Rattle.recovery.specs.Resync.{stateWith, opened, becomes}
+use Rattle.recovery.specs.ResyncLaws.{byte-joined}
+use Rattle.recovery.specs.MarkFreeLaws.{NoGroup, no-mark}
+use Rattle.recovery.specs.ReadBack.{gapText}
+use Rattle.recovery.specs.ReadBackLaws.{run-append, no-group-gap, read-small}
 use Rattle.slip.specs.ShortTexts.{other-length, text-before}
 use Rattle.slip.specs.SlipLaws.{withContent}
 use Rattle.slip.specs.Handed.{handedBy, linesHanded, HandsOver, hands-over-then, AtRest, HandsToRest, end-unhanded, mark-handed}

@@ -28,7 +28,8 @@ use Rattle.frame.specs.declared.Judged.{Judged}
 use Rattle.frame_layout.specs.FrameLayout.{lastPlace, kindAt, standsAt, numberDue}
 use Rattle.frame.specs.Frame.{passes, gives, refuses, judgeOf}
 use Rattle.frame.specs.Calls.{Line, line, called, after, rulings, isComplete, fits, laidFrom, IsFrame}
-use Rattle.frame_laws.specs.FrameLaws.{after-append, rulings-append, sof-not-due, frame-complete, toComplete, Effect, wrongKind, wrongNumber, waits, breaks, strays, starts, restarts, goes, ends, effect, passes-after}
+use Rattle.frame_laws.specs.CompleteFrames.{toComplete}
+use Rattle.frame_laws.specs.FrameLaws.{after-append, rulings-append, sof-not-due, frame-complete, Effect, wrongKind, wrongNumber, waits, breaks, strays, starts, restarts, goes, ends, effect, passes-after}
 use Rattle.frame_laws.specs.SentFrames.{judgedLine, allLines, AllFrames, no-frames, and-frame}
 use Rattle.slip.specs.SlipFrames.{allComplete, atSlip, lost}
 use Rattle.slip.specs.LeftHanded.{brokenOne}

@@ -15,8 +15,10 @@ use Rattle.stream.specs.Answers.{Outcome, nothing, line, gap, refused, isLine, 
 use Rattle.stream.specs.TextLengthLaws.{line-length}
 use Rattle.stream.specs.Stream.{State, Completed, not-yet, mark, detect, answerAt, advance}
 use Rattle.recovery.specs.Calls.{LineOut, lineIn, markNibbles}
-use Rattle.recovery.specs.Resync.{lines, stateWith, BringsNoLine, no-line}
-use Rattle.recovery.specs.Marks.{detected}
+use Rattle.recovery.specs.Resync.{stateWith}
+use Rattle.recovery.specs.Collected.{lines}
+use Rattle.recovery.specs.ResyncLaws.{BringsNoLine, no-line}
+use Rattle.recovery.specs.MarksLaws.{detected}
 
 -- a mark whose text is not as long as a line's is no line
 pub other-length : (p : Profile) (m : Mark) (t : List ℕ) (next : ℕ) → (length t ≡ lineNibbles p → ⊥) → isLine (answerAt p m t (some next)) ≡ false

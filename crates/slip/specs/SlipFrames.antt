@@ -19,7 +19,7 @@ use Rattle.frame.specs.declared.Ruling.the-variants.{Waiting, Going, Refused}
 use Rattle.frame_layout.specs.FrameLayout.{lastPlace}
 use Rattle.frame.specs.Calls.{rulings, isComplete}
 use Rattle.frame_handing.specs.Handing.{allHanded}
-use Rattle.frame_laws.specs.FrameLaws.{toComplete}
+use Rattle.frame_laws.specs.CompleteFrames.{toComplete}
 use Rattle.frame_laws.specs.SentFrames.{allLines, AllFrames}
 use Rattle.tally.specs.declared.Tally.{Tally}
 use Rattle.slip.specs.Slip.{slipped, Inside}

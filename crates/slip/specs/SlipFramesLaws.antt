@@ -15,7 +15,8 @@ use Rattle.stream.specs.Stream.{State, fresh, finish, run, outcomes}
 use Rattle.stream.specs.Written.{Sent, AllWritable, stream}
 use Rattle.reader.specs.declared.Reader.{Reader}
 use Rattle.reader.specs.Reader.{freshReader}
-use Rattle.recovery.specs.Collected.{collected, collected-append}
+use Rattle.recovery.specs.Collected.{collected}
+use Rattle.recovery.specs.CollectedLaws.{collected-append}
 use Rattle.recovery.specs.CallAnswers.{broughtBy}
 use Rattle.refinement.specs.Runs.{RunCall, runResult, runsCollected}
 use Rattle.refinement.specs.RunAnswers.{runsFinish}

@@ -24,9 +24,11 @@ use Rattle.stream.specs.Written.{Sent, Writable, AllWritable, no-lines, and-lin
 use Rattle.stream.specs.NibblesLaws.{nibbles-length}
 use Rattle.reader.specs.Reader.{freshReader}
 use Rattle.recovery.specs.Calls.{LineOut, lineIn, asSent}
-use Rattle.recovery.specs.Collected.{collected, collected-append}
-use Rattle.recovery.specs.Resync.{lines, opened, Opens, no-line, resync}
-use Rattle.recovery.specs.ReadBack.{outcomes-append, body-long}
+use Rattle.recovery.specs.Collected.{collected, lines}
+use Rattle.recovery.specs.CollectedLaws.{collected-append}
+use Rattle.recovery.specs.Resync.{opened}
+use Rattle.recovery.specs.ResyncLaws.{Opens, no-line, resync}
+use Rattle.recovery.specs.ReadBackLaws.{outcomes-append, body-long}
 use Rattle.recovery.specs.Damage.{clean-lines}
 use Rattle.recovery.specs.CallAnswers.{broughtBy}
 use Rattle.refinement.specs.RunAnswers.{runsFinish}

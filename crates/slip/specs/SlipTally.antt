@@ -16,7 +16,7 @@ use Rattle.frame.specs.declared.Ruling.the-variants as ruling
 use Rattle.frame_layout.specs.FrameLayout.{lastPlace}
 use Rattle.frame.specs.Calls.{rulings, isComplete, isBreak}
 use Rattle.frame_handing.specs.Handing.{allHanded}
-use Rattle.frame_laws.specs.FrameLaws.{toComplete}
+use Rattle.frame_laws.specs.CompleteFrames.{toComplete}
 use Rattle.tally.specs.declared.Tally.{Tally}
 use Rattle.tally.specs.Tally.{freshTally}
 use Rattle.tally.specs.Answered.{tallied}

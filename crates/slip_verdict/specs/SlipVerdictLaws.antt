@@ -24,7 +24,7 @@ use Rattle.frame.specs.declared.Ruling.the-variants.{Going, Complete}
 use Rattle.frame_layout.specs.FrameLayout.{lastPlace}
 use Rattle.frame.specs.Calls.{Line, rulings, isComplete}
 use Rattle.frame_handing.specs.Handing.{allHanded}
-use Rattle.frame_laws.specs.FrameLaws.{toComplete}
+use Rattle.frame_laws.specs.CompleteFrames.{toComplete}
 use Rattle.frame_laws.specs.SentFrames.{judgedLine, allLines, AllFrames}
 use Rattle.tally.specs.Tally.{isUnfinished}
 use Rattle.slip.specs.Slip.{bodyStart, slipped, Inside}

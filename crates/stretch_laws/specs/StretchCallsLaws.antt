@@ -13,11 +13,11 @@ use Rattle.stream.specs.Stream.{State, fresh}
 use Rattle.stream.specs.Written.{Sent, AllWritable, stream}
 use Rattle.reader.specs.Reader.{freshReader}
 use Rattle.recovery.specs.Calls.{Call, FinishLast, CallResult, Collector, asSent, gapAsSent, markNibbles, lineCollector, gapCollector, onRun, onTaken, onCollected, onGaps, meaningCall}
-use Rattle.recovery.specs.Resync.{lines}
-use Rattle.recovery.specs.Gaps.{gaps}
+use Rattle.recovery.specs.Collected.{lines, gaps}
 use Rattle.recovery.specs.CutStream.{closedBetween}
 use Rattle.recovery.specs.DemandThree.{calls-lines, calls-gaps, first-part, rest-part, taken-append, run-append as calls-append, collected-both, split, cancel, same-run, same-collected, same-taken}
-use Rattle.refinement.specs.Refine.{Follows, fresh-follows}
+use Rattle.refinement.specs.Refine.{Follows}
+use Rattle.refinement.specs.RefineLaws.{fresh-follows}
 use Rattle.refinement.specs.ReaderCalls.{readerCall}
 use Rattle.refinement.specs.Runs.{RunCall, runsTaken, runsCollected, allOneByOne, FinishLastRun}
 use Rattle.refinement.specs.RunsLaws.{same-list, same-as-feeds, finish-last}

@@ -13,11 +13,12 @@ use Rattle.stream.specs.Answers.{Outcome}
 use Rattle.stream.specs.Stream.{State, run, outcomes}
 use Rattle.stream.specs.Written.{Sent, Writable, AllWritable, no-lines, and-line, startMark, written, stream}
 use Rattle.recovery.specs.Calls.{lineIn, asSent, gapIn, gapAsSent, closedBy, markNibbles, changed, startFrom, linesFrom}
-use Rattle.recovery.specs.Collected.{collected, collected-append, take-past}
-use Rattle.recovery.specs.Resync.{lines}
-use Rattle.recovery.specs.ReadBack.{outcomes-append, restTold}
+use Rattle.recovery.specs.Collected.{collected, lines, gaps}
+use Rattle.recovery.specs.CollectedLaws.{collected-append, take-past}
+use Rattle.recovery.specs.ReadBack.{restTold}
+use Rattle.recovery.specs.ReadBackLaws.{outcomes-append}
 use Rattle.recovery.specs.Damage.{outcomes-take, outcomes-length, lines-up-to, writable-from, start-after, drop-start}
-use Rattle.recovery.specs.Gaps.{gaps, after, back, rest-none, gaps-up-to}
+use Rattle.recovery.specs.Gaps.{after, back, rest-none, gaps-up-to}
 use Rattle.recovery.specs.CutStream.{wholeBetween, closedBetween}
 use Rattle.stretch_laws.specs.Stretches.{Segment, unchanged, replaced, cleanOf, changedOf, inUnchanged, wholeLines, closedLines, Sublist, both-empty, left-out, as-well, toLineStart}
 

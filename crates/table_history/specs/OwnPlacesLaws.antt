@@ -16,13 +16,15 @@ use Rattle.profile.specs.Profile.{profileNumbered, bodyLength}
 use Rattle.stream.specs.declared.Answer.{Answer}
 use Rattle.stream.specs.declared.Answer.the-variants as answers
 use Rattle.stream.specs.Answers.{Outcome, nothing, line, gap, refused, answerFor}
-use Rattle.mark_answer.specs.Sound.{refusalOf, at-most-nine, kept-sound}
+use Rattle.mark_answer.specs.Sound.{refusalOf}
+use Rattle.mark_answer.specs.SoundLaws.{at-most-nine, kept-sound}
 use Rattle.reader.specs.declared.Reader.{Reader}
 use Rattle.reader_head.specs.Head.{passes, flushed}
 use Rattle.reader.specs.Reader.{Took, freshReader, taking, feedOf, finishOf}
 use Rattle.reader.specs.ReaderLaws.{take-sound}
 use Rattle.run.specs.Run.{Ran, ran, onward, stopPlace, runOf}
-use Rattle.run.specs.RunLaws.{takingAll, stopping, up-to-stop}
+use Rattle.run.specs.Stopping.{takingAll, stopping}
+use Rattle.run.specs.RunLaws.{up-to-stop}
 use Rattle.reader_laws.specs.Passes.{Feeding, feed-state, feed-nibble, feed-room, feed-taken, feeding, Finishing, finish-state, finish-taken, finishing}
 use Rattle.recovery.specs.Calls.{feed, done}
 use Rattle.refinement.specs.Runs.{RunCall, run, one, runResult}

@@ -17,7 +17,7 @@ use Rattle.stream.specs.Answers.{refused, answerFor}
 use Rattle.mark_answer.specs.Sound.{refusalOf}
 use Rattle.reader.specs.declared.Reader.{Reader}
 use Rattle.reader.specs.Reader.{freshReader}
-use Rattle.refinement.specs.ReaderCalls.{answered}
+use Rattle.refinement.specs.ReaderCallsLaws.{answered}
 use Rattle.refinement.specs.Runs.{RunCall, runResult, onRuns}
 use Rattle.refinement.specs.RunsReached.{runs-never-eleven}
 use Rattle.reader_table.specs.declared.ReaderTable.{ReaderTable}

@@ -22,7 +22,8 @@ use Rattle.frame_layout.specs.FrameLayout.{lastPlace}
 use Rattle.frame.specs.Frame.{passes, refuses, broken, judgeOf, breaksFrame}
 use Rattle.frame.specs.Calls.{Line, line, called, after, rulings, isComplete, isBreak, IsFrame}
 use Rattle.frame_handing.specs.Handing.{isBrokenLine, handedOver, asLines, handedLines, allHanded}
-use Rattle.frame_laws.specs.FrameLaws.{after-append, toComplete, frame-complete}
+use Rattle.frame_laws.specs.CompleteFrames.{toComplete}
+use Rattle.frame_laws.specs.FrameLaws.{after-append, frame-complete}
 use Rattle.counts.specs.Counts.{oneMore, counting}
 use Rattle.counts.specs.CountsLaws.{counted, some}
 use Rattle.tally.specs.declared.Tally.{Tally}

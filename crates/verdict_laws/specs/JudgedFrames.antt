@@ -24,7 +24,8 @@ use Rattle.frame.specs.declared.Ruling.the-variants as ruling
 use Rattle.frame.specs.declared.Judged.{Judged}
 use Rattle.frame_layout.specs.FrameLayout.{bordersOn, bordersOff, lastPlace, kindsOf, kindAt, standsAt}
 use Rattle.frame.specs.Calls.{Line, called, after, rulings, isComplete, isBreak, fits, laidFrom, IsFrame}
-use Rattle.frame_laws.specs.FrameLaws.{after-append, rulings-append, toComplete, frame-complete, first-is, Effect, wrongKind, wrongNumber, waits, breaks, strays, starts, restarts, goes, ends, effect, reached-passes, after-snoc}
+use Rattle.frame_laws.specs.CompleteFrames.{toComplete}
+use Rattle.frame_laws.specs.FrameLaws.{after-append, rulings-append, frame-complete, first-is, Effect, wrongKind, wrongNumber, waits, breaks, strays, starts, restarts, goes, ends, effect, reached-passes, after-snoc}
 use Rattle.verdict_laws.specs.CaptureVerdict.{isOpening, beforeFirst, fromFirst, isWhole, wholeLines, isWaiting, someOutside}
 use Rattle.verdict_laws.specs.CaptureVerdictLaws.{or-left, or-right, or-neither, still-waits}
 

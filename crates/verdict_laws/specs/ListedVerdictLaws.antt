@@ -26,7 +26,8 @@ use Rattle.reader_laws.specs.Passing.{Small, small-none, small-more}
 use Rattle.reader_laws.specs.SmallLaws.{small-take, small-drop}
 use Rattle.recovery.specs.CutStream.{cutOut}
 use Rattle.recovery.specs.WrittenLaws.{AllNibbles, no-nibble, and-nibble, all-changed}
-use Rattle.refinement.specs.Refine.{Follows, fresh-follows, feed-steps, finish-steps}
+use Rattle.refinement.specs.Refine.{Follows}
+use Rattle.refinement.specs.RefineLaws.{fresh-follows, feed-steps, finish-steps}
 use Rattle.verdict.specs.declared.Findings.{Findings}
 use Rattle.verdict.specs.declared.Verdict.{Verdict}
 use Rattle.verdict.specs.Findings.{noFindings, takeOf, closeOf}

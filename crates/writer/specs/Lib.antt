@@ -1,3 +1,4 @@
 pub mod Writer
 pub mod Parts
+pub mod WriterTable
 pub mod WriterLaws

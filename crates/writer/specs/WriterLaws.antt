@@ -1,14 +1,14 @@
 -- Laws of the writer: how long a line is as written, and exactly when each answer comes.
 use mathlib.Core.Path.{_≡_, refl, sym, subst, _∙_}
 use mathlib.Core.Bool.{Bool, true, false}
-use mathlib.Core.List.{List, [], _++_}
+use mathlib.Core.List.{List, _++_}
 use mathlib.Core.Logic.{_↔_}
 use Prim.Native.Nat.{ℕ, _≤_, _<_}
 use native.Mathlib.Omega.{arith}
 use borrow.Author.Tests.{leb-true, leb-false, eqb-true, eqb-false, le-leb, lt-leb, eq-eqb, ne-eqb}
 use lib.ListN.{length, replicate, length-append, length-replicate}
 use Rattle.bits.specs.Every.{and-left, and-right}
-use Rattle.refusal.specs.Refusal.{badState, noRoom, badKind, numberTooLarge, wrongBodyLength, byteNotAllowed, tooManyNulls}
+use Rattle.refusal.specs.Refusal.{noRoom}
 use Rattle.lent_buffer.specs.Filled.{Output, used, refused, require}
 use Rattle.line_code.specs.declared.Kind.{Kind}
 use Rattle.line_code.specs.declared.Kind.the-variants.{BL, BK, VL, SOF, EOF}
@@ -26,6 +26,7 @@ use Rattle.profile.specs.LayoutLaws.{rules-length, fits-length}
 use Rattle.stream.specs.Written.{Sent, Writable, mostNulls, nibbles, endMark, tail, written}
 use Rattle.stream.specs.NibblesLaws.{nibbles-length}
 use Rattle.writer.specs.Writer.{roomFor, bytesFit, writeLine, sent, writeKind, writeProfile, writeOf}
+use Rattle.writer.specs.WriterTable.{LineAnswer, number-too-large, wrong-body-length, byte-not-allowed, too-many-nulls, no-room, line, Answer, bad-profile, bad-kind, of-line, writeSent}
 
 -- Lengths.
 
@@ -44,17 +45,6 @@ writable p s h f n =
     record { number-small = h; body-fits = and-left body _ f; gap-fits = and-right body _ f; nulls-few = n }
 
 -- Answers: what the table gives, each exactly when named, in the writer's order.
-
--- to a line of a known profile and kind
-pub data LineAnswer (p : Profile) (s : Sent) (room : ℕ) : Output → Type 0 where
-  number-too-large : greatest < s .number → LineAnswer p s room (refused numberTooLarge)
-  wrong-body-length : s .number ≤ greatest → (length (s .body) ≡ bodyLength p → ⊥) → LineAnswer p s room (refused wrongBodyLength)
-  byte-not-allowed : s .number ≤ greatest → length (s .body) ≡ bodyLength p → bytesFit p s ≡ false
-      → LineAnswer p s room (refused byteNotAllowed)
-  too-many-nulls : s .number ≤ greatest → length (s .body) ≡ bodyLength p → bytesFit p s ≡ true → mostNulls < s .nulls
-      → LineAnswer p s room (refused tooManyNulls)
-  no-room : Writable p s → room < roomFor p (s .nulls) → LineAnswer p s room (refused noRoom)
-  line : Writable p s → roomFor p (s .nulls) ≤ room → LineAnswer p s room (used (length (written s)) (written s))
 
 pub line-answer-only : (p : Profile) (s : Sent) (room : ℕ) (o : Output) → LineAnswer p s room o → writeLine p s room ≡ o
 unfolding require
@@ -83,15 +73,6 @@ line-answer p s room =
   where
     A : Output → Type 0
     A = LineAnswer p s room
-
--- to any call
-pub data Answer (profile kind number : ℕ) (body : List ℕ) (a b nulls room : ℕ) : Output → Type 0 where
-  bad-profile : profileNumbered profile ≡ numbered.NoProfile → Answer profile kind number body a b nulls room (refused badState)
-  bad-kind : (p : Profile) → profileNumbered profile ≡ numbered.Profile p → kindNumbered kind ≡ NotLine
-      → Answer profile kind number body a b nulls room (refused badKind)
-  of-line : (p : Profile) (k : Kind) {o : Output} → profileNumbered profile ≡ numbered.Profile p → kindNumbered kind ≡ LineOf k
-      → LineAnswer p (sent k number body a b nulls) room o
-      → Answer profile kind number body a b nulls room o
 
 module _ (profile kind number : ℕ) (body : List ℕ) (a b nulls room : ℕ) where
   by-kind : (p : Profile) → profileNumbered profile ≡ numbered.Profile p → (k : LineKind) → kindNumbered kind ≡ k
@@ -129,10 +110,6 @@ kind-back BK = refl
 kind-back VL = refl
 kind-back SOF = refl
 kind-back EOF = refl
-
--- the writer's answer to a line, given by its profile's and its kind's number
-abbrev pub writeSent : Profile → Sent → ℕ → Output
-writeSent p s room = writeOf (profileNumber p) (kindNumber (s .kind)) (s .number) (s .body) (s .gap-one) (s .gap-two) (s .nulls) room
 
 module _ (p : Profile) (s : Sent) (room : ℕ) where
   pub sent-line : writeSent p s room ≡ writeLine p s room

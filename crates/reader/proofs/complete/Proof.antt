@@ -1,6 +1,6 @@
 -- The mark's answer is judged with what has left the window; the buffer follows that answer, and so does what the next mark keeps of it.
 use mathlib.Core.Path.{refl}
-use Rattle.mark_answer.specs.Sound.{legible-body}
+use Rattle.mark_answer.specs.SoundLaws.{legible-body}
 use borrow.Author.Needs.{needs}
 use Rattle.reader.proofs.complete.Statement.{statement}
 use Rattle.reader.proofs.complete.Tie as tie

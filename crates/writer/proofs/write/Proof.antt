@@ -14,7 +14,8 @@ use Rattle.profile.specs.Profile.{bodyLength}
 use Rattle.profile.specs.LayoutLaws.{body-small}
 use Rattle.stream.specs.Written.{Sent, Writable}
 use Rattle.writer.specs.Writer.{bytesFit, sent, writeOf}
-use Rattle.writer.specs.WriterLaws.{LineAnswer, number-too-large, wrong-body-length, byte-not-allowed, too-many-nulls, no-room, line, bad-profile, bad-kind, of-line, answer-only, written-length, writable}
+use Rattle.writer.specs.WriterTable.{LineAnswer, number-too-large, wrong-body-length, byte-not-allowed, too-many-nulls, no-room, line, bad-profile, bad-kind, of-line}
+use Rattle.writer.specs.WriterLaws.{answer-only, written-length, writable}
 use Rattle.writer.proofs.Answering.{encoded-small, encoded-not, writes}
 use borrow.Author.Needs.{needs}
 use Rattle.writer.proofs.write.Statement.{statement}
