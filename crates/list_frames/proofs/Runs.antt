@@ -16,10 +16,10 @@ use Rattle.run.specs.declared.RunStepped.{RunStepped}
 use Rattle.run.specs.Run.{lentRunOf}
 use Rattle.run.specs.Gives.{LentRunGives}
 use Rattle.reader_laws.specs.ByRuns.{took}
-use Rattle.verdict.specs.declared.Findings.{Findings}
-use Rattle.verdict.specs.declared.Found.{Found}
-use Rattle.verdict.specs.Findings.{takeOf}
-use Rattle.verdict.specs.FindingsLaws.{nothing-found}
+use Rattle.findings.specs.declared.Findings.{Findings}
+use Rattle.findings.specs.declared.Found.{Found}
+use Rattle.findings.specs.Findings.{takeOf}
+use Rattle.findings.specs.FindingsLaws.{nothing-found}
 use Rattle.list_news.specs.NewsLines.{newsLine, newsRoom}
 use Rattle.text.specs.Put.{Put}
 use Rattle.listers.specs.RunLaws.{ByReader, Along, ran, head-is, body-is, answer-is, along-next, along-end}

@@ -11,9 +11,9 @@ use Rattle.stream.specs.declared.Answer.{Answer}
 use Rattle.stream.specs.Answers.{Outcome, answerFor}
 use Rattle.reader_head.specs.Head.{passes}
 use Rattle.reader.specs.Reader.{Took, freshReader, feedOf, finishOf}
-use Rattle.verdict.specs.declared.Found.{Found}
+use Rattle.findings.specs.declared.Found.{Found}
 use Rattle.verdict.specs.declared.Verdict.{Verdict}
-use Rattle.verdict.specs.Findings.{noFindings, takeOf, closeOf}
+use Rattle.findings.specs.Findings.{noFindings, takeOf, closeOf}
 use Rattle.verdict.specs.Verdict.{isLost, verdictOf}
 use Rattle.report.specs.Report.{reportRoom, reportOf}
 use Rattle.text.specs.Put.{onFront}

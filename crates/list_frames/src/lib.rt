@@ -13,10 +13,11 @@ ghost use Rattle.report.specs.Report.{reportRoom, reportOf};
 ghost use Rattle.list_news.specs.NewsLines.{newsLine, newsRoom};
 ghost use Rattle.text.specs.Put.{Put};
 ghost use Rattle.list_frames.specs.FrameLister.{ListsFrames, freshLister, listedOf, finishedOf};
+use findings::Findings;
 use profile::Profile;
 use reader::Reader;
 use tally::News;
-use verdict::Findings;
+use verdict::Verdict;
 
 // A reader, and what was found in its answers.
 pub struct FrameLister {
@@ -129,6 +130,6 @@ fn put_findings(findings: Findings, lost: bool, out: &mut [u8], at: usize) -> us
     requires { ⌜ at + reportRoom ≤ length (now out) ⌝ }
     ensures { λ r. ⌜ Put (now (out .entry)) at (reportOf findings lost (verdictOf findings lost)) r (now (out .exit)) ⌝ }
 {
-    let verdict = findings.verdict(lost);
+    let verdict = Verdict::of(findings, lost);
     at + report::put_report(findings, lost, verdict, &mut out[at..])
 }

@@ -6,13 +6,13 @@
 ghost use lib.ListN.{length};
 ghost use Rattle.text.specs.Put.{Puts, AtFront};
 ghost use Rattle.report.specs.Report.{frameCounts, framesLines, lostLine, otherSensor, hintLine, noFrameLine, adviceLine, verdictLines, reportOf, reportIfRoom};
+use findings::Findings;
 use profile::Profile;
 use signal::First;
 use signal::Signal;
 use signal_report::put_count;
 use text::put;
 use text::put_decimal;
-use verdict::Findings;
 use verdict::Verdict;
 
 // The bytes that no report exceeds.
@@ -31,7 +31,7 @@ pub fn put_report(findings: Findings, lost: bool, verdict: Verdict, out: &mut [u
     let at = put_lost(lost, out, at);
     let tally = findings.tally;
     let profile = tally.profile;
-    let ordered = findings.in_order(lost);
+    let ordered = verdict::in_order(findings, lost);
     let at = put_hint(profile, ordered, signal, out, at);
     put_verdict(verdict, ordered, out, at)
 }

@@ -1,3 +1,1 @@
-pub mod Findings
 pub mod Verdict
-pub mod FindingsLaws

@@ -10,7 +10,7 @@ use Rattle.stream.specs.Written.{mostText}
 use Rattle.frame_layout.specs.FrameLayout.{lastPlace}
 use Rattle.signal.specs.declared.First.{First}
 use Rattle.signal.specs.declared.First.the-variants.{Unseen, InsideLine, Other}
-use Rattle.verdict.specs.declared.Findings.{Findings}
+use Rattle.findings.specs.declared.Findings.{Findings}
 use Rattle.verdict.specs.declared.Verdict.{Verdict}
 use Rattle.verdict.specs.declared.Verdict.the-variants.{Good, CheckTheClip, NotGood, NoSignal}
 

@@ -20,10 +20,10 @@ use Rattle.frame.specs.Frame.{opens, brokenKind}
 use Rattle.frame.specs.Calls.{Line, called, rulings, isComplete, isBreak}
 use Rattle.frame_handing.specs.Handing.{allHanded}
 use Rattle.tally.specs.Tally.{isUnfinished}
-use Rattle.verdict.specs.declared.Findings.{Findings}
+use Rattle.findings.specs.declared.Findings.{Findings}
 use Rattle.verdict.specs.declared.Verdict.{Verdict}
 use Rattle.verdict.specs.declared.Verdict.the-variants.{Good, CheckTheClip, NotGood, NoSignal}
-use Rattle.verdict.specs.Findings.{noFindings, takeOf, closeOf}
+use Rattle.findings.specs.Findings.{noFindings, takeOf, closeOf}
 use Rattle.verdict.specs.Verdict.{verdictOf}
 
 -- the findings after some answers; of a whole capture, by its answers and finish's; and the verdict on it, where the signal may be lost

@@ -50,11 +50,11 @@ use Rattle.tally.specs.Tally.{freshTally, marked, opening, moved, quiet, broken
 use Rattle.tally.specs.Tally as tally
 use Rattle.tally.specs.Answered.{tallied, captureTally}
 use Rattle.tally.specs.TallyLaws.{judged-as-said}
-use Rattle.verdict.specs.declared.Outside.{Outside}
-use Rattle.verdict.specs.declared.Findings.{Findings}
+use Rattle.findings.specs.declared.Outside.{Outside}
+use Rattle.findings.specs.declared.Findings.{Findings}
 use Rattle.verdict.specs.declared.Verdict.{Verdict}
 use Rattle.verdict.specs.declared.Verdict.the-variants.{Good, CheckTheClip, NotGood, NoSignal}
-use Rattle.verdict.specs.Findings.{noFindings, isOutside, oneOutside, withLine, takeOf, closeOf}
+use Rattle.findings.specs.Findings.{noFindings, isOutside, oneOutside, withLine, takeOf, closeOf}
 use Rattle.verdict.specs.Verdict.{inOrder, byFrames, byFirst, verdictOf}
 use Rattle.verdict_laws.specs.CaptureVerdict.{found, captureFindings, captureVerdict, markCame, captureRulings, frameComplete, isOpening, beforeFirst, fromFirst, isWhole, wholeLines, isWaiting, someOutside, fewBefore, lineOutside, isRefused, markRefused, allInOrder, Verdicts}
 

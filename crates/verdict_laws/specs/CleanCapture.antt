@@ -9,7 +9,7 @@ use Rattle.stream.specs.Stream.{State, fresh, finish, run, outcomes}
 use Rattle.stream.specs.Written.{Sent, stream}
 use Rattle.recovery.specs.Calls.{upToEnd}
 use Rattle.frame_laws.specs.SentFrames.{allLines}
-use Rattle.verdict.specs.declared.Findings.{Findings}
+use Rattle.findings.specs.declared.Findings.{Findings}
 use Rattle.verdict.specs.declared.Verdict.{Verdict}
 use Rattle.verdict.specs.Verdict.{isLost, verdictOf}
 use Rattle.verdict_laws.specs.CaptureVerdict.{captureFindings}

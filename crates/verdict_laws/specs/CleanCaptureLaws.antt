@@ -34,11 +34,11 @@ use Rattle.frame.specs.Calls as calls
 use Rattle.frame_handing.specs.Handing.{isBrokenLine, handedLines, allHanded}
 use Rattle.frame_laws.specs.SentFrames.{judgedLine, judgedLines, allLines, AllFrames, no-frames, and-frame}
 use Rattle.tally.specs.Tally.{isUnfinished}
-use Rattle.verdict.specs.declared.Findings.{Findings}
-use Rattle.verdict.specs.declared.Found.{Found}
+use Rattle.findings.specs.declared.Findings.{Findings}
+use Rattle.findings.specs.declared.Found.{Found}
 use Rattle.verdict.specs.declared.Verdict.the-variants.{Good}
-use Rattle.verdict.specs.Findings.{noFindings, takeOf, closeOf}
-use Rattle.verdict.specs.FindingsLaws.{nothing-found}
+use Rattle.findings.specs.Findings.{noFindings, takeOf, closeOf}
+use Rattle.findings.specs.FindingsLaws.{nothing-found}
 use Rattle.verdict.specs.Verdict.{isLost, verdictOf}
 use Rattle.verdict_laws.specs.CaptureVerdict.{found, captureVerdict, beforeFirst, fromFirst, wholeLines, someOutside, isRefused, markRefused}
 use Rattle.verdict_laws.specs.CaptureVerdictLaws.{or-neither, verdicts}

@@ -28,9 +28,9 @@ use Rattle.recovery.specs.CutStream.{cutOut}
 use Rattle.recovery.specs.WrittenLaws.{AllNibbles, no-nibble, and-nibble, all-changed}
 use Rattle.refinement.specs.Refine.{Follows}
 use Rattle.refinement.specs.RefineLaws.{fresh-follows, feed-steps, finish-steps}
-use Rattle.verdict.specs.declared.Findings.{Findings}
+use Rattle.findings.specs.declared.Findings.{Findings}
 use Rattle.verdict.specs.declared.Verdict.{Verdict}
-use Rattle.verdict.specs.Findings.{noFindings, takeOf, closeOf}
+use Rattle.findings.specs.Findings.{noFindings, takeOf, closeOf}
 use Rattle.verdict.specs.Verdict.{isLost, inOrder, verdictOf}
 use Rattle.signal_report.specs.SignalReport.{signalLines}
 use Rattle.report.specs.Report.{framesLines, lostLine, hintLine, adviceLine, verdictLine, reportOf}

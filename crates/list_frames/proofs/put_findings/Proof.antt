@@ -13,8 +13,8 @@ returns c =
     let report = c .before .before in
     let verdict = report .before .before in
     let args = verdict .before .before .args in
-    rw (← verdict .verdict .ensures)
-    (part-put reportRoom _ _ _ _ _ (verdict .before .before .pre) (report-short (args .findings) (args .lost) (verdict .verdict .result)) (report .put-report .ensures .count) (report .put-report .ensures .leaves))
+    rw (← verdict .of .ensures)
+    (part-put reportRoom _ _ _ _ _ (verdict .before .before .pre) (report-short (args .findings) (args .lost) (verdict .of .result)) (report .put-report .ensures .count) (report .put-report .ensures .leaves))
 
 add-result : tie.Need-add-result
 add-result c = let h = returns c in omega (arith, h .place, h .room)

@@ -14,9 +14,9 @@ use Rattle.tally.specs.declared.News.{News}
 use Rattle.tally.specs.declared.News.the-variants.{Nothing, Complete, Broken, Cut}
 use Rattle.tally.specs.declared.Told.{Told}
 use Rattle.tally.specs.Tally as tally
-use Rattle.verdict.specs.declared.Outside.{Outside}
-use Rattle.verdict.specs.declared.Findings.{Findings}
-use Rattle.verdict.specs.declared.Found.{Found}
+use Rattle.findings.specs.declared.Outside.{Outside}
+use Rattle.findings.specs.declared.Findings.{Findings}
+use Rattle.findings.specs.declared.Found.{Found}
 
 -- nothing found yet, of a capture of this profile
 abbrev pub noFindings : Profile → Findings

@@ -2,8 +2,8 @@
 use borrow.Author.Tests.{eq-eqb, ne-eqb}
 use Rattle.verdict.specs.Verdict.{byFrames}
 use borrow.Author.Needs.{needs}
-use Rattle.verdict.proofs.Findings.by_frames.Statement.{statement}
-use Rattle.verdict.proofs.Findings.by_frames.Tie as tie
+use Rattle.verdict.proofs.by_frames.Statement.{statement}
+use Rattle.verdict.proofs.by_frames.Tie as tie
 
 returns : tie.Need-returns
 unfolding byFrames

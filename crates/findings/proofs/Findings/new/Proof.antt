@@ -1,7 +1,7 @@
 -- All of its parts are fresh.
 use borrow.Author.Needs.{needs}
-use Rattle.verdict.proofs.Findings.new.Statement.{statement}
-use Rattle.verdict.proofs.Findings.new.Tie as tie
+use Rattle.findings.proofs.Findings.new.Statement.{statement}
+use Rattle.findings.proofs.Findings.new.Tie as tie
 
 returns : tie.Need-returns
 returns c = simp (c .before .new .ensures, c .new2 .ensures)

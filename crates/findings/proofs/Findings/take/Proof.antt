@@ -1,8 +1,8 @@
 -- The tally's answer, and each part by its own rule.
-use Rattle.verdict.specs.Findings.{takeOf}
+use Rattle.findings.specs.Findings.{takeOf}
 use borrow.Author.Needs.{needs}
-use Rattle.verdict.proofs.Findings.take.Statement.{statement}
-use Rattle.verdict.proofs.Findings.take.Tie as tie
+use Rattle.findings.proofs.Findings.take.Statement.{statement}
+use Rattle.findings.proofs.Findings.take.Tie as tie
 
 returns : tie.Need-returns
 unfolding takeOf

@@ -1,8 +1,8 @@
 -- By the first mark.
 use Rattle.verdict.specs.Verdict.{verdictOf}
 use borrow.Author.Needs.{needs}
-use Rattle.verdict.proofs.Findings.verdict.Statement.{statement}
-use Rattle.verdict.proofs.Findings.verdict.Tie as tie
+use Rattle.verdict.proofs.Verdict.of.Statement.{statement}
+use Rattle.verdict.proofs.Verdict.of.Tie as tie
 
 returns : tie.Need-returns
 unfolding verdictOf
@@ -16,8 +16,8 @@ returns-3 : tie.Need-returns-3
 unfolding verdictOf
 returns-3 c = simp (c .before .enum-told3 .given .1, c .by-frames2 .ensures)
 
-pub verdict-spec : {M : Type 1} → statement M
-verdict-spec =
+pub of-spec : {M : Type 1} → statement M
+of-spec =
     tie.close
     (tie.spec
     (λ c. search needs)

@@ -1,8 +1,8 @@
 -- The tally's answer, and each part by its own rule.
-use Rattle.verdict.specs.Findings.{closeOf}
+use Rattle.findings.specs.Findings.{closeOf}
 use borrow.Author.Needs.{needs}
-use Rattle.verdict.proofs.Findings.close.Statement.{statement}
-use Rattle.verdict.proofs.Findings.close.Tie as tie
+use Rattle.findings.proofs.Findings.close.Statement.{statement}
+use Rattle.findings.proofs.Findings.close.Tie as tie
 
 returns : tie.Need-returns
 unfolding closeOf

@@ -2,8 +2,8 @@
 use borrow.Author.Tests.{eq-eqb, ne-eqb, le-leb, lt-leb}
 use Rattle.verdict.specs.Verdict.{inOrder}
 use borrow.Author.Needs.{needs}
-use Rattle.verdict.proofs.Findings.in_order.Statement.{statement}
-use Rattle.verdict.proofs.Findings.in_order.Tie as tie
+use Rattle.verdict.proofs.in_order.Statement.{statement}
+use Rattle.verdict.proofs.in_order.Tie as tie
 
 returns : tie.Need-returns
 unfolding inOrder

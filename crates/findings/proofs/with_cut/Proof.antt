@@ -1,7 +1,7 @@
 -- Only a frame that was cut off is counted.
 use borrow.Author.Needs.{needs}
-use Rattle.verdict.proofs.with_cut.Statement.{statement}
-use Rattle.verdict.proofs.with_cut.Tie as tie
+use Rattle.findings.proofs.with_cut.Statement.{statement}
+use Rattle.findings.proofs.with_cut.Tie as tie
 
 returns-4 : tie.Need-returns-4
 returns-4 c = simp (c .before .enum-told4 .given .1, c .one-more .ensures)

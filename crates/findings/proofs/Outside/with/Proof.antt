@@ -1,9 +1,9 @@
 -- By the tests: not outside, before the first frame, later.
 use borrow.Author.Tests.{eq-eqb, ne-eqb}
-use Rattle.verdict.specs.Findings.{withLine}
+use Rattle.findings.specs.Findings.{withLine}
 use borrow.Author.Needs.{needs}
-use Rattle.verdict.proofs.Outside.with.Statement.{statement}
-use Rattle.verdict.proofs.Outside.with.Tie as tie
+use Rattle.findings.proofs.Outside.with.Statement.{statement}
+use Rattle.findings.proofs.Outside.with.Tie as tie
 
 returns : tie.Need-returns
 unfolding withLine

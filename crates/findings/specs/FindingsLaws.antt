@@ -7,9 +7,9 @@ use Rattle.frame.specs.declared.Judge.{Judge}
 use Rattle.frame.specs.declared.Judge.the-variants.{Waiting, Due}
 use Rattle.tally.specs.declared.News.the-variants.{Nothing}
 use Rattle.tally.specs.Tally as tally
-use Rattle.verdict.specs.declared.Outside.{Outside}
-use Rattle.verdict.specs.declared.Findings.{Findings}
-use Rattle.verdict.specs.Findings.{isOutside, oneOutside, withLine, takeOf}
+use Rattle.findings.specs.declared.Outside.{Outside}
+use Rattle.findings.specs.declared.Findings.{Findings}
+use Rattle.findings.specs.Findings.{isOutside, oneOutside, withLine, takeOf}
 
 not-outside : (j : Judge) (x o : Outside) → cond (isOutside j j answer.Nothing) x o ≡ o
 not-outside Waiting x o = refl
