@@ -47,3 +47,19 @@ pub fn rows(capture: &[u8], piece: usize) -> Vec<u8> {
     read(capture, piece, |text| all.extend_from_slice(text));
     all
 }
+
+#[cfg(test)]
+mod tests {
+    use super::*;
+
+    /// 01's listing of a blank line numbered 303 with 25 null bytes, in pieces of any size.
+    #[test]
+    fn a_line_is_listed() {
+        let nibbles = crate::writer::write(0, 1, 303, &[7; 356], (255, 255), 25, 1000).unwrap();
+        let capture = crate::streams::packed(&nibbles);
+        for piece in [1, 7, 393] {
+            assert_eq!(rows(&capture, piece), b"mark answer number note\n1 BL 303 clean\n2 GAP - ok\n");
+        }
+        assert_eq!(rows(&[], 1), b"mark answer number note\n");
+    }
+}

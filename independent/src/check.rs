@@ -73,3 +73,17 @@ impl Counted {
         println!("{} calls compared: no difference", self.0.values().sum::<usize>());
     }
 }
+
+#[cfg(test)]
+mod tests {
+    use super::*;
+
+    #[test]
+    fn calls_are_counted_by_their_answers() {
+        let mut counted = Counted::default();
+        counted.filled("call", &(), (0, 2), &[1, 2, 9], Ok(vec![1, 2]), 9);
+        counted.filled("call", &(), (12, 0), &[9, 9], Err(12), 9);
+        counted.count("call", 12);
+        assert_eq!(counted.0.into_iter().collect::<Vec<_>>(), [(("call", 0), 1), (("call", 12), 2)]);
+    }
+}

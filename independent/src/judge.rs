@@ -82,3 +82,49 @@ impl Judge {
         }
     }
 }
+
+#[cfg(test)]
+mod tests {
+    use super::*;
+
+    fn frame(borders: bool) -> Vec<u8> {
+        (0..304).map(|place| kind_at(place, borders)).collect()
+    }
+
+    /// The rulings on a frame's lines, numbered from 0.
+    fn judged(judge: &mut Judge, kinds: &[u8]) -> Vec<Ruling> {
+        (0..).zip(kinds).map(|(number, kind)| judge.line(*kind, number)).collect()
+    }
+
+    #[test]
+    fn whole_frames_are_complete() {
+        for borders in [true, false] {
+            let rulings = judged(&mut Judge::default(), &frame(borders));
+            assert!(rulings[..303].iter().all(|r| *r == Ruling::Going));
+            assert_eq!(rulings[303], Ruling::Complete);
+        }
+        assert_eq!(frame(true).iter().filter(|k| **k == 3).count(), 292);
+        assert_eq!(frame(false).iter().filter(|k| **k == 3).count(), 288);
+    }
+
+    /// 02, A3: after the end of frame the number may stand still.
+    #[test]
+    fn no_number_is_compared_after_the_end_of_frame() {
+        let mut judge = Judge::default();
+        judged(&mut judge, &frame(true)[..303]);
+        assert_eq!(judge.line(1, 302), Ruling::Complete);
+    }
+
+    #[test]
+    fn what_is_not_due_gives_the_frame_up() {
+        let mut judge = Judge::default();
+        assert_eq!(judge.line(2, 1), Ruling::Waiting);
+        assert_eq!([judge.line(4, 0), judge.line(2, 2)], [Ruling::Going, Ruling::Refused(18)]);
+        assert_eq!([judge.line(2, 3), judge.line(4, 0), judge.line(0, 9)], [Ruling::Waiting, Ruling::Going, Ruling::Refused(19)]);
+        // A start of frame is not due within one, and opens the next.
+        assert_eq!([judge.line(4, 0), judge.line(4, 0), judge.line(2, 1)], [Ruling::Going, Ruling::Refused(18), Ruling::Going]);
+        let before = judge;
+        assert_eq!([judge.line(6, 4096), judge.line(5, 4096)], [Ruling::Refused(13), Ruling::Refused(14)]);
+        assert_eq!(judge, before);
+    }
+}

@@ -33,3 +33,23 @@ impl Random {
         from[self.below(from.len())]
     }
 }
+
+#[cfg(test)]
+mod tests {
+    use super::*;
+
+    #[test]
+    fn a_seed_gives_the_same_again() {
+        let words = |seed| (0..9).map(|_| 0).scan(Random::new(seed), |random, _: u8| Some(random.word())).collect::<Vec<_>>();
+        assert_eq!(words(5), words(5));
+        assert_ne!(words(5), words(6));
+    }
+
+    #[test]
+    fn every_number_below_comes() {
+        let mut random = Random::new(1);
+        let mut came = [0; 5];
+        (0..1000).for_each(|_| came[random.below(5)] += 1);
+        assert!(came.iter().all(|n| (100..300).contains(n)), "{came:?}");
+    }
+}

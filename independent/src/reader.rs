@@ -148,9 +148,9 @@ impl Reader {
         // An end code never lies on the next mark's F, so the text holds the whole code.
         let gap = &text[2..];
         match self.profile {
-            Profile::P0 if all_f(gap) => Answer::Gap(255, 255, period),
-            Profile::P0 => Answer::Refused(9),
-            Profile::P1 => {
+            Profile::VV5404 if all_f(gap) => Answer::Gap(255, 255, period),
+            Profile::VV5404 => Answer::Refused(9),
+            Profile::VV5300 => {
                 if gap.len() < 4 {
                     return Answer::Refused(9);
                 }
@@ -162,5 +162,70 @@ impl Reader {
                 }
             }
         }
+    }
+}
+
+#[cfg(test)]
+mod tests {
+    use super::*;
+
+    /// All answers to the digits of a VV5404 stream, in which `*` stands for a blank body.
+    fn answers(text: &str) -> Vec<Answer> {
+        let text = text.replace(' ', "").replace('*', &"07".repeat(356));
+        let nibbles: Vec<u8> = text.chars().map(|c| c.to_digit(16).unwrap() as u8).collect();
+        let (mut reader, mut answers, mut left) = (Reader::new(Profile::VV5404), Vec::new(), &nibbles[..]);
+        while !left.is_empty() {
+            let (answer, taken) = reader.run(left, &mut [0; LONGEST]);
+            answers.extend(answer);
+            left = &left[taken..];
+        }
+        answers.extend(reader.finish());
+        answers
+    }
+
+    fn line(number: u16, start: Option<u8>, end: Option<u8>) -> Answer {
+        Answer::Line { kind: 1, number, start, end }
+    }
+
+    #[test]
+    fn a_line_is_read() {
+        assert_eq!(answers("FFFF009D 085E * FFFF0080 FFFF"), [line(303, None, None), Answer::Gap(255, 255, 0)]);
+        assert_eq!(answers("FFFF009C 0101 * FFFF0081"), [line(0, Some(0), Some(0)), Answer::Gap(255, 255, 0)]);
+    }
+
+    /// 01's table of refusals, of marks.
+    #[test]
+    fn each_refusal_has_its_number() {
+        let refused = |text, numbers: &[u8]| {
+            let wanted: Vec<Answer> = numbers.iter().map(|n| Answer::Refused(*n)).collect();
+            assert_eq!(answers(text)[..numbers.len()], wanted, "{text}");
+        };
+        refused("FFFF00 FFFF00C7", &[1, 3]);
+        refused("FFFF00ED", &[2]);
+        refused("FFFF009D 085E 07 FFFF0080", &[4]);
+        refused("FFFF009D 085E * 7 FFFF0080", &[4]);
+        refused("FFFF009D 085F * FFFF0080", &[5]);
+        refused("FFFF00DA 085E *", &[3]);
+        refused("FFFF009D 0101 * FFFF009D", &[7]);
+        refused("FFFF0080 FFFF", &[8]);
+        assert_eq!(answers("FFFF009D 0101 * FFFF0080 FFFE"), [line(0, None, None), Answer::Refused(9)]);
+    }
+
+    #[test]
+    fn a_bad_body_byte_is_refused() {
+        let mut reader = Reader::new(Profile::VV5404);
+        let mut nibbles = crate::writer::write(0, 3, 9, &[1; 356], (255, 255), 0, 1000).unwrap();
+        nibbles[13] = 0;
+        let mut line = [5; LONGEST];
+        assert_eq!(reader.run(&nibbles, &mut line), (Some(Answer::Refused(6)), 732));
+        assert_eq!(line, [5; LONGEST]);
+    }
+
+    #[test]
+    fn a_refused_call_takes_nothing_more() {
+        let mut reader = Reader::new(Profile::VV5300);
+        assert_eq!(reader.run(&[15, 15], &mut [0; 167]), (Some(Answer::Refused(12)), 0));
+        assert_eq!(reader.run(&[15, 15, 16, 15], &mut [0; 168]), (Some(Answer::Refused(10)), 2));
+        assert_eq!(reader.finish(), None);
     }
 }

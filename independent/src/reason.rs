@@ -52,7 +52,7 @@ pub fn why(profile: u8, before: u8, run: &[u8]) -> (u8, usize, usize) {
 
 fn gap(profile: Profile, before: u8, gap: &[u8]) -> (u8, usize, usize) {
     let mut stray = 0;
-    if profile == Profile::P1 {
+    if profile == Profile::VV5300 {
         if gap.len() < 4 {
             return (9, gap.len(), NONE);
         }
@@ -85,5 +85,46 @@ fn line(profile: Profile, kind: u8, text: &[u8], next: u8) -> (u8, usize, usize)
     match read_code(next) {
         Reading::Clean(Code::End) | Reading::Repaired(Code::End, _) => (128, NONE, NONE),
         _ => (7, usize::from(next), NONE),
+    }
+}
+
+#[cfg(test)]
+mod tests {
+    use super::*;
+
+    /// The answer's number and values, of digits that begin at a mark; `*` stands for a blank body of 356.
+    fn told(profile: u8, before: u8, text: &str) -> (u8, usize, usize) {
+        let text = text.replace(' ', "").replace('*', &"07".repeat(356));
+        let run: Vec<u8> = text.chars().map(|c| c.to_digit(16).unwrap() as u8).collect();
+        why(profile, before, &run)
+    }
+
+    #[test]
+    fn each_answer_has_its_reason() {
+        assert_eq!(told(0, 0, "FFFF009D 085E * FFFF0080"), (128, NONE, NONE));
+        assert_eq!(told(0, 1, "FFFF0080 FFFF"), (129, NONE, NONE));
+        // 9E is 9D with two bits flipped: P1 and P0.
+        assert_eq!(told(0, 0, "FFFF009E"), (1, 0x9E, 0b0011));
+        assert_eq!(told(0, 0, "FFFF00ED"), (2, NONE, NONE));
+        assert_eq!(told(0, 0, "FFFF009D 085E"), (3, NONE, NONE));
+        assert_eq!(told(0, 0, "FFFF009D 085E *7 FFFF0080"), (4, 719, 718));
+        assert_eq!(told(0, 0, "FFFF009D 085F * FFFF0080"), (5, 1, 0x5F));
+        assert_eq!(told(0, 0, "FFFF00C7 0101 * FFFF009D"), (7, 0x9D, NONE));
+        assert_eq!(told(0, 0, "FFFF0080"), (8, NONE, NONE));
+        assert_eq!(told(0, 1, "FFFF0080 FFFE"), (9, 3, 14));
+        assert_eq!(told(1, 3, "FFFF0080 017"), (9, 3, NONE));
+        assert_eq!(told(1, 3, "FFFF0080 01FF"), (9, 2, 15));
+    }
+
+    #[test]
+    fn a_bad_body_byte_has_its_place() {
+        let mut run = crate::writer::write(0, 3, 9, &[1; 356], (255, 255), 0, 1000).unwrap();
+        (run[12 + 2 * 17], run[13 + 2 * 17]) = (0, 0);
+        assert_eq!(why(0, 0, &run), (6, 17, 0));
+    }
+
+    #[test]
+    fn refusals_come_in_their_order() {
+        assert_eq!([why(2, 6, &[16]).0, why(0, 6, &[16]).0, why(0, 5, &[16]).0, why(0, 5, &[15]).0], [11, 13, 10, 36]);
     }
 }

@@ -94,3 +94,48 @@ pub fn messages(bytes: &[u8], version: u16, room: usize) -> Result<Vec<u8>, u8> 
     }
     Ok(messages)
 }
+
+#[cfg(test)]
+mod tests {
+    use super::*;
+
+    #[test]
+    fn settings_are_clipped_and_found() {
+        let (version, list) = save(&[0; 64], 500, 400, 7, 3, 30).unwrap();
+        assert_eq!(version, 1);
+        assert_eq!(list[..8], [0, 1, 1, 104, 1, 46, 7, 3]);
+        assert_eq!(list[8..], [0; 56]);
+        assert_eq!(find(&list, 1), Ok(Setting { version: 1, fine: 360, coarse: 302, gain: 7, divisor: 3 }));
+        let (_, slower) = save(&[0; 64], 500, 400, 7, 3, 25).unwrap();
+        assert_eq!(find(&slower, 1).map(|s| s.fine), Ok(438));
+    }
+
+    #[test]
+    fn the_ninth_drops_the_oldest() {
+        let list = (0..9).fold(vec![0; 64], |list, i| save(&list, i, 0, 0, 0, 25).unwrap().1);
+        assert_eq!(find(&list, 1), Err(30));
+        let (version, list) = back(&list, 2).unwrap();
+        assert_eq!((version, find(&list, 10).map(|s| s.fine), find(&list, 2)), (10, Ok(1), Err(30)));
+    }
+
+    #[test]
+    fn refusals_come_in_their_order() {
+        let (_, list) = save(&[0; 64], 1, 2, 3, 3, 25).unwrap();
+        let mut last = [0; 64];
+        last[..2].fill(255);
+        assert_eq!([save(&[0; 63], 0, 0, 2, 0, 25), save(&last, 0, 0, 2, 0, 25), save(&last, 0, 0, 1, 0, 25)], [Err(37), Err(29), Err(31)]);
+        assert_eq!([back(&list[8..], 0), back(&list, 0), back(&last, 65_535)], [Err(37), Err(30), Err(31)]);
+        assert_eq!([messages(&list[8..], 2, 0), messages(&list, 2, 0), messages(&list, 1, 17)], [Err(37), Err(30), Err(12)]);
+        // A place after an unused one, and versions that are not in sequence.
+        let [mut apart, mut broken] = [[0; 64]; 2];
+        apart[9] = 1;
+        (broken[1], broken[9]) = (1, 3);
+        assert_eq!([from_bytes(&apart), from_bytes(&broken)], [Err(37), Err(37)]);
+    }
+
+    #[test]
+    fn messages_write_registers_32_to_37() {
+        let (_, list) = save(&[0; 64], 257, 258, 3, 2, 25).unwrap();
+        assert_eq!(messages(&list, 1, 18), Ok(vec![32, 32, 1, 32, 33, 1, 32, 34, 1, 32, 35, 2, 32, 36, 3, 32, 37, 2]));
+    }
+}

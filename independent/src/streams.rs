@@ -16,8 +16,8 @@ pub struct Line {
 
 pub fn profile_number(profile: Profile) -> u8 {
     match profile {
-        Profile::P0 => 0,
-        Profile::P1 => 1,
+        Profile::VV5404 => 0,
+        Profile::VV5300 => 1,
     }
 }
 
@@ -33,19 +33,19 @@ pub fn line(random: &mut Random, profile: Profile, kind: u8, number: u16) -> Lin
     let n = profile.body_length();
     let mut body = vec![7; n];
     let (image, border) = match profile {
-        Profile::P0 => (0..356, 0..356),
-        Profile::P1 => (4..164, 2..166),
+        Profile::VV5404 => (0..356, 0..356),
+        Profile::VV5300 => (4..164, 2..166),
     };
     match kind {
         2 | 3 => border.for_each(|i| body[i] = pixel(random)),
         4 => image.step_by(2).for_each(|i| body[i] = random.pick(&[0x00, 0xFF, 0x07, 0x0F, 0xF0, 0x5A])),
-        5 if profile == Profile::P1 => (4..12).step_by(2).for_each(|i| body[i] = pixel(random)),
+        5 if profile == Profile::VV5300 => (4..12).step_by(2).for_each(|i| body[i] = pixel(random)),
         _ => {}
     }
     let gap = match (profile, kind) {
-        (Profile::P0, _) => (255, 255),
-        (Profile::P1, 3) => (pixel(random), pixel(random)),
-        (Profile::P1, _) => (7, 7),
+        (Profile::VV5404, _) => (255, 255),
+        (Profile::VV5300, 3) => (pixel(random), pixel(random)),
+        (Profile::VV5300, _) => (7, 7),
     };
     let nulls = match random.below(4) {
         0 => 0,
@@ -79,7 +79,7 @@ pub fn frame_kinds(borders: bool) -> Vec<u8> {
 /// A whole frame of profile 0, its lines with this many null bytes.
 pub fn frame(random: &mut Random, borders: bool, nulls: u32) -> Vec<Line> {
     let kinds = frame_kinds(borders);
-    (0..).zip(kinds).map(|(number, kind)| Line { nulls, ..line(random, Profile::P0, kind, number) }).collect()
+    (0..).zip(kinds).map(|(number, kind)| Line { nulls, ..line(random, Profile::VV5404, kind, number) }).collect()
 }
 
 pub fn clean(random: &mut Random, profile: Profile, lines: usize) -> Vec<u8> {
@@ -228,7 +228,7 @@ pub fn stream(random: &mut Random, sort: Sort, profile: Profile) -> Vec<u8> {
             dense(random, 8 * lines, spacing)
         }
         Sort::OtherProfile => {
-            let other = if profile == Profile::P0 { Profile::P1 } else { Profile::P0 };
+            let other = if profile == Profile::VV5404 { Profile::VV5300 } else { Profile::VV5404 };
             clean(random, other, lines)
         }
         Sort::NotNibbles => {
@@ -266,4 +266,34 @@ pub fn run_length(random: &mut Random, left: usize) -> usize {
         _ => random.below(800),
     };
     length.min(left)
+}
+
+#[cfg(test)]
+mod tests {
+    use super::*;
+
+    #[test]
+    fn frames_have_304_lines_of_their_kinds() {
+        for (borders, visible) in [(true, 292), (false, 288)] {
+            let lines = frame(&mut Random::new(1), borders, 25);
+            assert_eq!((lines.len(), lines.iter().filter(|l| l.kind == 3).count()), (304, visible));
+            assert!(lines.iter().all(|l| written(Profile::VV5404, l).len() == 786));
+        }
+    }
+
+    #[test]
+    fn streams_are_nibbles_unless_they_are_meant_not_to_be() {
+        let mut random = Random::new(2);
+        for sort in SORTS {
+            for profile in [Profile::VV5404, Profile::VV5300] {
+                let above = (0..20).any(|_| stream(&mut random, sort, profile).iter().any(|n| *n > 15));
+                assert_eq!(above, sort == Sort::NotNibbles, "{sort:?}");
+            }
+        }
+    }
+
+    #[test]
+    fn the_high_nibble_is_packed_first() {
+        assert_eq!(packed(&[1, 2, 3]), [0x12, 0x3F]);
+    }
 }

@@ -62,3 +62,46 @@ impl Table {
         [0, 1, 2, 3, 4, 5, 6, 7].map(|i: usize| self.places[i].as_ref().map_or(0, |(who, _)| *who))
     }
 }
+
+#[cfg(test)]
+mod tests {
+    use super::*;
+
+    #[test]
+    fn the_lowest_free_place_is_opened() {
+        let mut table = Table::default();
+        for place in 0..8 {
+            assert_eq!(table.open(1 + place as u8 % 2, 0), Ok(place));
+        }
+        assert_eq!(table.open(1, 0), Err(33));
+        assert_eq!([table.close(2, 5), table.close(1, 2)], [Ok(()), Ok(())]);
+        assert_eq!(table.open(2, 1), Ok(2));
+        assert_eq!(table.owners(), [1, 2, 2, 2, 1, 0, 1, 2]);
+    }
+
+    #[test]
+    fn each_calls_only_places_they_opened() {
+        let mut table = Table::default();
+        table.open(1, 0).unwrap();
+        let refused = |n| (Some(Answer::Refused(n)), 0);
+        assert_eq!(table.feed(3, 0, &[1], &mut []), refused(32));
+        assert_eq!(
+            [(2, 0), (1, 1), (1, 8)].map(|(who, place)| table.feed(who, place, &[1], &mut [])),
+            [refused(34), refused(34), refused(34)]
+        );
+        assert_eq!(table.feed(1, 0, &[1], &mut []), refused(12));
+        assert_eq!([table.open(3, 2), table.open(1, 2)], [Err(32), Err(11)]);
+        assert_eq!([table.close(2, 0), table.close(1, 0), table.close(1, 0)], [Err(34), Ok(()), Err(34)]);
+    }
+
+    #[test]
+    fn a_place_has_a_reader_of_its_own() {
+        let mut table = Table::default();
+        let places = [table.open(1, 0), table.open(2, 0)].map(Result::unwrap);
+        table.feed(1, places[0], &[15, 15, 15, 15, 0, 0, 9, 14], &mut [0; 356]);
+        assert_eq!(
+            [table.finish(2, places[1]), table.finish(1, places[0]), table.finish(1, places[0])],
+            [None, Some(Answer::Refused(1)), None]
+        );
+    }
+}

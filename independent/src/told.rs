@@ -33,8 +33,8 @@ pub fn filled(told: Result<usize, Refusal>) -> (u8, usize) {
 
 pub fn profile(profile: crate::layout::Profile) -> bus::Profile {
     match profile {
-        crate::layout::Profile::P0 => bus::Profile::Vv5404,
-        crate::layout::Profile::P1 => bus::Profile::Vv5300,
+        crate::layout::Profile::VV5404 => bus::Profile::VV5404,
+        crate::layout::Profile::VV5300 => bus::Profile::VV5300,
     }
 }
 
@@ -43,4 +43,27 @@ pub fn kind(number: u8) -> Option<bus::Kind> {
     [bus::Kind::Blank, bus::Kind::Black, bus::Kind::Visible, bus::Kind::StartOfFrame, bus::Kind::EndOfFrame]
         .into_iter()
         .find(|k| *k as u8 == number)
+}
+
+#[cfg(test)]
+mod tests {
+    use super::*;
+
+    #[test]
+    fn answers_are_the_same_in_both_words() {
+        assert_eq!(answer(Ok(None)), None);
+        let line = bus::Answer::Line { kind: bus::Kind::Visible, number: 9, start: Some(7), end: None };
+        assert_eq!(answer(Ok(Some(line))), Some(Answer::Line { kind: 3, number: 9, start: Some(7), end: None }));
+        assert_eq!(answer(Ok(Some(bus::Answer::Gap { first: 1, second: 2, period: 3 }))), Some(Answer::Gap(1, 2, 3)));
+        assert_eq!(answer(Ok(Some(bus::Answer::Refused(Refusal::BadGap)))), Some(Answer::Refused(9)));
+        assert_eq!(answer(Err(Refusal::NoRoom)), Some(Answer::Refused(12)));
+        assert_eq!(ruling(Ok(bus::Ruling::GivenUp(Refusal::NotTheLineDue))), Ruling::Refused(18));
+        assert_eq!([filled(Ok(5)), filled(Err(Refusal::NoRoom))], [(0, 5), (12, 0)]);
+    }
+
+    #[test]
+    fn kinds_are_1_to_5() {
+        assert_eq!((0..=255).filter(|n| kind(*n).is_some()).collect::<Vec<u8>>(), [1, 2, 3, 4, 5]);
+        assert_eq!(kind(4), Some(bus::Kind::StartOfFrame));
+    }
 }

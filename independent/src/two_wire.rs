@@ -7,6 +7,12 @@ pub struct Sensor {
     increment: bool,
 }
 
+impl Default for Sensor {
+    fn default() -> Sensor {
+        Sensor::new()
+    }
+}
+
 impl Sensor {
     pub fn new() -> Sensor {
         Sensor { registers: [0; 128], index: 0, increment: false }
@@ -70,7 +76,7 @@ impl Sensor {
 
 /// The messages of pairs, index and value, or the refusal.
 pub fn write(pairs: &[u8], room: usize) -> Result<Vec<u8>, u8> {
-    if pairs.len() % 2 != 0 {
+    if !pairs.len().is_multiple_of(2) {
         return Err(24);
     }
     if pairs.chunks(2).any(|p| p[0] > 127) {
@@ -81,4 +87,56 @@ pub fn write(pairs: &[u8], room: usize) -> Result<Vec<u8>, u8> {
         return Err(12);
     }
     Ok(messages)
+}
+
+#[cfg(test)]
+mod tests {
+    use super::*;
+
+    #[test]
+    fn increment_moves_after_each_byte() {
+        let mut sensor = Sensor::new();
+        assert_eq!(sensor.message(&[32, 128 + 32, 1, 2, 3]), Ok(()));
+        assert_eq!([32, 33, 34, 35].map(|i| sensor.register(i)), [1, 2, 3, 0]);
+        assert_eq!(sensor.second(), 128 + 35);
+        // Past 127 the index is 0.
+        assert_eq!(sensor.message(&[32, 128 + 127, 9]), Ok(()));
+        assert_eq!((sensor.register(127), sensor.second()), (9, 128));
+    }
+
+    #[test]
+    fn refusals_come_in_their_order_and_change_nothing() {
+        let mut sensor = Sensor::new();
+        sensor.message(&[32, 128 + 127]).unwrap();
+        let before = sensor.clone();
+        let refused: [(&[u8], u8); 6] =
+            [(&[9], 24), (&[34, 0], 25), (&[33, 127], 26), (&[33, 255, 1, 0], 27), (&[33, 255, 0, 0], 28), (&[32, 255, 1, 1], 28)];
+        for (message, number) in refused {
+            assert_eq!(sensor.message(message), Err(number), "{message:?}");
+            assert_eq!(sensor, before);
+        }
+    }
+
+    #[test]
+    fn the_sensors_own_registers_stay() {
+        let mut sensor = Sensor::new();
+        assert_eq!(sensor.message(&[32, 128, 1, 2, 3, 4, 5, 6]), Ok(()));
+        assert_eq!([0, 4, 5].map(|i| sensor.register(i)), [0, 0, 6]);
+    }
+
+    #[test]
+    fn a_sensor_is_bytes() {
+        let mut sensor = Sensor::new();
+        sensor.message(&[32, 128 + 40, 7]).unwrap();
+        let mut bytes = sensor.to_bytes();
+        assert_eq!(Sensor::from_bytes(&bytes), Some(sensor));
+        bytes[128] = 128;
+        assert_eq!(Sensor::from_bytes(&bytes), None);
+    }
+
+    #[test]
+    fn pairs_are_messages_of_three_bytes() {
+        assert_eq!(write(&[32, 1, 127, 2], 6), Ok(vec![32, 32, 1, 32, 127, 2]));
+        assert_eq!([write(&[128], 0), write(&[128, 1], 0), write(&[127, 1], 2)], [Err(24), Err(28), Err(12)]);
+    }
 }

@@ -39,3 +39,40 @@ pub fn write(profile: u8, kind: u8, number: u16, body: &[u8], gap: (u8, u8), nul
     }
     Ok(out)
 }
+
+#[cfg(test)]
+mod tests {
+    use super::*;
+
+    fn written(profile: u8, kind: u8, number: u16, body: &[u8], gap: (u8, u8), nulls: u32, room: usize) -> Result<usize, u8> {
+        write(profile, kind, number, body, gap, nulls, room).map(|nibbles| nibbles.len())
+    }
+
+    /// 004's line periods: 393 bytes at 30 frames a second, 471 at 25.
+    #[test]
+    fn a_line_has_its_period() {
+        assert_eq!(written(0, 1, 303, &[7; 356], (255, 255), 25, 786), Ok(2 * 393));
+        assert_eq!(written(0, 1, 303, &[7; 356], (255, 255), 103, 942), Ok(2 * 471));
+        assert_eq!(written(1, 2, 0, &[7; 168], (7, 7), 255, 870), Ok(360 + 2 * 255));
+    }
+
+    #[test]
+    fn a_line_is_mark_number_body_end_and_gap() {
+        let nibbles = write(0, 1, 303, &[7; 356], (255, 255), 1, 1000).unwrap();
+        assert_eq!(nibbles[..14], [15, 15, 15, 15, 0, 0, 9, 13, 0, 8, 5, 14, 0, 7]);
+        assert_eq!(nibbles[722..], [0, 7, 15, 15, 15, 15, 0, 0, 8, 0, 15, 15, 15, 15, 15, 15]);
+    }
+
+    /// Each call has all faults of those after it.
+    #[test]
+    fn refusals_come_in_their_order() {
+        assert_eq!(written(2, 6, 4096, &[0; 3], (0, 0), 256, 0), Err(11));
+        assert_eq!(written(0, 6, 4096, &[0; 3], (0, 0), 256, 0), Err(13));
+        assert_eq!(written(0, 1, 4096, &[0; 3], (0, 0), 256, 0), Err(14));
+        assert_eq!(written(0, 1, 4095, &[0; 3], (0, 0), 256, 0), Err(15));
+        assert_eq!(written(0, 1, 4095, &[0; 356], (255, 255), 256, 0), Err(16));
+        assert_eq!(written(0, 1, 4095, &[7; 356], (255, 255), 256, 0), Err(17));
+        assert_eq!(written(0, 1, 4095, &[7; 356], (255, 255), 255, 1245), Err(12));
+        assert_eq!(written(0, 1, 4095, &[7; 356], (255, 255), 255, 1246), Ok(1246));
+    }
+}

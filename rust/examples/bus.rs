@@ -26,7 +26,7 @@ fn main() -> Result<(), Box<dyn std::error::Error>> {
     io::stdin().read_to_end(&mut capture)?;
     let nibbles: Vec<u8> = capture.iter().flat_map(|byte| [byte >> 4, byte & 15]).collect();
     let mut line = [0; 356];
-    let mut reader = Reader::new(Profile::Vv5404);
+    let mut reader = Reader::new(Profile::VV5404);
     let mut answers = Vec::new();
     let mut at = 0;
     while at < nibbles.len() {

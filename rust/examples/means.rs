@@ -10,7 +10,7 @@ use std::io::{self, Read};
 fn show(number: u16, body: &[u8], gap: &Answer) -> Result<(), fluturenc::Refusal> {
     match gap {
         Answer::Gap { first, second, .. } => {
-            let [a, b] = half_means(Profile::Vv5300, Kind::Visible, body, (*first, *second))?;
+            let [a, b] = half_means(Profile::VV5300, Kind::Visible, body, (*first, *second))?;
             println!("{number} {first} {second} {:.6} {:.6} {} {}", a.mean, b.mean, a.difference, b.difference);
         }
         _ => println!("{number} refused: 9, bad gap"),
@@ -22,7 +22,7 @@ fn main() -> Result<(), Box<dyn std::error::Error>> {
     let mut capture = Vec::new();
     io::stdin().read_to_end(&mut capture)?;
     let nibbles: Vec<u8> = capture.iter().flat_map(|byte| [byte >> 4, byte & 15]).collect();
-    let mut reader = Reader::new(Profile::Vv5300);
+    let mut reader = Reader::new(Profile::VV5300);
     let (mut line, mut visible, mut at) = ([0; 168], None, 0);
     println!("line sensor1 sensor2 mean1 mean2 difference1 difference2");
     while at <= nibbles.len() {

@@ -7,7 +7,7 @@ use std::io::{self, Read, Write};
 
 /// The visible lines of the first complete frame, end to end.
 fn rows(nibbles: &[u8]) -> Result<Vec<u8>, Box<dyn std::error::Error>> {
-    let (mut reader, mut judge) = (Reader::new(Profile::Vv5404), Judge::new());
+    let (mut reader, mut judge) = (Reader::new(Profile::VV5404), Judge::new());
     let (mut line, mut rows, mut at) = ([0; picture::WIDTH], Vec::new(), 0);
     while at < nibbles.len() {
         let fed = reader.feed(&nibbles[at..], &mut line);

@@ -57,8 +57,8 @@ impl Desk {
 
 fn main() -> Result<(), Box<dyn std::error::Error>> {
     let mut table = Table::new();
-    let mut first = Desk::new(&mut table, Technician::First, Profile::Vv5404)?;
-    let mut second = Desk::new(&mut table, Technician::Second, Profile::Vv5300)?;
+    let mut first = Desk::new(&mut table, Technician::First, Profile::VV5404)?;
+    let mut second = Desk::new(&mut table, Technician::Second, Profile::VV5300)?;
     // The other's place, a free one and none at all are refused alike.
     for place in [second.place, 2, 8] {
         if let Err(why) = table.close(Technician::First, place) {
@@ -78,6 +78,6 @@ fn main() -> Result<(), Box<dyn std::error::Error>> {
     first.close(&mut table)?;
     second.close(&mut table)?;
     // A closed place is free again, the lowest first.
-    println!("2: place {}", table.open(Technician::Second, Profile::Vv5404)?);
+    println!("2: place {}", table.open(Technician::Second, Profile::VV5404)?);
     Ok(())
 }

@@ -5,17 +5,17 @@ use crate::Refusal;
 #[derive(Clone, Copy, PartialEq, Eq, Hash, Debug)]
 pub enum Profile {
     /// VV5404 and VV6404
-    Vv5404 = 0,
+    VV5404 = 0,
     /// VV5300 in 8-bit conversion
-    Vv5300 = 1,
+    VV5300 = 1,
 }
 
 impl Profile {
     /// The bytes of a body.
     pub fn body_length(self) -> usize {
         match self {
-            Profile::Vv5404 => 356,
-            Profile::Vv5300 => 168,
+            Profile::VV5404 => 356,
+            Profile::VV5300 => 168,
         }
     }
 }
@@ -242,5 +242,132 @@ pub mod raw {
     /// The bit of a repair's number; none is 0.
     fn repair(number: u64) -> Option<u8> {
         number.checked_sub(1).map(|bit| u8::try_from(bit).expect("a bit is a byte"))
+    }
+}
+
+#[cfg(test)]
+mod tests {
+    use super::*;
+
+    /// A blank VV5404 line numbered 303, as it is written, with so many null bytes.
+    fn blank(nulls: u32) -> Vec<u8> {
+        let mut nibbles = vec![0; 2000];
+        let length = write(Profile::VV5404, Kind::Blank, 303, &[7; 356], (255, 255), nulls, &mut nibbles).unwrap();
+        nibbles.truncate(length);
+        nibbles
+    }
+
+    fn line(start: Option<u8>, end: Option<u8>) -> Answer {
+        Answer::Line { kind: Kind::Blank, number: 303, start, end }
+    }
+
+    /// A line's text, its end and its gap: 393 bytes are 004's line period at 30 frames a second.
+    #[test]
+    fn a_line_is_written_and_read_back() {
+        let nibbles = blank(25);
+        assert_eq!(nibbles.len(), 2 * 393);
+        assert_eq!(nibbles[..14], [15, 15, 15, 15, 0, 0, 9, 13, 0, 8, 5, 14, 0, 7]);
+        let (mut reader, mut buffer) = (Reader::new(Profile::VV5404), [1; 360]);
+        assert_eq!(reader.feed(&nibbles, &mut buffer), Fed { taken: 732, answer: Ok(Some(line(None, None))) });
+        assert_eq!((&buffer[..356], &buffer[356..]), (&[7; 356][..], &[1; 4][..]));
+        assert_eq!(reader.feed(&nibbles[732..], &mut buffer), Fed { taken: 54, answer: Ok(None) });
+        // The next line's mark closes the gap.
+        let fed = reader.feed(&nibbles, &mut buffer);
+        assert_eq!(fed, Fed { taken: 8, answer: Ok(Some(Answer::Gap { first: 255, second: 255, period: 786 })) });
+        assert_eq!(reader.finish(), Some(Answer::Refused(Refusal::UnfinishedLine)));
+        assert_eq!(reader, Reader::new(Profile::VV5404));
+    }
+
+    /// 9C is 9D with bit 0 flipped, 1D with bit 7, 81 is 80 with bit 0.
+    #[test]
+    fn a_flipped_bit_is_repaired_and_told() {
+        for (start, bit) in [(0x9C, 0), (0xBD, 5), (0x1D, 7)] {
+            let mut nibbles = blank(0);
+            (nibbles[6], nibbles[7]) = (start >> 4, start & 15);
+            nibbles[731] = 1;
+            let fed = Reader::new(Profile::VV5404).feed(&nibbles, &mut [0; 356]);
+            assert_eq!(fed.answer, Ok(Some(line(Some(bit), Some(0)))));
+        }
+    }
+
+    #[test]
+    fn each_refusal_of_a_mark_has_its_number() {
+        let refused = |nibbles: &[u8]| {
+            let (mut reader, mut buffer) = (Reader::new(Profile::VV5404), [1; 356]);
+            let fed = reader.feed(nibbles, &mut buffer);
+            assert_eq!(buffer, [1; 356]);
+            match fed.answer.unwrap().or(reader.finish()) {
+                Some(Answer::Refused(why)) => why.number(),
+                other => panic!("{other:?}"),
+            }
+        };
+        let changed = |place: usize, nibble: u8| {
+            let mut nibbles = blank(0);
+            nibbles[place] = nibble;
+            refused(&nibbles)
+        };
+        assert_eq!(refused(&[15, 15, 15, 15, 0, 0, 9, 14]), 1);
+        assert_eq!(refused(&[15, 15, 15, 15, 0, 0, 14, 13]), 2);
+        assert_eq!(refused(&blank(0)[..700]), 3);
+        assert_eq!(refused(&[&blank(0)[..100], &blank(0)[101..]].concat()), 4);
+        assert_eq!(changed(11, 15), 5);
+        assert_eq!(changed(13, 8), 6);
+        assert_eq!(changed(730, 13), 7);
+        assert_eq!(refused(&[15, 15, 15, 15, 0, 0, 8, 0]), 8);
+    }
+
+    #[test]
+    fn a_refused_call_leaves_reader_and_buffer() {
+        let (mut reader, mut buffer) = (Reader::new(Profile::VV5404), [1; 355]);
+        let before = reader.clone();
+        assert_eq!(reader.feed(&blank(0), &mut buffer), Fed { taken: 0, answer: Err(Refusal::NoRoom) });
+        assert_eq!((&reader, buffer), (&before, [1; 355]));
+        // An input above 15 stops a run just before it.
+        assert_eq!(reader.feed(&[15, 15, 16, 15], &mut [0; 356]), Fed { taken: 2, answer: Err(Refusal::NotANibble) });
+        assert_ne!(reader, before);
+    }
+
+    /// In numbers, where no type keeps a wrong call out: each has all faults of those after it.
+    #[test]
+    fn the_writer_refuses_in_order_and_writes_nothing() {
+        let mut nibbles = [9; 1245];
+        let mut refused = |profile, kind, number, length, gap, nulls| {
+            let (answer, written) = raw::write(profile, kind, number, &[7; 356][..length], (gap, gap), nulls, &mut nibbles);
+            assert_eq!((written, nibbles), (0, [9; 1245]));
+            answer
+        };
+        assert_eq!(refused(2, 6, 4096, 355, 0, 256), 11);
+        assert_eq!(refused(0, 6, 4096, 355, 0, 256), 13);
+        assert_eq!(refused(0, 1, 4096, 355, 0, 256), 14);
+        assert_eq!(refused(0, 1, 4095, 355, 0, 256), 15);
+        assert_eq!(refused(0, 1, 4095, 356, 0, 256), 16);
+        assert_eq!(refused(0, 1, 4095, 356, 255, 256), 17);
+        assert_eq!(refused(0, 1, 4095, 356, 255, 255), 12);
+    }
+
+    #[test]
+    fn a_state_that_no_call_left_is_refused() {
+        let mut state = vec![3; raw::state_length()];
+        let before = state.clone();
+        assert_eq!(raw::feed(&mut state, &[1, 2], &mut [0; 356]), (11, 0));
+        assert_eq!([raw::finish(&mut state), raw::open(2, &mut state).into()], [11, 11]);
+        assert_eq!(raw::open(0, &mut state[1..]), 12);
+        assert_eq!(state, before);
+    }
+
+    /// Borders on: SOF, two BK, seven BL, 292 VL, EOF, BL.
+    #[test]
+    fn a_whole_frame_is_complete() {
+        let kinds = [(Kind::StartOfFrame, 1), (Kind::Black, 2), (Kind::Blank, 7), (Kind::Visible, 292), (Kind::EndOfFrame, 1)];
+        let lines = kinds.into_iter().flat_map(|(kind, count)| std::iter::repeat_n(kind, count));
+        let mut judge = Judge::new();
+        assert_eq!(judge.line(Some(Kind::Blank), 303), Ok(Ruling::Waiting));
+        for (number, kind) in (0..).zip(lines) {
+            assert_eq!(judge.line(Some(kind), number), Ok(Ruling::Going), "{number}");
+        }
+        let mut other = judge.clone();
+        assert_eq!(judge.line(Some(Kind::Blank), 303), Ok(Ruling::Complete));
+        assert_eq!(other.line(None, 303), Ok(Ruling::GivenUp(Refusal::BrokenLine)));
+        assert_eq!(judge.line(Some(Kind::StartOfFrame), 4096), Err(Refusal::NumberTooLarge));
     }
 }

@@ -106,3 +106,46 @@ pub mod raw {
         (answer, written)
     }
 }
+
+#[cfg(test)]
+mod tests {
+    use super::*;
+
+    fn line(kind: Kind, number: u16, body: [u8; 356]) -> Line {
+        Line { kind, number, body }
+    }
+
+    #[test]
+    fn differences_are_told_in_order() {
+        let mut other = [7; 356];
+        other[300] = 9;
+        let only = |side, kind, number| Difference::Only { side, line: Box::new(line(kind, number, [7; 356])) };
+        let first = [line(Kind::Blank, 5, [7; 356]), line(Kind::Visible, 256, [7; 356])];
+        let second = [line(Kind::Black, 256, other), line(Kind::Blank, 300, [7; 356])];
+        let wanted = vec![
+            only(Side::First, Kind::Blank, 5),
+            Difference::Kinds { number: 256, first: Kind::Visible, second: Kind::Black },
+            Difference::Place { number: 256, place: 300, first: 7, second: 9 },
+            only(Side::Second, Kind::Blank, 300),
+        ];
+        assert_eq!(compare(&first, &second), Ok(wanted));
+        assert_eq!(compare(&first, &first), Ok(vec![]));
+    }
+
+    #[test]
+    fn numbers_must_rise() {
+        let lines = [line(Kind::Blank, 5000, [7; 356]), line(Kind::Blank, 5000, [7; 356])];
+        assert_eq!(compare(&lines, &[]), Err(Refusal::NumbersNotRising));
+        assert_eq!(compare(&lines[1..], &[]), Err(Refusal::NumberTooLarge));
+    }
+
+    #[test]
+    fn a_refused_call_leaves_the_buffer() {
+        let list = listed(&[line(Kind::Blank, 5, [7; 356])]);
+        let mut differences = [9; 359];
+        assert_eq!(raw::compare(&list, &[], &mut differences), (12, 0));
+        assert_eq!(raw::compare(&list[1..], &[], &mut differences), (13, 0));
+        assert_eq!(raw::compare(&list[..358], &[], &mut differences), (15, 0));
+        assert_eq!(differences, [9; 359]);
+    }
+}

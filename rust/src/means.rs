@@ -41,3 +41,27 @@ pub mod raw {
         unsafe { fluturenc_half_means(profile, kind, body.as_ptr(), body.len(), sent.0, sent.1, mean1, mean2, beside1, beside2) }
     }
 }
+
+#[cfg(test)]
+mod tests {
+    use super::*;
+
+    #[test]
+    fn means_are_exact() {
+        let mut body = [7; 168];
+        body[2..166].fill(1);
+        body[4 + 16] = 254;
+        body[4 + 80..4 + 144].fill(254);
+        // 253 more than 64 ones; and 64 times 254.
+        let wanted = [Half { mean: 317.0 / 64.0, difference: 16_256 - 317 }, Half { mean: 254.0, difference: -16_192 }];
+        assert_eq!(half_means(Profile::VV5300, Kind::Visible, &body, (254, 1)), Ok(wanted));
+    }
+
+    #[test]
+    fn a_refused_call_leaves_its_places() {
+        let (mut means, mut differences) = ([1.5; 2], [2; 2]);
+        let mut call = |profile, kind, body: &[u8]| raw::half_means(profile, kind, body, (0, 0), &mut means, &mut differences);
+        assert_eq!([call(0, 1, &[]), call(1, 1, &[]), call(1, 3, &[]), call(1, 3, &[7; 168])], [11, 23, 15, 16]);
+        assert_eq!((means, differences), ([1.5; 2], [2; 2]));
+    }
+}

@@ -81,3 +81,45 @@ pub mod raw {
         (answer, written)
     }
 }
+
+#[cfg(test)]
+mod tests {
+    use super::*;
+
+    #[test]
+    fn a_picture_is_written_and_read_back() {
+        let rows = vec![9; WIDTH * HEIGHT_ON];
+        let mut file = vec![0; LONGEST_FILE + 1];
+        assert_eq!(write(&rows, &mut file), Ok(LONGEST_FILE));
+        assert!(file.starts_with(b"P5\n356 292\n255\n\x09") && file.ends_with(&[9, 0]));
+        let mut back = vec![0; rows.len()];
+        assert_eq!(read(&file[..LONGEST_FILE], &mut back), Ok(rows.len()));
+        assert_eq!(back, rows);
+    }
+
+    #[test]
+    fn a_refused_call_leaves_the_buffer() {
+        let mut rows = vec![9; WIDTH * HEIGHT_OFF];
+        let mut file = [1; 99];
+        assert_eq!(write(&rows[1..], &mut file), Err(Refusal::WrongPictureLength));
+        assert_eq!(write(&rows, &mut file), Err(Refusal::NoRoom));
+        rows[7] = 255;
+        assert_eq!(write(&rows, &mut file), Err(Refusal::BadPixel));
+        assert_eq!(read(b"P6\n356 288\n255\n", &mut file), Err(Refusal::BadHeader));
+        assert_eq!(to_body(Kind::Black, &rows[..1], &mut file), Err(Refusal::NotVisible));
+        assert_eq!(to_body(Kind::Visible, &rows[..1], &mut file), Err(Refusal::WrongBodyLength));
+        assert_eq!(to_body(Kind::Visible, &rows[..WIDTH], &mut file), Err(Refusal::NoRoom));
+        assert_eq!(file, [1; 99]);
+    }
+
+    /// Place j below 178 holds pixel 2j + 1, place 178 + j holds pixel 2j.
+    #[test]
+    fn each_order_undoes_the_other() {
+        let pixels: Vec<u8> = (0..356u16).map(|i| i as u8).collect();
+        let (mut body, mut back) = ([0; WIDTH], [0; WIDTH]);
+        assert_eq!(to_body(Kind::Visible, &pixels, &mut body), Ok(WIDTH));
+        assert_eq!((body[0], body[177], body[178], body[355]), (1, 99, 0, 98));
+        assert_eq!(to_pixels(Kind::Visible, &body, &mut back), Ok(WIDTH));
+        assert_eq!(back[..], pixels[..]);
+    }
+}

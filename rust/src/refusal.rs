@@ -95,3 +95,32 @@ impl fmt::Display for Refusal {
 }
 
 impl std::error::Error for Refusal {}
+
+#[cfg(test)]
+mod tests {
+    use super::*;
+
+    #[test]
+    fn numbers_are_1_to_37() {
+        for number in 0..=255 {
+            assert_eq!(Refusal::numbered(number).map(Refusal::number), (1..=37).contains(&number).then_some(number));
+        }
+    }
+
+    #[test]
+    fn words_stand_beside_the_number() {
+        assert_eq!(Refusal::DamagedCode.to_string(), "1, the mark's code is damaged");
+        assert_eq!(Refusal::NotSavedSettings.to_string(), "37, not a list of saved settings");
+    }
+
+    #[test]
+    fn a_length_or_the_refusal() {
+        assert_eq!([Refusal::or_length(0, 9), Refusal::or_length(12, 0)], [Ok(9), Err(Refusal::NoRoom)]);
+    }
+
+    #[test]
+    #[should_panic(expected = "a length beside the refusal 12")]
+    fn never_both() {
+        Refusal::or_length(12, 9).expect_err("a refusal");
+    }
+}

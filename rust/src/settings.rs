@@ -170,3 +170,50 @@ pub mod raw {
         (answer, written)
     }
 }
+
+#[cfg(test)]
+mod tests {
+    use super::*;
+
+    #[test]
+    fn settings_are_clipped_found_and_gone_back_to() {
+        let mut settings = Settings::new();
+        assert_eq!(settings.save(500, 400, Gain::Times8, 3, Rate::PerSecond30), Ok(1));
+        let saved = Setting { version: 1, fine: 360, coarse: 302, gain: 7, divisor: 3 };
+        assert_eq!(settings.find(1), Ok(saved));
+        assert_eq!(settings.save(500, 0, Gain::Times1, 0, Rate::PerSecond25), Ok(2));
+        assert_eq!(settings.find(2).map(|s| s.fine), Ok(438));
+        assert_eq!(settings.back(1), Ok(3));
+        assert_eq!(settings.find(3), Ok(Setting { version: 3, ..saved }));
+        let mut messages = [0; MESSAGES];
+        assert_eq!(settings.messages(3, &mut messages), Ok(MESSAGES));
+        assert_eq!(messages, [32, 32, 1, 32, 33, 104, 32, 34, 1, 32, 35, 46, 32, 36, 7, 32, 37, 3]);
+    }
+
+    #[test]
+    fn the_ninth_drops_the_oldest() {
+        let mut settings = Settings::new();
+        for fine in 0..9 {
+            assert_eq!(settings.save(fine, 0, Gain::Times1, 0, Rate::PerSecond25), Ok(fine + 1));
+        }
+        assert_eq!([settings.find(1).map(|s| s.fine), settings.find(2).map(|s| s.fine)], [Err(Refusal::VersionNotHeld), Ok(1)]);
+    }
+
+    #[test]
+    fn a_refused_call_leaves_the_list() {
+        let mut settings = Settings::new();
+        settings.save(1, 2, Gain::Times2, 3, Rate::PerSecond25).unwrap();
+        let before = settings.clone();
+        assert_eq!(settings.save(1, 2, Gain::Times2, 4, Rate::PerSecond25), Err(Refusal::BadSetting));
+        assert_eq!(settings.back(2), Err(Refusal::VersionNotHeld));
+        assert_eq!(settings, before);
+        assert_eq!(Settings::from_bytes(settings.as_bytes()), Ok(before));
+        assert_eq!(Settings::from_bytes(&settings.as_bytes()[1..]), Err(Refusal::NotSavedSettings));
+        let mut messages = [9; MESSAGES - 1];
+        assert_eq!(settings.messages(1, &mut messages), Err(Refusal::NoRoom));
+        assert_eq!(messages, [9; MESSAGES - 1]);
+        let mut last = [0; 64];
+        last[..2].fill(255);
+        assert_eq!(raw::save(&mut last, 1, 2, 1, 3, 25), (31, 0));
+    }
+}

@@ -120,3 +120,45 @@ pub mod raw {
         unsafe { fluturenc_table_close(table.as_mut_ptr(), table.len(), technician, place) }
     }
 }
+
+#[cfg(test)]
+mod tests {
+    use super::*;
+
+    use Technician::{First, Second};
+
+    #[test]
+    fn the_lowest_free_place_is_opened() {
+        let mut table = Table::new();
+        for place in 0..8 {
+            assert_eq!(table.open(if place % 2 == 0 { First } else { Second }, Profile::VV5404), Ok(place));
+        }
+        assert_eq!(table.open(First, Profile::VV5404), Err(Refusal::NoPlaceFree));
+        assert_eq!([table.close(Second, 5), table.close(First, 2)], [Ok(()), Ok(())]);
+        assert_eq!(table.open(Second, Profile::VV5300), Ok(2));
+    }
+
+    #[test]
+    fn each_calls_only_places_they_opened() {
+        let mut table = Table::new();
+        table.open(First, Profile::VV5404).unwrap();
+        let (before, mut line) = (table.clone(), [1; 355]);
+        let refused = Fed { taken: 0, answer: Err(Refusal::PlaceNotHeld) };
+        assert_eq!(table.feed(Second, 0, &[1], &mut line), refused);
+        assert_eq!(table.feed(First, 1, &[1], &mut line), refused);
+        assert_eq!(table.feed(First, usize::MAX, &[1], &mut line), refused);
+        assert_eq!(table.feed(First, 0, &[1], &mut line), Fed { taken: 0, answer: Err(Refusal::NoRoom) });
+        assert_eq!([table.close(Second, 0), table.close(First, 8)], [Err(Refusal::PlaceNotHeld); 2]);
+        assert_eq!((table, line), (before, [1; 355]));
+    }
+
+    #[test]
+    fn a_place_has_a_reader_of_its_own() {
+        let mut table = Table::new();
+        let places = [First, Second].map(|who| table.open(who, Profile::VV5404).unwrap());
+        table.feed(First, places[0], &[15, 15, 15, 15, 0, 0, 9, 14], &mut [0; 356]);
+        assert_eq!(table.finish(Second, places[1]), Ok(None));
+        assert_eq!(table.finish(First, places[0]), Ok(Some(Answer::Refused(Refusal::DamagedCode))));
+        assert_eq!(table.finish(First, places[0]), Ok(None));
+    }
+}

@@ -80,3 +80,43 @@ pub mod raw {
         (answer, written)
     }
 }
+
+#[cfg(test)]
+mod tests {
+    use super::*;
+
+    #[test]
+    fn increment_moves_after_each_byte() {
+        let mut sensor = Sensor::new();
+        assert_eq!(sensor.message(&[32, 128 + 32, 1, 2, 3]), Ok(()));
+        assert_eq!((&sensor.registers()[32..36], sensor.index(), sensor.increment()), (&[1, 2, 3, 0][..], 35, true));
+        // Past 127 the index is 0; registers 0 to 4 are the sensor's own.
+        assert_eq!(sensor.message(&[32, 128 + 127, 9]), Ok(()));
+        assert_eq!((sensor.registers()[127], sensor.index()), (9, 0));
+        assert_eq!(sensor.message(&[32, 128, 1, 2, 3, 4, 5, 6]), Ok(()));
+        assert_eq!(sensor.registers()[..6], [0, 0, 0, 0, 0, 6]);
+    }
+
+    #[test]
+    fn a_refused_message_changes_nothing() {
+        let mut sensor = Sensor::new();
+        sensor.message(&[32, 128 + 127]).unwrap();
+        let before = sensor.clone();
+        let refused: [(&[u8], u8); 6] =
+            [(&[9], 24), (&[34, 0], 25), (&[33, 127], 26), (&[33, 255, 1, 0], 27), (&[33, 255, 0, 0], 28), (&[32, 255, 1, 1], 28)];
+        for (message, number) in refused {
+            assert_eq!(sensor.message(message).map_err(Refusal::number), Err(number), "{message:?}");
+            assert_eq!(sensor, before);
+        }
+    }
+
+    #[test]
+    fn pairs_are_messages_of_three_bytes() {
+        let mut messages = [9; 7];
+        assert_eq!(write(&[(32, 1), (127, 2)], &mut messages), Ok(6));
+        assert_eq!(messages, [32, 32, 1, 32, 127, 2, 9]);
+        assert_eq!(write(&[(128, 1)], &mut messages), Err(Refusal::PastLastRegister));
+        assert_eq!(write(&[(3, 1)], &mut messages[..2]), Err(Refusal::NoRoom));
+        assert_eq!(messages, [32, 32, 1, 32, 127, 2, 9]);
+    }
+}

@@ -91,3 +91,47 @@ pub mod raw {
         })
     }
 }
+
+#[cfg(test)]
+mod tests {
+    use super::*;
+
+    /// Of digits that begin at a mark; `*` stands for a blank body of 356.
+    fn told(profile: Profile, before: Option<Kind>, text: &str) -> Result<Reason, Refusal> {
+        let text = text.replace(' ', "").replace('*', &"07".repeat(356));
+        let run: Vec<u8> = text.chars().map(|c| c.to_digit(17).unwrap() as u8).collect();
+        why(profile, before, &run)
+    }
+
+    #[test]
+    fn each_answer_has_its_reason() {
+        let line = |text| told(Profile::VV5404, None, text).unwrap();
+        assert_eq!(line("FFFF009D 085E * FFFF0080"), Reason::GoodLine);
+        // 9E is 9D with two bits flipped: P1 and P0.
+        assert_eq!(line("FFFF009E"), Reason::DamagedCode { byte: 0x9E, failed: [true, true, false, false] });
+        assert_eq!(line("FFFF00ED"), Reason::ReservedCode);
+        assert_eq!(line("FFFF009D 085E"), Reason::UnfinishedLine);
+        assert_eq!(line("FFFF009D 085E *7 FFFF0080"), Reason::WrongLength { found: 719, wanted: 718 });
+        assert_eq!(line("FFFF009D 085F * FFFF0080"), Reason::BadNumber { place: 1, byte: 0x5F });
+        assert_eq!(line("FFFF00C7 0101 * FFFF009D"), Reason::NoEndOfLine { code: 0x9D });
+        assert_eq!(line("FFFF0080"), Reason::EndWithoutLine);
+        let gap = |profile, text| told(profile, Some(Kind::Visible), text).unwrap();
+        assert_eq!(gap(Profile::VV5404, "FFFF0080 FFFF"), Reason::GoodGap);
+        assert_eq!(gap(Profile::VV5404, "FFFF0080 FFFE"), Reason::BadGap { place: 3, nibble: 14 });
+        assert_eq!(gap(Profile::VV5300, "FFFF0080 01FF"), Reason::BadGap { place: 2, nibble: 15 });
+        assert_eq!(gap(Profile::VV5300, "FFFF0080 017"), Reason::ShortGap { nibbles: 3 });
+    }
+
+    #[test]
+    fn a_bad_body_byte_has_its_place() {
+        let text = format!("FFFF009D 085E {}08 FFFF0080", "07".repeat(355));
+        assert_eq!(told(Profile::VV5404, None, &text), Ok(Reason::BadBody { place: 355, byte: 8 }));
+    }
+
+    #[test]
+    fn a_run_of_no_mark_is_refused() {
+        assert_eq!(told(Profile::VV5404, None, "FFFF0"), Err(Refusal::NoMarkFirst));
+        assert_eq!(told(Profile::VV5404, None, "FFFF0G"), Err(Refusal::NotANibble));
+        assert_eq!([raw::why(2, 6, &[16]).0, raw::why(0, 6, &[16]).0], [11, 13]);
+    }
+}

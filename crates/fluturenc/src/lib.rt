@@ -18,7 +18,7 @@
 // reader that passes its own test, then 12 if the line buffer is shorter than the body, also for no nibbles, and takes nothing; an input
 // above 15 stops it before that place with 10. Finish is refused 11. Refused calls change nothing, but that what stood before a 10 is taken.
 //
-// A state is moved and copied as bytes: crate reader_state has its layout. A judge is a number, 0 when fresh. For C: independent/fluturenc.h.
+// A state is moved and copied as bytes: crate reader_state has its layout. A judge is a number, 0 when fresh. For C: c/fluturenc.h.
 ghost use mathlib.Core.Path.{_≡_};
 ghost use Prim.Native.Nat.{_+_, _≤_};
 ghost use mathlib.Core.List.{_++_};

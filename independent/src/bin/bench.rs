@@ -90,7 +90,7 @@ fn tally(nibbles: &[u8], mut feed: impl FnMut(&[u8], &mut [u8]) -> (Option<Answe
 }
 
 fn proved_pass(nibbles: &[u8]) -> Tally {
-    let mut reader = bus::Reader::new(bus::Profile::Vv5404);
+    let mut reader = bus::Reader::new(bus::Profile::VV5404);
     let mut tally = tally(nibbles, |run, line| {
         let fed = reader.feed(run, line);
         (told::answer(fed.answer), fed.taken)
@@ -100,7 +100,7 @@ fn proved_pass(nibbles: &[u8]) -> Tally {
 }
 
 fn plain_pass(nibbles: &[u8]) -> Tally {
-    let mut reader = Reader::new(Profile::P0);
+    let mut reader = Reader::new(Profile::VV5404);
     let mut tally = tally(nibbles, |run, line| reader.run(run, line));
     tally.add(reader.finish());
     tally
@@ -128,7 +128,7 @@ fn later(nibbles: &[u8]) -> Vec<u8> {
 fn damaged(random: &mut Random, lines: &[streams::Line], size: usize) -> Vec<u8> {
     let mut all = Vec::new();
     for l in lines.iter().cycle() {
-        let mut w = streams::written(Profile::P0, l);
+        let mut w = streams::written(Profile::VV5404, l);
         if random.once_in(4) {
             let at = random.below(w.len());
             match random.below(3) {
@@ -149,12 +149,12 @@ fn damaged(random: &mut Random, lines: &[streams::Line], size: usize) -> Vec<u8>
 fn inputs(size: usize) -> Vec<(&'static str, Vec<u8>)> {
     let mut random = Random::new(0x5404_5300);
     let lines = streams::frame(&mut random, true, 25);
-    let frame: Vec<u8> = lines.iter().flat_map(|l| streams::written(Profile::P0, l)).collect();
+    let frame: Vec<u8> = lines.iter().flat_map(|l| streams::written(Profile::VV5404, l)).collect();
     let frames = frame.repeat(size.div_ceil(frame.len()));
     let mut pixels = Vec::new();
     while pixels.len() < size {
         let number = random.below(4096) as u16;
-        pixels.extend(streams::written(Profile::P0, &streams::line(&mut random, Profile::P0, 3, number)));
+        pixels.extend(streams::written(Profile::VV5404, &streams::line(&mut random, Profile::VV5404, 3, number)));
     }
     let mut all = vec![
         ("clean frames, even phase", frames.clone()),

@@ -112,7 +112,7 @@ fn compare_stream(random: &mut Random, pair: &mut Pair, sort: Sort, nibbles: &[u
 /// Streams of all sorts and both profiles.
 fn compare_streams(random: &mut Random, wanted: usize, count: &mut Count) {
     while count.nibbles < wanted {
-        for profile in [Profile::P0, Profile::P1] {
+        for profile in [Profile::VV5404, Profile::VV5300] {
             let mut pair = Pair::new(profile);
             for _ in 0..6 {
                 for sort in SORTS {
@@ -169,7 +169,7 @@ fn compare_edges(count: &mut Count) {
         ("a damaged code", hex("FFFF009E", &[]), vec![Answer::Refused(1)]),
     ];
     for (name, nibbles, wanted) in cases {
-        let mut pair = Pair::new(Profile::P0);
+        let mut pair = Pair::new(Profile::VV5404);
         let mut answers = Vec::new();
         let mut at = 0;
         let buffer = [0x55; LONGEST];
@@ -234,7 +234,7 @@ fn compare_refused_states(random: &mut Random, count: &mut Count) {
 
 /// A line for the writer, mostly with something wrong.
 fn for_writer(random: &mut Random) -> (u8, Line, usize) {
-    let profile = random.pick(&[Profile::P0, Profile::P1]);
+    let profile = random.pick(&[Profile::VV5404, Profile::VV5300]);
     let mut l = streams::any_line(random, profile);
     let mut number = streams::profile_number(profile);
     let full = 24 + 2 * profile.body_length() + 2 * l.nulls as usize;
@@ -362,12 +362,12 @@ fn compare_judge(random: &mut Random, frames: usize, count: &mut Count) {
 
 /// Whole frames through the proved writer, reader and judge, beside the independent ones.
 fn compare_frames(random: &mut Random, frames: usize, count: &mut Count) {
-    let mut pair = Pair::new(Profile::P0);
+    let mut pair = Pair::new(Profile::VV5404);
     let mut judges = Judges::default();
     let mut complete = 0;
     for frame in 0..frames {
         let borders = random.once_in(2);
-        let mut nibbles: Vec<u8> = streams::frame(random, borders, 25).iter().flat_map(|l| streams::written(Profile::P0, l)).collect();
+        let mut nibbles: Vec<u8> = streams::frame(random, borders, 25).iter().flat_map(|l| streams::written(Profile::VV5404, l)).collect();
         if frame % 2 == 1 {
             let at = random.below(nibbles.len());
             nibbles.drain(at..(at + 1 + random.below(9)).min(nibbles.len()));

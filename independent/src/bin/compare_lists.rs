@@ -41,7 +41,7 @@ fn list(random: &mut Random, body: &[u8; 356]) -> Vec<u8> {
 /// The same list with types, where each line is one.
 fn lines(list: &[u8]) -> Option<Vec<Line>> {
     let line = |l: &[u8]| Some(Line { kind: told::kind(l[0])?, number: u16::from_be_bytes([l[1], l[2]]), body: l[3..].try_into().ok()? });
-    (list.len() % LINE == 0).then(|| list.chunks(LINE).map(line).collect())?
+    list.len().is_multiple_of(LINE).then(|| list.chunks(LINE).map(line).collect())?
 }
 
 /// A difference with types, as it is written.

@@ -11,7 +11,7 @@ fn main() {
     let (times, mut random) = arguments();
     let mut counted = Counted::default();
     for _ in 0..20_000 * times {
-        let mut line = streams::line(&mut random, Profile::P1, 3, 0);
+        let mut line = streams::line(&mut random, Profile::VV5300, 3, 0);
         let (mut profile, mut kind) = (1, 3);
         if random.once_in(3) {
             let value = random.pick(&[1, 254]);

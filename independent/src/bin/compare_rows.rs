@@ -36,7 +36,7 @@ fn written(program: &Path, capture: &[u8]) -> Vec<u8> {
 /// The rows of the plain version.
 fn plain_rows(capture: &[u8]) -> Vec<u8> {
     let nibbles: Vec<u8> = capture.iter().flat_map(|b| [b >> 4, b & 15]).collect();
-    let (mut reader, mut line) = (Reader::new(Profile::P0), [0; 356]);
+    let (mut reader, mut line) = (Reader::new(Profile::VV5404), [0; 356]);
     let mut answers = Vec::new();
     let mut left = &nibbles[..];
     while !left.is_empty() {
@@ -171,7 +171,7 @@ fn raw_line(code: u8, text: &[u8], end: u8) -> Vec<u8> {
 
 /// The text of a good line after its code: two number bytes, 303, and a body.
 fn good_text(random: &mut Random, kind: u8) -> Vec<u8> {
-    [&[0x08, 0x5E][..], &streams::line(random, Profile::P0, kind, 303).body].concat()
+    [&[0x08, 0x5E][..], &streams::line(random, Profile::VV5404, kind, 303).body].concat()
 }
 
 /// So many cases, one after another.
@@ -225,7 +225,7 @@ fn edges(random: &mut Random) -> Vec<(&'static str, Vec<u8>)> {
 
 /// Streams that are longer than the C reader's buffer, or have a gap of about this many nibbles.
 fn long(random: &mut Random, about: usize) -> Vec<(&'static str, Vec<u8>)> {
-    let line = |random: &mut Random| streams::written(Profile::P0, &streams::any_line(random, Profile::P0));
+    let line = |random: &mut Random| streams::written(Profile::VV5404, &streams::any_line(random, Profile::VV5404));
     let mut lines = Vec::new();
     while lines.len() < 2 * about {
         let more = vec![15; random.below(3)];
@@ -276,7 +276,7 @@ fn main() {
             }
         }
     }
-    let line = streams::written(Profile::P0, &Line { nulls: 25, ..streams::line(random, Profile::P0, 3, 64) });
+    let line = streams::written(Profile::VV5404, &Line { nulls: 25, ..streams::line(random, Profile::VV5404, 3, 64) });
     for (phase, capture) in both_phases(&[&line[..], &line].concat()) {
         for end in 0..=capture.len() {
             all.small_capture(&format!("two lines cut after {end} bytes, {phase}"), &capture[..end], &[1 + end % 5, 4096]);
@@ -293,8 +293,10 @@ fn main() {
             all.small_capture(&format!("short {i}"), &capture, &[1, 1 + random.below(9)]);
         }
         for frames in [1, 2] {
-            let w: Vec<u8> =
-                (0..frames).flat_map(|_| streams::frame(random, frames == 1, 25)).flat_map(|l| streams::written(Profile::P0, &l)).collect();
+            let w: Vec<u8> = (0..frames)
+                .flat_map(|_| streams::frame(random, frames == 1, 25))
+                .flat_map(|l| streams::written(Profile::VV5404, &l))
+                .collect();
             for (phase, capture) in both_phases(&w) {
                 all.capture(&format!("{frames} clean frames, {phase}"), &capture, &[1, 361, 65536, 1 << 20]);
             }
@@ -324,7 +326,7 @@ fn main() {
         for sort in SORTS.into_iter().filter(|s| *s != Sort::NotNibbles) {
             for i in 0..8 {
                 // From a single stream up to a few hundred, one after another.
-                let w: Vec<u8> = (0..1 << i).flat_map(|_| streams::stream(random, sort, Profile::P0)).collect();
+                let w: Vec<u8> = (0..1 << i).flat_map(|_| streams::stream(random, sort, Profile::VV5404)).collect();
                 let (one, other) = (1 + random.below(20), 1 + random.below(3000));
                 all.capture(&format!("{sort:?} {i}"), &packed(&w), &[one, other, 1 << 20]);
             }

@@ -207,7 +207,7 @@ fn compare_history(random: &mut Random, calls: usize, counted: &mut Counted) {
             2 => Call::Finish(place),
             _ if random.once_in(closing) => Call::Close(place),
             _ => {
-                let profile = tables.plain.held(owner, place).map_or(Profile::P0, |reader| reader.profile);
+                let profile = tables.plain.held(owner, place).map_or(Profile::VV5404, |reader| reader.profile);
                 let (capture, at) = &mut captures[place % 8];
                 if *at >= capture.len() {
                     let sort = random.pick(&SORTS);
@@ -247,7 +247,7 @@ fn compare_any_bytes(random: &mut Random, times: usize, counted: &mut Counted) {
                 0 => Call::Open(any_profile(random)),
                 1 => Call::Finish(place),
                 2 => Call::Close(place),
-                _ => Call::Feed(place, streams::biased_noise(random, 400), line_buffer(random, Profile::P0)),
+                _ => Call::Feed(place, streams::biased_noise(random, 400), line_buffer(random, Profile::VV5404)),
             };
             let before = bytes.clone();
             let mut apart = bytes.clone();

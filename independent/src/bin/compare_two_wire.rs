@@ -104,7 +104,7 @@ fn main() {
         let mut ours = vec![fill; room];
         let answer = raw::write(&pairs, &mut ours);
         counted.filled("messages", &(&pairs, room), answer, &ours, two_wire::write(&pairs, room), fill);
-        if pairs.len() % 2 == 0 {
+        if pairs.len().is_multiple_of(2) {
             let listed: Vec<(u8, u8)> = pairs.chunks(2).map(|p| (p[0], p[1])).collect();
             let mut theirs = vec![fill; room];
             same("messages with types", &pairs, (told::filled(typed::write(&listed, &mut theirs)), &theirs), (answer, &ours));

@@ -32,7 +32,7 @@ fn main() {
     let (times, mut random) = arguments();
     let mut counted = Counted::default();
     for _ in 0..100 * times {
-        for (number, profile) in [Profile::P0, Profile::P1].into_iter().enumerate() {
+        for (number, profile) in [Profile::VV5404, Profile::VV5300].into_iter().enumerate() {
             for sort in SORTS {
                 let nibbles = streams::stream(&mut random, sort, profile);
                 for at in marks(&nibbles) {
