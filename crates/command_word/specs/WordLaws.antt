@@ -8,7 +8,7 @@ use lib.Dec.{eqb, ltb}
 use lib.ListN.{length, drop, getD}
 use lib.Seq.{drop-cons}
 use Rattle.text.specs.Text.{digit}
-use Rattle.command_words.specs.Word.{same, tenthOfMarks, markOnto}
+use Rattle.command_word.specs.Word.{same, tenthOfMarks, markOnto}
 
 -- from a place on, by the characters there
 pub same-step : (s t : List ℕ) (i : ℕ) → i < length s → i < length t

@@ -6,8 +6,8 @@ use lib.Dec.{eqb, ltb}
 use lib.ListN.{take}
 use Rattle.text.specs.Text.{ascii, digit}
 use Rattle.profile.specs.declared.Profile.the-variants.{VV5404, VV5300}
-use Rattle.command_words.specs.declared.Word.{Word}
-use Rattle.command_words.specs.declared.Word.the-variants.{Sensor, OddPixelsFirst, Output, Unknown, Mark, Name}
+use Rattle.command_word.specs.declared.Word.{Word}
+use Rattle.command_word.specs.declared.Word.the-variants.{Sensor, OddPixelsFirst, Output, Unknown, Mark, Name}
 
 -- two texts are the same
 abbrev pub same : List ℕ → List ℕ → Bool

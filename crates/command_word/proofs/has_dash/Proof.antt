@@ -5,9 +5,9 @@ use borrow.Author.Needs.{needs}
 use lib.ListN.{take, length-take}
 use lib.Seq.{length-take-le}
 use Rattle.text.specs.Text.{ascii}
-use Rattle.command_words.specs.WordLaws.{same-lengths}
-use Rattle.command_words.proofs.has_dash.Statement.{statement}
-use Rattle.command_words.proofs.has_dash.Tie as tie
+use Rattle.command_word.specs.WordLaws.{same-lengths}
+use Rattle.command_word.proofs.has_dash.Statement.{statement}
+use Rattle.command_word.proofs.has_dash.Tie as tie
 
 returns : tie.Need-returns
 returns c =

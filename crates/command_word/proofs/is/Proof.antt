@@ -5,10 +5,10 @@ use native.Mathlib.Omega.{arith}
 use borrow.Author.Needs.{needs}
 use borrow.Author.Tests.{eq-eqb, ne-eqb}
 use lib.ListN.{length, getD, drop, drop-of-length-le}
-use Rattle.command_words.specs.Word.{same}
-use Rattle.command_words.specs.WordLaws.{same-step, same-lengths}
-use Rattle.command_words.proofs.is.Statement.{statement}
-use Rattle.command_words.proofs.is.Tie as tie
+use Rattle.command_word.specs.Word.{same}
+use Rattle.command_word.specs.WordLaws.{same-step, same-lengths}
+use Rattle.command_word.proofs.is.Statement.{statement}
+use Rattle.command_word.proofs.is.Tie as tie
 
 abbrev Inv-loop : tie.InvT-loop
 Inv-loop text that i₀ i = (length text ≡ length that) × (same text that ≡ same (drop i text) (drop i that))

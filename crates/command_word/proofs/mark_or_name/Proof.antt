@@ -1,9 +1,9 @@
 -- A number that is not 0 is a mark's.
 use borrow.Author.Needs.{needs}
 use borrow.Author.Tests.{eq-eqb, ne-eqb}
-use Rattle.command_words.specs.Word.{nameWord}
-use Rattle.command_words.proofs.mark_or_name.Statement.{statement}
-use Rattle.command_words.proofs.mark_or_name.Tie as tie
+use Rattle.command_word.specs.Word.{nameWord}
+use Rattle.command_word.proofs.mark_or_name.Statement.{statement}
+use Rattle.command_word.proofs.mark_or_name.Tie as tie
 
 returns : tie.Need-returns
 unfolding nameWord

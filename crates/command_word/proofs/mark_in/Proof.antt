@@ -5,10 +5,10 @@ use native.Mathlib.Omega.{arith}
 use borrow.Author.Needs.{needs}
 use borrow.Author.Tests.{lt-ltb, le-ltb}
 use lib.ListN.{length, drop, drop-of-length-le}
-use Rattle.command_words.specs.Word.{markOnto}
-use Rattle.command_words.specs.WordLaws.{mark-step}
-use Rattle.command_words.proofs.mark_in.Statement.{statement}
-use Rattle.command_words.proofs.mark_in.Tie as tie
+use Rattle.command_word.specs.Word.{markOnto}
+use Rattle.command_word.specs.WordLaws.{mark-step}
+use Rattle.command_word.proofs.mark_in.Statement.{statement}
+use Rattle.command_word.proofs.mark_in.Tie as tie
 
 abbrev Inv-loop : tie.InvT-loop
 Inv-loop text mark₀ i₀ mark i = markOnto 0 text ≡ markOnto mark (drop i text)
