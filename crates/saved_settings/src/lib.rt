@@ -3,9 +3,12 @@
 // In: a list of eight places, the used ones first, oldest first, with versions in unbroken sequence; version 0 marks an unused place. Out: the new
 // version, or the setting found. Refused, in this order, and the list is unchanged: 37 the list is not eight long or not ordered as said, 29 gain,
 // divisor or a frame rate other than 25 or 30, 30 version not held (0 never is), 31 no version number left.
-// Each function copies the eight places, leaves the work to its namesake of crate `saved_setting`, and stores what that gives.
+// Each function copies the eight places, leaves the work to its namesake of crate `saved_places`, and stores what that gives.
 ghost use mathlib.Core.Path.{_≡_};
 ghost use Rattle.saved_setting.specs.SavedSettings.{heldReply, savedWanted, foundIn, savedAgain, Leaves};
+use saved_places::back_in;
+use saved_places::find_in;
+use saved_places::save_in;
 use saved_setting::EightPlaces;
 use saved_setting::Held;
 use saved_setting::PLACES;
@@ -13,9 +16,6 @@ use saved_setting::Saved;
 use saved_setting::SavedList;
 use saved_setting::SavedSetting;
 use saved_setting::Wanted;
-use saved_setting::back_in;
-use saved_setting::find_in;
-use saved_setting::save_in;
 
 // Saves a setting, fine and coarse exposure clipped: in the first unused place, or, where eight stand, in the place of the oldest.
 pub fn save(list: &mut [SavedSetting], wanted: Wanted) -> Saved
