@@ -13,7 +13,6 @@ use saved_setting::EightPlaces;
 use saved_setting::Held;
 use saved_setting::PLACES;
 use saved_setting::Saved;
-use saved_setting::SavedList;
 use saved_setting::SavedSetting;
 use saved_setting::Wanted;
 
@@ -99,35 +98,4 @@ pub fn go_back(list: &mut [SavedSetting], version: u16) -> Saved
     list[6] = o.places.g;
     list[7] = o.places.h;
     o.answer
-}
-
-// `save` for a list by value: a caller that lends one needs a proof by hand.
-pub fn save_held(held: [SavedSetting; PLACES], wanted: Wanted) -> SavedList
-    ensures { λ r. ⌜ Leaves (savedWanted held wanted) (r .answer) (r .list) ⌝ }
-{
-    let mut list = held;
-    let answer = save(&mut list, wanted);
-    SavedList {
-        answer: answer,
-        list: list,
-    }
-}
-
-// `find` for a list by value. A list is in order exactly where version 0 is answered 30, not 37.
-pub fn find_held(held: [SavedSetting; PLACES], version: u16) -> Held
-    ensures { λ r. ⌜ heldReply r ≡ foundIn held version ⌝ }
-{
-    find(&held, version)
-}
-
-// `go_back` for a list by value.
-pub fn back_held(held: [SavedSetting; PLACES], version: u16) -> SavedList
-    ensures { λ r. ⌜ Leaves (savedAgain held version) (r .answer) (r .list) ⌝ }
-{
-    let mut list = held;
-    let answer = go_back(&mut list, version);
-    SavedList {
-        answer: answer,
-        list: list,
-    }
 }

@@ -12,9 +12,9 @@ ghost use lib.ListN.{drop};
 ghost use Rattle.text.specs.Put.{Puts};
 ghost use Rattle.saved_setting.specs.SavedSettings.{isSavedList};
 ghost use Rattle.saved_text.specs.SettingsText.{field, settingLine, placeLine, settingsText, withOneMore, withDigit, nextName, withField, fieldsAfter, settingOfFields, noFields, withSettingLine, nothingGathered, gatheredAfter, numbersOf, coverOf, mayStand, atMostNewline, isLike, restored};
+use held_settings::find_held;
 use saved_setting::Held;
 use saved_setting::SavedSetting;
-use saved_settings::find_held;
 use text::put;
 use text::put_decimal;
 

@@ -1,4 +1,4 @@
--- `saved_settings::find_held` meets its contract: a walk of its MIR, by hand. The array is lent to `find`, to be read, for a lifetime of the call,
+-- `held_settings::find_held` meets its contract: a walk of its MIR, by hand. The array is lent to `find`, to be read, for a lifetime of the call,
 -- and comes back as it was.
 -- Assumes nothing.
 use mathlib.Core.Path.{_≡_, refl, sym, subst}
@@ -50,19 +50,19 @@ use denote.Exit.{yes}
 use Rattle.saved_setting.specs.declared.SavedSetting.{SavedSetting}
 use Rattle.saved_setting.specs.declared.Held.{Held}
 use Rattle.saved_setting.specs.SavedSettings.{heldReply, foundIn}
-use Rattle.saved_settings.proofs.Lent.{arr, arr-vals, arr-val, Eights, tells, array-in, array-back}
+use Rattle.held_settings.proofs.Lent.{arr, arr-vals, arr-val, Eights, tells, array-in, array-back}
 use Rattle.saved_setting.proofs.SavedSetting as S
 use Rattle.saved_setting.proofs.SavedSetting.Laws as S′
 use Rattle.saved_setting.proofs.Held as F
 use Rattle.saved_setting.proofs.Held.Laws as F′
 use Rattle.saved_settings.proofs.find as find
 use Rattle.saved_settings.proofs.find.Symbol as find-def
 use Rattle.saved_settings.proofs.find.Symbol.{name as #saved-settings·find}
 use Rattle.saved_settings.proofs.find.Met as find-thm
-use Rattle.saved_settings.proofs.find_held.Key.{name as #saved-settings·find-held}
-use Rattle.saved_settings.proofs.find_held as f
-use Rattle.saved_settings.proofs.find_held.Statement as stated
-use Rattle.saved_settings.proofs.find_held.Code as code
+use Rattle.held_settings.proofs.find_held.Key.{name as #held-settings·find-held}
+use Rattle.held_settings.proofs.find_held as f
+use Rattle.held_settings.proofs.find_held.Statement as stated
+use Rattle.held_settings.proofs.find_held.Code as code
 
 abbrev stayed : Stays (f.ended .signature .params) (f.ended .kept)
 stayed = (stay-none (λ _. arr) yes, (stay-none (λ _. u16) yes, tt))
@@ -174,7 +174,7 @@ pub find-held-spec : {M : Type 1} → stated.statement M
 unfolding code.routine tablesOf
 find-held-spec 𝓤 H 𝓜 𝓖 𝓡 =
     entered 𝓤 H (tripleOf 𝓤 H (𝓖 .A) f.signature (f.spec 𝓤 H (𝓖 .A) (𝓜 .mem) (𝓡 .run)))
-    (tables 𝓤 H 𝓜 𝓡 code.env .C) (tables 𝓤 H 𝓜 𝓡 code.env .Λ) #saved-settings·find-held code.function (code.unfolded 𝓤 H 𝓜 𝓡)
+    (tables 𝓤 H 𝓜 𝓡 code.env .C) (tables 𝓤 H 𝓜 𝓡 code.env .Λ) #held-settings·find-held code.function (code.unfolded 𝓤 H 𝓜 𝓡)
     (find-held-meets 𝓤 H (𝓖 .A) (givenOf 𝓤 H 𝓜 𝓖) (𝓜 .mem) (𝓡 .run) (tablesOf 𝓤 H 𝓜 (tables 𝓤 H 𝓜 𝓡 code.env))
     (cited 𝓤 H (Find 𝓤 H (𝓖 .A) (𝓜 .mem)
     (𝓡 .run)) 𝓜 𝓡 code.env #saved-settings·find find-def.routine code.calls-saved-settings·find (find-thm.met 𝓤 H 𝓜 𝓖 𝓡)))

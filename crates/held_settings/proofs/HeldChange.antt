@@ -40,7 +40,7 @@ use denote.Triple.Call.{calls-from}
 use Rattle.saved_setting.specs.declared.SavedSetting.{SavedSetting}
 use Rattle.saved_setting.specs.declared.Saved.{Saved}
 use Rattle.saved_setting.specs.declared.SavedList.{SavedList}
-use Rattle.saved_settings.proofs.Lent.{arr, arr-vals, arr-val, Eights, array-in, array-back, field-maps, field-is}
+use Rattle.held_settings.proofs.Lent.{arr, arr-vals, arr-val, Eights, array-in, array-back, field-maps, field-is}
 use Rattle.saved_setting.proofs.SavedSetting as S
 use Rattle.saved_setting.proofs.SavedSetting.Laws as S′
 use Rattle.saved_setting.proofs.Saved as K
