@@ -10,12 +10,12 @@ ghost use Rattle.settings_request.specs.SettingsRequest.{refusingRequest
 use held_settings::back_held;
 use held_settings::find_held;
 use held_settings::save_held;
+use saved_lines::put_setting;
+use saved_lines::put_settings;
 use saved_setting::Held;
 use saved_setting::Saved;
 use saved_setting::SavedSetting;
 use saved_setting::Wanted;
-use saved_text::put_setting;
-use saved_text::put_settings;
 use settings_words::put_notes;
 use settings_words::put_refusal;
 use settings_words::put_writes;

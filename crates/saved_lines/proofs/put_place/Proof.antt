@@ -2,9 +2,9 @@
 use borrow.Author.Needs.{needs}
 use borrow.Author.Tests.{eq-eqb, ne-eqb}
 use Rattle.text.specs.PutLaws.{puts-none}
-use Rattle.saved_text.specs.SettingsText.{placeLine}
-use Rattle.saved_text.proofs.put_place.Statement.{statement}
-use Rattle.saved_text.proofs.put_place.Tie as tie
+use Rattle.saved_lines.specs.SavedLines.{placeLine}
+use Rattle.saved_lines.proofs.put_place.Statement.{statement}
+use Rattle.saved_lines.proofs.put_place.Tie as tie
 
 returns : tie.Need-returns
 unfolding placeLine

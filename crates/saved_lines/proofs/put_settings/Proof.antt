@@ -5,10 +5,10 @@ use native.Mathlib.Omega.{arith}
 use borrow.Author.Needs.{needs}
 use Rattle.text.specs.Put.{Puts}
 use Rattle.text.specs.PutLaws.{then, puts-none, puts-length}
-use Rattle.saved_text.specs.SettingsText.{placeLines, settingsText}
-use Rattle.saved_text.specs.SettingsTextLaws.{lines-more}
-use Rattle.saved_text.proofs.put_settings.Statement.{statement}
-use Rattle.saved_text.proofs.put_settings.Tie as tie
+use Rattle.saved_lines.specs.SavedLines.{placeLines, settingsText}
+use Rattle.saved_lines.specs.SavedLinesLaws.{lines-more}
+use Rattle.saved_lines.proofs.put_settings.Statement.{statement}
+use Rattle.saved_lines.proofs.put_settings.Tie as tie
 
 abbrev Inv-loop : tie.InvT-loop
 Inv-loop out₀ at list next₀ i₀ out next i = (i ≤ 8) × (Puts out₀ at (placeLines i list) next out)

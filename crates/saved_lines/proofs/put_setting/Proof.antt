@@ -1,8 +1,8 @@
 -- The five numbers, each after its name, and a newline, one after another.
 use borrow.Author.Needs.{needs}
 use Rattle.text.specs.PutLaws.{then, puts-length}
-use Rattle.saved_text.proofs.put_setting.Statement.{statement}
-use Rattle.saved_text.proofs.put_setting.Tie as tie
+use Rattle.saved_lines.proofs.put_setting.Statement.{statement}
+use Rattle.saved_lines.proofs.put_setting.Tie as tie
 
 returns : tie.Need-returns
 returns c =

@@ -1,8 +1,8 @@
 -- The name, then the number.
 use borrow.Author.Needs.{needs}
 use Rattle.text.specs.PutLaws.{then}
-use Rattle.saved_text.proofs.put_field.Statement.{statement}
-use Rattle.saved_text.proofs.put_field.Tie as tie
+use Rattle.saved_lines.proofs.put_field.Statement.{statement}
+use Rattle.saved_lines.proofs.put_field.Tie as tie
 
 returns : tie.Need-returns
 returns c =
