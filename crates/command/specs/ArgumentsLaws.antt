@@ -4,10 +4,10 @@ use mathlib.Core.List.{List, [], _∷_, _++_}
 use Prim.Native.Nat.{ℕ, _+_, _-_, _≤_}
 use native.Mathlib.Omega.{arith}
 use lib.ListN.{length, length-append}
-use Rattle.command_words.specs.declared.Word.{Word}
+use Rattle.command_word.specs.declared.Word.{Word}
 use Rattle.command_words.specs.declared.Usage.{Usage}
 use Rattle.command_words.specs.declared.Asked.{Asked}
-use Rattle.command_words.specs.Word.{wordOf}
+use Rattle.command_word.specs.Word.{wordOf}
 use Rattle.command_words.specs.Asked.{noneAsked, withWord, withTexts, endAsked, askedBy}
 use Rattle.command_words.specs.AskedLaws.{text-behind}
 use Rattle.command.specs.Arguments.{AskedByAll}

@@ -4,9 +4,9 @@
 // by its place among them. Cost: linear in the words.
 ghost use Prim.Native.Nat.{_-_};
 ghost use Rattle.command.specs.Arguments.{sensorAndFile, AskedByAll, AskedBySome};
+use command_word::meaning;
 use command_words::Asked;
 use command_words::Usage;
-use command_words::meaning;
 use libc::STDERR_FILENO;
 use libc::STDIN_FILENO;
 use text::put;

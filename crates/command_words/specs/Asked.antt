@@ -9,11 +9,11 @@ use Prim.Native.Nat.{ℕ, _+_}
 use lib.Dec.{eqb}
 use Rattle.profile.specs.declared.Profile.{Profile}
 use Rattle.profile.specs.declared.Profile.the-variants.{VV5404}
-use Rattle.command_words.specs.declared.Word.{Word}
-use Rattle.command_words.specs.declared.Word.the-variants.{Sensor, OddPixelsFirst, Output, Unknown, Mark, Name}
+use Rattle.command_word.specs.declared.Word.{Word}
+use Rattle.command_word.specs.declared.Word.the-variants.{Sensor, OddPixelsFirst, Output, Unknown, Mark, Name}
 use Rattle.command_words.specs.declared.Usage.{Usage}
 use Rattle.command_words.specs.declared.Asked.{Asked}
-use Rattle.command_words.specs.Word.{wordOf}
+use Rattle.command_word.specs.Word.{wordOf}
 
 -- the sensor, and whether it was named; the mark; odd pixels first; the output, and whether its name is awaited; the files; all understood
 abbrev asking : Profile → Bool → ℕ → Bool → ℕ → Bool → ℕ → ℕ → Bool → Asked

@@ -6,7 +6,7 @@ use native.Mathlib.Omega.{arith}
 use lib.ListN.{length}
 use Rattle.command_words.specs.declared.Usage.{Usage}
 use Rattle.command_words.specs.declared.Asked.{Asked}
-use Rattle.command_words.specs.Word.{wordOf}
+use Rattle.command_word.specs.Word.{wordOf}
 use Rattle.command_words.specs.Asked.{withWord, withTexts}
 
 -- a word behind others is read at the place behind theirs, from what they ask for

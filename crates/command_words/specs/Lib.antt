@@ -1,4 +1,2 @@
-pub mod Word
-pub mod WordLaws
 pub mod Asked
 pub mod AskedLaws

@@ -1,27 +1,14 @@
-// The words of a command line: what each asks for, and what they ask for together.
+// The words of a command line, and what they ask for together.
 //
 //     [MARK] [vv5404|vv6404|vv5300] [odd-pixels-first] [-o OUTPUT] [FIRST] [SECOND]
 //
-// In: what of these the program takes; each word as it was typed, with its place among the arguments. Out: what is asked for, and whether all
-// words were understood. Not understood: a word that begins with `-` and is no option; what the program does not take; a sensor, a mark's
-// number, an output or a file too many; -o without a name behind it. Cost: linear in the words.
+// In: what of these the program takes; what each word asks for (crate `command_word`), with its place among the arguments. Out: what is asked
+// for, and whether all words were understood. Not understood: a word that begins with `-` and is no option; what the program does not take; a
+// sensor, a mark's number, an output or a file too many; -o without a name behind it. Cost: constant for each word.
 ghost use mathlib.Core.Path.{_≡_};
-ghost use lib.ListN.{take};
-ghost use Rattle.text.specs.Text.{ascii};
-ghost use Rattle.command_words.specs.Word.{same, markIn, nameWord, otherWord, wordOf};
 ghost use Rattle.command_words.specs.Asked.{noneAsked, notUnderstood, sensorAsked, secondAsked, nameAsked, markAsked, oddAsked, outputAsked, outputNamed, afterDash, withWord, endAsked};
+use command_word::Word;
 use profile::Profile;
-
-// What a word asks for.
-pub enum Word {
-    Sensor(Profile),
-    OddPixelsFirst,
-    Output,
-    Unknown,
-    // A mark's number, not 0.
-    Mark(u64),
-    Name,
-}
 
 // What a program takes besides a sensor and a file: a mark's number, odd pixels first, an output, a second file.
 pub struct Usage {
@@ -44,39 +31,6 @@ pub struct Asked {
     pub first: usize,
     pub second: usize,
     pub understood: bool,
-}
-
-// What a word asks for.
-pub fn meaning(text: &[u8]) -> Word
-    ensures { λ r. ⌜ r ≡ wordOf (now (text .entry)) ⌝ }
-{
-    if is(text, b"vv5404") {
-        return Word::Sensor(Profile::VV5404);
-    }
-    if is(text, b"vv6404") {
-        return Word::Sensor(Profile::VV5404);
-    }
-    if is(text, b"vv5300") {
-        return Word::Sensor(Profile::VV5300);
-    }
-    other_meaning(text)
-}
-
-// Whether a text is this one.
-pub fn is(text: &[u8], that: &[u8]) -> bool
-    ensures { λ r. ⌜ r ≡ same (now (text .entry)) (now (that .entry)) ⌝ }
-{
-    if text.len() != that.len() {
-        return false;
-    }
-    let mut i: usize = 0;
-    while i < text.len() {
-        if text[i] != that[i] {
-            return false;
-        }
-        i += 1;
-    }
-    true
 }
 
 impl Asked {
@@ -233,67 +187,4 @@ impl Asked {
         self.understood = false;
         self
     }
-}
-
-// What a word asks for that names no sensor.
-fn other_meaning(text: &[u8]) -> Word
-    ensures { λ r. ⌜ r ≡ otherWord (now (text .entry)) ⌝ }
-{
-    if is(text, b"odd-pixels-first") {
-        return Word::OddPixelsFirst;
-    }
-    if is(text, b"-o") {
-        return Word::Output;
-    }
-    if has_dash(text) {
-        return Word::Unknown;
-    }
-    mark_or_name(text)
-}
-
-// What a word asks for that names no sensor and is no option.
-fn mark_or_name(text: &[u8]) -> Word
-    ensures { λ r. ⌜ r ≡ nameWord (now (text .entry)) ⌝ }
-{
-    let mark = mark_in(text);
-    if mark == 0 {
-        return Word::Name;
-    }
-    Word::Mark(mark)
-}
-
-// A number above this takes no digit more: no capture has so many marks.
-const TENTH_OF_MARKS: u64 = 100_000_000_000_000_000;
-
-// The number that a word of digits is; 0 for any other word.
-fn mark_in(text: &[u8]) -> u64
-    ensures { λ r. ⌜ r ≡ markIn (now (text .entry)) ⌝ }
-{
-    let mut mark: u64 = 0;
-    let mut i: usize = 0;
-    while i < text.len() {
-        let c = text[i];
-        if c < b'0' {
-            return 0;
-        }
-        if b'9' < c {
-            return 0;
-        }
-        if TENTH_OF_MARKS < mark {
-            return 0;
-        }
-        mark = 10 * mark + (c - b'0') as u64;
-        i += 1;
-    }
-    mark
-}
-
-// Whether a text begins with a dash.
-fn has_dash(text: &[u8]) -> bool
-    ensures { λ r. ⌜ r ≡ same (take 1 (now (text .entry))) (ascii "-") ⌝ }
-{
-    if text.len() < 1 {
-        return false;
-    }
-    is(&text[..1], b"-")
 }

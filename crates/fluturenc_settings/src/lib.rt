@@ -67,7 +67,7 @@ pub extern "C" fn fluturenc_settings_save(
             divisor: divisor,
             rate: rate,
         };
-        let saved = saved_setting::save_in(places, wanted);
+        let saved = saved_places::save_in(places, wanted);
         return store_saved(saved, list, version);
     }
     *version = 0;
@@ -101,7 +101,7 @@ pub extern "C" fn fluturenc_settings_back(list: &mut [u8], version: u16, new: &m
 {
     if list.len() == LIST {
         let places = places_in(list);
-        let saved = saved_setting::back_in(places, version);
+        let saved = saved_places::back_in(places, version);
         return store_saved(saved, list, new);
     }
     *new = 0;
@@ -144,7 +144,7 @@ fn held_in(list: &[u8], version: u16) -> Held
 {
     if list.len() == LIST {
         let places = places_in(list);
-        return saved_setting::find_in(places, version);
+        return saved_places::find_in(places, version);
     }
     Held::Refused(refusal::NOT_SAVED_SETTINGS)
 }

@@ -19,7 +19,7 @@ use Rattle.frame_layout.specs.declared.Borders.{Borders}
 use Rattle.frame_layout.specs.FrameLayout.{kindAt}
 use Rattle.frame.specs.Calls.{fits, laidFrom}
 use Rattle.line_list.specs.Lines.{FullLine, lineSize, fullLines, headedLines, noneCut, asLent, risesFrom, rises, numbersSmall, kindsKnown}
-use Rattle.line_list.specs.LinesLaws.{FullBodies, unsized, sized, heads-whole, lines-lent}
+use Rattle.line_list_laws.specs.LinesBackLaws.{FullBodies, unsized, sized, heads-whole, lines-lent}
 use Rattle.difference.specs.Difference.{differences, encodedAll}
 use Rattle.line_diff.specs.Compare.{compareOf}
 use Rattle.frame_row.specs.declared.Keeping.the-variants.{WholeLines}

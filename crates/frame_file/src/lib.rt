@@ -26,7 +26,7 @@ pub fn is_same(one: usize, other: usize) -> bool {
     if n == 0 {
         return false;
     }
-    command_words::is(&a[..n], &b[..m])
+    command_word::is(&a[..n], &b[..m])
 }
 
 // Puts the rows of the first complete frame of the capture at a place among the arguments at the front of a buffer, and gives their length; 0

@@ -10,7 +10,7 @@ use lib.ListN.{length, length-append}
 use lib.Seq.{set-at, append-snoc}
 use Rattle.bits.specs.Every.{and-left, and-right, and-both}
 use Rattle.line_list.specs.Lines.{FullLine, risesFrom, rises}
-use Rattle.line_list.specs.LinesLaws.{FullBodies, sized-head, sized-tail}
+use Rattle.line_list_laws.specs.LinesBackLaws.{FullBodies, sized-head, sized-tail}
 use Rattle.difference.specs.Difference.{Difference, onlyFirst, onlySecond, bothKinds, bothBytes, unless, placesFrom, betweenLines, differences}
 use Rattle.line_diff_laws.specs.Applied.{ofKind, withByte, applied, appliedAll, ofNumber, rank, Each, done, also}
 use Rattle.line_diff_laws.specs.EachLaws.{each-append, each-map, each-unless}

@@ -8,7 +8,7 @@ use lib.ListN.{length, take, drop, length-append}
 use lib.Seq.{take-at, drop-at}
 use Rattle.profile.specs.Profile.{width}
 use Rattle.line_list.specs.Lines.{FullLine, fromTwo}
-use Rattle.line_list.specs.LinesLaws.{FullBodies, sized-head, sized-tail}
+use Rattle.line_list_laws.specs.LinesBackLaws.{FullBodies, sized-head, sized-tail}
 use Rattle.difference.specs.Difference.{Difference, onlyFirst, onlySecond, bothKinds, bothBytes, placesFrom, betweenLines, differences, encoded, encodedAll}
 use Rattle.difference.specs.ReadBack.{frontOf, frontSize, firstDifferences, differencesIn}
 use Rattle.line_diff_laws.specs.Applied.{Each, done, also}

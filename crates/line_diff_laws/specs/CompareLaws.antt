@@ -11,7 +11,7 @@ use Rattle.lent_buffer.specs.declared.Filled.the-variants as filled
 use Rattle.lent_buffer.specs.Filled.{used, Gives, require}
 use Rattle.lent_buffer.specs.FilledLaws.{passed, used-fitted}
 use Rattle.line_list.specs.Lines.{fullLines, headedLines, asLent, noneCut, rises, numbersSmall, kindsKnown}
-use Rattle.line_list.specs.LinesLaws.{lines-sized, heads-whole, list-back}
+use Rattle.line_list_laws.specs.LinesBackLaws.{lines-sized, heads-whole, list-back}
 use Rattle.difference.specs.Difference.{Difference, differences, encodedAll}
 use Rattle.difference.specs.ReadBack.{differencesIn}
 use Rattle.line_diff.specs.Compare.{compareOf}

@@ -4,7 +4,7 @@ use mathlib.Core.List.{List}
 use Prim.Native.Nat.{ℕ}
 use lib.Dec.{eqb, leb}
 use Rattle.text.specs.Text.{ascii}
-use Rattle.command_words.specs.Word.{same}
+use Rattle.command_word.specs.Word.{same}
 use Rattle.saved_setting.specs.declared.Wanted.{Wanted}
 use Rattle.settings_request.specs.declared.Request.the-variants.{Save, Find, Back, ListAll, Messages}
 use Rattle.request_words.specs.declared.NumberWords.{NumberWords}

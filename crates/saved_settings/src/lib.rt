@@ -3,19 +3,18 @@
 // In: a list of eight places, the used ones first, oldest first, with versions in unbroken sequence; version 0 marks an unused place. Out: the new
 // version, or the setting found. Refused, in this order, and the list is unchanged: 37 the list is not eight long or not ordered as said, 29 gain,
 // divisor or a frame rate other than 25 or 30, 30 version not held (0 never is), 31 no version number left.
-// Each function copies the eight places, leaves the work to its namesake of crate `saved_setting`, and stores what that gives.
+// Each function copies the eight places, leaves the work to its namesake of crate `saved_places`, and stores what that gives.
 ghost use mathlib.Core.Path.{_≡_};
 ghost use Rattle.saved_setting.specs.SavedSettings.{heldReply, savedWanted, foundIn, savedAgain, Leaves};
+use saved_places::back_in;
+use saved_places::find_in;
+use saved_places::save_in;
 use saved_setting::EightPlaces;
 use saved_setting::Held;
 use saved_setting::PLACES;
 use saved_setting::Saved;
-use saved_setting::SavedList;
 use saved_setting::SavedSetting;
 use saved_setting::Wanted;
-use saved_setting::back_in;
-use saved_setting::find_in;
-use saved_setting::save_in;
 
 // Saves a setting, fine and coarse exposure clipped: in the first unused place, or, where eight stand, in the place of the oldest.
 pub fn save(list: &mut [SavedSetting], wanted: Wanted) -> Saved
@@ -99,35 +98,4 @@ pub fn go_back(list: &mut [SavedSetting], version: u16) -> Saved
     list[6] = o.places.g;
     list[7] = o.places.h;
     o.answer
-}
-
-// `save` for a list by value: a caller that lends one needs a proof by hand.
-pub fn save_held(held: [SavedSetting; PLACES], wanted: Wanted) -> SavedList
-    ensures { λ r. ⌜ Leaves (savedWanted held wanted) (r .answer) (r .list) ⌝ }
-{
-    let mut list = held;
-    let answer = save(&mut list, wanted);
-    SavedList {
-        answer: answer,
-        list: list,
-    }
-}
-
-// `find` for a list by value. A list is in order exactly where version 0 is answered 30, not 37.
-pub fn find_held(held: [SavedSetting; PLACES], version: u16) -> Held
-    ensures { λ r. ⌜ heldReply r ≡ foundIn held version ⌝ }
-{
-    find(&held, version)
-}
-
-// `go_back` for a list by value.
-pub fn back_held(held: [SavedSetting; PLACES], version: u16) -> SavedList
-    ensures { λ r. ⌜ Leaves (savedAgain held version) (r .answer) (r .list) ⌝ }
-{
-    let mut list = held;
-    let answer = go_back(&mut list, version);
-    SavedList {
-        answer: answer,
-        list: list,
-    }
 }

@@ -1,47 +1,18 @@
--- The text of a list of saved settings: written, and read.
+-- The text of a list of saved settings, read.
 use mathlib.Core.Bool.{Bool, true, false, _&&_, cond}
-use mathlib.Core.List.{List, [], _∷_, _++_}
-use Prim.Native.Nat.{ℕ, zero, suc, _+_, _-_, _*_, _%_}
+use mathlib.Core.List.{List, [], _∷_}
+use Prim.Native.Nat.{ℕ, _+_, _-_, _*_, _%_}
 use lib.Dec.{eqb, ltb, leb}
-use lib.ListN.{drop, getD, set, replicate}
-use Rattle.text.specs.Text.{ascii, newline, decimal}
+use lib.ListN.{drop, set, replicate}
+use Rattle.text.specs.Text.{newline}
 use Rattle.saved_setting.specs.declared.SavedSetting.{SavedSetting}
 use Rattle.saved_setting.specs.SavedSettings.{isSavedList}
+use Rattle.saved_lines.specs.SavedLines.{unused, settingsText}
 use Rattle.saved_text.specs.declared.FieldName.{FieldName}
 use Rattle.saved_text.specs.declared.FieldName.the-variants.{Version, Fine, Coarse, Gain, Divisor}
 use Rattle.saved_text.specs.declared.Fields.{Fields}
 use Rattle.saved_text.specs.declared.Gathered.{Gathered}
 use Rattle.saved_text.specs.declared.Restored.{Restored}
-
--- ---- written
-
--- a name and a number
-abbrev pub field : List ℕ → ℕ → List ℕ
-field name n = name ++ decimal n
-
--- the line of a setting
-abbrev pub settingLine : SavedSetting → List ℕ
-settingLine s =
-    field (ascii "version ") (s .version)
-    ++ (field (ascii ": fine ") (s .fine)
-    ++ (field (ascii ", coarse ") (s .coarse)
-    ++ (field (ascii ", gain ") (s .gain) ++ (field (ascii ", divisor ") (s .divisor) ++ (newline ∷ [])))))
-
--- an unused place has no line
-unfoldable pub placeLine : SavedSetting → List ℕ
-placeLine s = cond (eqb (s .version) 0) [] (settingLine s)
-
-abbrev pub unused : SavedSetting
-unused = record { version = 0; fine = 0; coarse = 0; gain = 0; divisor = 0 }
-
--- the lines of a list's first places, oldest first
-abbrev pub placeLines : ℕ → List SavedSetting → List ℕ
-placeLines zero list = []
-placeLines (suc n) list = placeLines n list ++ placeLine (getD list n unused)
-
--- a list's text: the lines of its eight places
-unfoldable pub settingsText : List SavedSetting → List ℕ
-settingsText list = placeLines 8 list
 
 -- ---- the numbers of a text
 

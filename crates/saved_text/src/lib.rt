@@ -1,22 +1,18 @@
-// The text of a list of saved settings, which a person can read and edit: a line for each used place, oldest first.
+// The text of a list of saved settings (crate `saved_lines`), read.
 //
-//     version 12: fine 360, coarse 302, gain 3, divisor 1
-//
-// Written: a list as its lines, put into a lent buffer. Read: the list whose text it is; carriage returns don't count, and the last newline may be
-// missing. Any other text is refused with 37 NOT_SAVED_SETTINGS: the numbers of its lines are gathered, and their list's text is compared with it.
-// So a number that is too large or has a digit too many, a ninth line, a line for an unused place and a wrong word are refused by one test.
-// Cost: linear in the text.
+// In: a text, of any bytes. Out: the list whose text it is; carriage returns don't count, and the last newline may be missing. Any other text is refused
+// with 37 NOT_SAVED_SETTINGS: the numbers of its lines are gathered, and their list's text is compared with it. So a number that is too large or has
+// a digit too many, a ninth line, a line for an unused place and a wrong word are refused by one test. Cost: linear in the text.
 ghost use mathlib.Core.Path.{_≡_};
 ghost use Prim.Native.Nat.{_≤_};
 ghost use lib.ListN.{drop};
-ghost use Rattle.text.specs.Put.{Puts};
 ghost use Rattle.saved_setting.specs.SavedSettings.{isSavedList};
-ghost use Rattle.saved_text.specs.SettingsText.{field, settingLine, placeLine, settingsText, withOneMore, withDigit, nextName, withField, fieldsAfter, settingOfFields, noFields, withSettingLine, nothingGathered, gatheredAfter, numbersOf, coverOf, mayStand, atMostNewline, isLike, restored};
+ghost use Rattle.saved_lines.specs.SavedLines.{settingsText};
+ghost use Rattle.saved_text.specs.SettingsText.{withOneMore, withDigit, nextName, withField, fieldsAfter, settingOfFields, noFields, withSettingLine, nothingGathered, gatheredAfter, numbersOf, coverOf, mayStand, atMostNewline, isLike, restored};
+use held_settings::find_held;
+use saved_lines::put_settings;
 use saved_setting::Held;
 use saved_setting::SavedSetting;
-use saved_settings::find_held;
-use text::put;
-use text::put_decimal;
 
 // The places of a list.
 const PLACES: usize = 8;
@@ -55,53 +51,6 @@ struct Gathered {
     count: usize,
     fields: Fields,
 }
-
-// Writing.
-
-// The text of a list.
-pub fn put_settings(list: [SavedSetting; 8], out: &mut [u8], at: usize) -> usize
-    ensures { λ r. ⌜ Puts (now (out .entry)) at (settingsText list) r (now (out .exit)) ⌝ }
-{
-    let mut next = at;
-    let mut i: usize = 0;
-    while i < PLACES {
-        next = put_place(list[i], out, next);
-        i += 1;
-    }
-    next
-}
-
-fn put_place(setting: SavedSetting, out: &mut [u8], at: usize) -> usize
-    ensures { λ r. ⌜ Puts (now (out .entry)) at (placeLine setting) r (now (out .exit)) ⌝ }
-{
-    let version = setting.version;
-    if version == 0 {
-        return at;
-    }
-    put_setting(setting, out, at)
-}
-
-// The line of a setting.
-pub fn put_setting(setting: SavedSetting, out: &mut [u8], at: usize) -> usize
-    ensures { λ r. ⌜ Puts (now (out .entry)) at (settingLine setting) r (now (out .exit)) ⌝ }
-{
-    let a = put_field(b"version ", setting.version, out, at);
-    let b = put_field(b": fine ", setting.fine, out, a);
-    let c = put_field(b", coarse ", setting.coarse, out, b);
-    let d = put_field(b", gain ", setting.gain as u16, out, c);
-    let e = put_field(b", divisor ", setting.divisor as u16, out, d);
-    put(b"\n", out, e)
-}
-
-// A name and a number.
-pub fn put_field(name: &[u8], n: u16, out: &mut [u8], at: usize) -> usize
-    ensures { λ r. ⌜ Puts (now (out .entry)) at (field (now (name .entry)) n) r (now (out .exit)) ⌝ }
-{
-    let next = put(name, out, at);
-    put_decimal(n as u64, out, next)
-}
-
-// Reading.
 
 // The list whose text it is, if there is one.
 pub fn read(text: &[u8]) -> Restored

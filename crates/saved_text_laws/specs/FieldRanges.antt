@@ -9,7 +9,8 @@ use Rattle.saved_setting.specs.declared.SavedSetting.{SavedSetting}
 use Rattle.saved_settings_laws.specs.OrderLaws.{by-side}
 use Rattle.saved_text.specs.declared.FieldName.{FieldName}
 use Rattle.saved_text.specs.declared.FieldName.the-variants.{Version, Fine, Coarse, Gain, Divisor}
-use Rattle.saved_text.specs.SettingsText.{LineFields, TextGathered, unused, noFields, numberOf, withNumber, withOneMore, withField, fieldsAfter, settingOfFields, withSettingLine, gatheredAfter, gatheredOver, nothingGathered, numbersOf}
+use Rattle.saved_lines.specs.SavedLines.{unused}
+use Rattle.saved_text.specs.SettingsText.{LineFields, TextGathered, noFields, numberOf, withNumber, withOneMore, withField, fieldsAfter, settingOfFields, withSettingLine, gatheredAfter, gatheredOver, nothingGathered, numbersOf}
 use Rattle.saved_text_laws.specs.SettingsRead.{InFields, AllInFields}
 
 record InLine (f : LineFields) : Type 0 where

@@ -11,7 +11,8 @@ use Rattle.text.specs.Text.{ascii, newline, digit, digits, decimal}
 use Rattle.saved_setting.specs.declared.SavedSetting.{SavedSetting}
 use Rattle.saved_text.specs.declared.FieldName.{FieldName}
 use Rattle.saved_text.specs.declared.FieldName.the-variants.{Version, Fine, Coarse, Gain, Divisor}
-use Rattle.saved_text.specs.SettingsText.{LineFields, TextGathered, withNumber, withOneMore, withDigit, field, settingLine, noFields, settingOfFields, fieldsAfter, withSettingLine, gatheredAfter, gatheredOver}
+use Rattle.saved_lines.specs.SavedLines.{field, settingLine}
+use Rattle.saved_text.specs.SettingsText.{LineFields, TextGathered, withNumber, withOneMore, withDigit, noFields, settingOfFields, fieldsAfter, withSettingLine, gatheredAfter, gatheredOver}
 use Rattle.saved_text_laws.specs.SettingsRead.{InFields}
 
 -- what is gathered, with other numbers of the open line

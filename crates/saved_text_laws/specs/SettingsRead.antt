@@ -8,7 +8,8 @@ use Rattle.text.specs.Text.{newline}
 use Rattle.saved_setting.specs.declared.SavedSetting.{SavedSetting}
 use Rattle.saved_setting.specs.SavedSettings.{isUnused}
 use Rattle.saved_settings_laws.specs.Histories.{usedOf}
-use Rattle.saved_text.specs.SettingsText.{unused, settingsText, carriageReturn, isLike, restored}
+use Rattle.saved_lines.specs.SavedLines.{unused, settingsText}
+use Rattle.saved_text.specs.SettingsText.{carriageReturn, isLike, restored}
 
 -- a setting's numbers, as its fields can hold them
 pub record InFields (s : SavedSetting) : Type 0 where

@@ -16,7 +16,8 @@ use Rattle.saved_setting.specs.SavedSettings.{isUnused, mayFollow, versionsInOr
 use Rattle.saved_settings_laws.specs.Histories.{usedOf}
 use Rattle.saved_settings_laws.specs.OrderLaws.{by-side, sides, unused-follows, order-tail, order-head}
 use Rattle.saved_text.specs.declared.Restored.{Restored}
-use Rattle.saved_text.specs.SettingsText.{TextGathered, settingLine, placeLine, unused, placeLines, settingsText, noFields, fieldsAfter, withSettingLine, gatheredAfter, gatheredOver, nothingGathered, numbersOf, carriageReturn, coverOf, startsBy, mayStand, atMostNewline, isLike, isSettingsText, restored}
+use Rattle.saved_lines.specs.SavedLines.{settingLine, placeLine, unused, placeLines, settingsText}
+use Rattle.saved_text.specs.SettingsText.{TextGathered, noFields, fieldsAfter, withSettingLine, gatheredAfter, gatheredOver, nothingGathered, numbersOf, carriageReturn, coverOf, startsBy, mayStand, atMostNewline, isLike, isSettingsText, restored}
 use Rattle.saved_text_laws.specs.SettingsRead.{InFields, AllInFields, placeRestored, listRestored, ZerosUnused, withReturns, RestoredAs, TextRestores}
 use Rattle.saved_text_laws.specs.FieldRanges.{numbers-in-fields}
 use Rattle.saved_text_laws.specs.NumberRead.{over-append, setting-back, line-read}

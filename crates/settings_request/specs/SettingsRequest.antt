@@ -10,7 +10,8 @@ use Rattle.text.specs.Put.{Puts}
 use Rattle.saved_setting.specs.declared.SavedSetting.{SavedSetting}
 use Rattle.saved_setting.specs.SavedSettings as reply
 use Rattle.saved_setting.specs.SavedSettings.{Reply, isUnused, savedWanted, foundIn, savedAgain}
-use Rattle.saved_text.specs.SettingsText.{settingLine, unused, settingsText, numbersOf, isSettingsText}
+use Rattle.saved_lines.specs.SavedLines.{settingLine, unused, settingsText}
+use Rattle.saved_text.specs.SettingsText.{numbersOf, isSettingsText}
 use Rattle.settings_words.specs.SettingsWords.{notes, refusedRequest, writesOf}
 use Rattle.settings_request.specs.declared.Request.{Request}
 use Rattle.settings_request.specs.declared.Request.the-variants.{Save, Find, Back, ListAll, Messages}

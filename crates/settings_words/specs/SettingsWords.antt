@@ -11,7 +11,7 @@ use Rattle.exposure.specs.Exposure.{fineLimit, coarseLimit}
 use Rattle.saved_setting.specs.declared.SavedSetting.{SavedSetting}
 use Rattle.saved_setting.specs.declared.Wanted.{Wanted}
 use Rattle.setting_registers.specs.SettingRegisters.{settingPairs}
-use Rattle.saved_text.specs.SettingsText.{field}
+use Rattle.saved_lines.specs.SavedLines.{field}
 
 -- ---- what was clipped: `fine 400 is above 360 at 30 a second: 360 saved`
 

@@ -3,9 +3,9 @@
 // In: a setting that was wanted, a refusal, or a saved setting. Out: its text, put into a lent buffer as far as there is room. Cost: constant.
 ghost use Rattle.text.specs.Put.{Puts};
 ghost use Rattle.settings_words.specs.SettingsWords.{fineNote, coarseNote, notes, settingsRefusal, refusedRequest, writesOf};
+use saved_lines::put_field;
 use saved_setting::SavedSetting;
 use saved_setting::Wanted;
-use saved_text::put_field;
 use text::put;
 use two_wire_text::put_message;
 

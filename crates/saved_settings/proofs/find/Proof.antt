@@ -53,10 +53,10 @@ use Rattle.saved_setting.proofs.EightPlaces as E
 use Rattle.saved_setting.proofs.EightPlaces.Laws as E′
 use Rattle.saved_setting.proofs.Held as F
 use Rattle.saved_setting.proofs.Held.Laws as F′
-use Rattle.saved_setting.proofs.find_in as find-in
-use Rattle.saved_setting.proofs.find_in.Symbol as find-in-def
-use Rattle.saved_setting.proofs.find_in.Symbol.{name as #saved-setting·find-in}
-use Rattle.saved_setting.proofs.find_in.Met as find-in-thm
+use Rattle.saved_places.proofs.find_in as find-in
+use Rattle.saved_places.proofs.find_in.Symbol as find-in-def
+use Rattle.saved_places.proofs.find_in.Symbol.{name as #saved-places·find-in}
+use Rattle.saved_places.proofs.find_in.Met as find-in-thm
 use Rattle.saved_settings.proofs.find.Key.{name as #saved-settings·find}
 use Rattle.saved_settings.proofs.find as f
 use Rattle.saved_settings.proofs.find.Statement as stated
@@ -131,7 +131,7 @@ module _ {M : Type 1} (𝓤 : URA M) (H : Heap 𝓤) (A : Atoms 𝓤) (W : Given
   typed-eight : (e : EightPlaces) → Goods e → Holds (hasTy E′.mir (LL.val E.the-type E′.the-laws e)) × WT (LL.val E.the-type E′.the-laws e)
   typed-eight e g = LL.lawful E.the-type E′.the-laws 𝓤 H A W .typed e _ (eight-is e g) .0
 
-  module _ (C : Calls 𝓤 H) (Λ : Loops 𝓤 H) (fm : FmC 𝓤 H (W .laws) C) (known : Triple 𝓤 (C #saved-setting·find-in) (FindIn 𝓤 H A mem run)) where
+  module _ (C : Calls 𝓤 H) (Λ : Loops 𝓤 H) (fm : FmC 𝓤 H (W .laws) C) (known : Triple 𝓤 (C #saved-places·find-in) (FindIn 𝓤 H A mem run)) where
     abbrev Goal : List SavedSetting → Type 1
     Goal ys = Room S.the-row (length ys)
         → ent 𝓤 (onEntry 𝓤 H A f.signature (κ, tt) (q, tt) (x ys) (at ys)) (WpFn 𝓤 H C Λ code.function (sliceVal (b, o)
@@ -235,7 +235,7 @@ module _ {M : Type 1} (𝓤 : URA M) (H : Heap 𝓤) (A : Atoms 𝓤) (W : Given
         move ! (4 ∷ 0 ∷ []) $ fjoin ! $ keep ! (0 ∷ 2 ∷ 4 ∷ 1 ∷ []) $ by ! (exits-eight e r w said)))))))))))))))))))))))))))))
 
 module _ {M : Type 1} (𝓤 : URA M) (H : Heap 𝓤) (A : Atoms 𝓤) (W : Given 𝓤 H A) (mem : Memory → SProp 𝓤) (run : Routine → Fun 𝓤) where
-  find-walks : (C : Calls 𝓤 H) (Λ : Loops 𝓤 H) → FmC 𝓤 H (W .laws) C → Triple 𝓤 (C #saved-setting·find-in) (FindIn 𝓤 H A mem run)
+  find-walks : (C : Calls 𝓤 H) (Λ : Loops 𝓤 H) → FmC 𝓤 H (W .laws) C → Triple 𝓤 (C #saved-places·find-in) (FindIn 𝓤 H A mem run)
       → Walks 𝓤 H A f.ended stayed (WpFn 𝓤 H C Λ code.function) (f.clauses 𝓤 H A mem run)
   find-walks C Λ fm known = walked 𝓤 H A f.ended stayed (f.clauses 𝓤 H A mem run) (WpFn 𝓤 H C Λ code.function)
       (λ κs. (slice-vals, (uint-vals w16, tt))) (λ κs. (shr-slice-tells (named 0) (κs .0) S.the-row, (uint-tells w16, tt)))
@@ -246,7 +246,7 @@ module _ {M : Type 1} (𝓤 : URA M) (H : Heap 𝓤) (A : Atoms 𝓤) (W : Given
       (are .0 .0 .1)))
 
 find-meets : {M : Type 1} (𝓤 : URA M) (H : Heap 𝓤) (A : Atoms 𝓤) (W : Given 𝓤 H A) (mem : Memory → SProp 𝓤) (run : Routine
-    → Fun 𝓤) (𝓣 : Tables 𝓤 H) → Triple 𝓤 (𝓣 .C #saved-setting·find-in) (FindIn 𝓤 H A mem run)
+    → Fun 𝓤) (𝓣 : Tables 𝓤 H) → Triple 𝓤 (𝓣 .C #saved-places·find-in) (FindIn 𝓤 H A mem run)
     → Meets 𝓤 H A f.signature (WpFn 𝓤 H (𝓣 .C) (𝓣 .Λ) code.function) (f.spec 𝓤 H A mem run)
 find-meets 𝓤 H A W mem run 𝓣 known =
     walk-meets 𝓤 H A f.ended stayed W (
@@ -264,4 +264,4 @@ find-spec 𝓤 H 𝓜 𝓖 𝓡 =
     (tables 𝓤 H 𝓜 𝓡 code.env .C) (tables 𝓤 H 𝓜 𝓡 code.env .Λ) #saved-settings·find code.function (code.unfolded 𝓤 H 𝓜 𝓡)
     (find-meets 𝓤 H (𝓖 .A) (givenOf 𝓤 H 𝓜 𝓖) (𝓜 .mem) (𝓡 .run) (tablesOf 𝓤 H 𝓜 (tables 𝓤 H 𝓜 𝓡 code.env))
     (cited 𝓤 H (FindIn 𝓤 H (𝓖 .A) (𝓜 .mem)
-    (𝓡 .run)) 𝓜 𝓡 code.env #saved-setting·find-in find-in-def.routine code.calls-saved-setting·find-in (find-in-thm.met 𝓤 H 𝓜 𝓖 𝓡)))
+    (𝓡 .run)) 𝓜 𝓡 code.env #saved-places·find-in find-in-def.routine code.calls-saved-places·find-in (find-in-thm.met 𝓤 H 𝓜 𝓖 𝓡)))

@@ -8,7 +8,7 @@ use lib.ListN.{length-replicate}
 use lib.Seq.{length-take-le}
 use Rattle.text.specs.PutLaws.{put-within, front-text}
 use Rattle.saved_text.specs.SettingsText.{isLike}
-use Rattle.saved_text.specs.SettingsTextLaws.{text-whole}
+use Rattle.saved_lines.specs.SavedLinesLaws.{text-whole}
 use Rattle.saved_text.proofs.is_settings_text.Statement.{statement}
 use Rattle.saved_text.proofs.is_settings_text.Tie as tie
 

@@ -1,0 +1,2 @@
+pub mod HeldChange
+pub mod Lent

@@ -1,0 +1,2 @@
+pub mod SavedLines
+pub mod SavedLinesLaws
