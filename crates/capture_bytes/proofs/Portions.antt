@@ -11,15 +11,15 @@ use Rattle.profile.specs.declared.Profile.{Profile}
 use Rattle.stream.specs.Answers.{Outcome, outcomeOf, answerFor, bufferAfter, isAnswer}
 use Rattle.stream.specs.AnswersLaws.{answer-of, no-answer}
 use Rattle.stream.specs.Written.{nibbles}
-use Rattle.stream.specs.NibblesLaws.{nibbles-length}
+use Rattle.stream.specs.Nibbles.{AllNibbles}
+use Rattle.stream.specs.NibblesLaws.{all-nibbles-drop, nibbles-length}
 use Rattle.reader_head.specs.declared.Head.{Head}
 use Rattle.run.specs.declared.RunStepped.{RunStepped}
 use Rattle.run.specs.Run.{Ran, ran, lentRunOf}
 use Rattle.run.specs.Gives.{LentRunGives}
-use Rattle.reader_laws.specs.Passing.{Small, Byte}
-use Rattle.reader_laws.specs.SmallLaws.{small-drop}
+use Rattle.reader_laws.specs.Passing.{Byte}
 use Rattle.capture_bytes.specs.Unpacked.{portion}
-use Rattle.capture_bytes.specs.UnpackedLaws.{nibbles-small, small-front, portion-length, portion-first}
+use Rattle.capture_bytes.specs.UnpackedLaws.{nibbles-small, all-nibbles-front, portion-length, portion-first}
 use Rattle.capture_bytes.specs.EndToEnd.{later, Goes, lent-stays, lent-goes, lent-within}
 
 -- bytes are run over up to the place `at`: the reader there, that it brings from there on what the first does, and the line buffer as lent
@@ -54,8 +54,8 @@ module _ {h₀ : Head} {body₀ bytes line₀ : List ℕ} {from at : ℕ} {h : H
   abbrev rest : List ℕ
   rest = drop (at + length w) (nibbles bytes)
 
-  small : Small w
-  small = small-front w rest (subst Small (portion-first bytes at end k) (small-drop (nibbles-small bytes known) at))
+  small : AllNibbles w
+  small = all-nibbles-front w rest (subst AllNibbles (portion-first bytes at end k) (all-nibbles-drop (nibbles-small bytes known) at))
 
   pub portion-within : t .taken ≤ 2 * end - at
   portion-within = omega (arith, lent-within h body (length line) w, portion-length bytes at end k)

@@ -12,13 +12,14 @@ use Rattle.refusal.specs.Refusal.{notANibble, badState, noRoom}
 use Rattle.profile.specs.declared.Profile.{Profile}
 use Rattle.profile.specs.Profile.{bodyLength, longest}
 use Rattle.stream.specs.Answers.{nothing, refused, answerFor, isAnswer}
+use Rattle.stream.specs.Nibbles.{AllNibbles}
 use Rattle.reader_head.specs.declared.Head.{Head}
 use Rattle.reader.specs.declared.Reader.{Reader}
 use Rattle.reader_head.specs.Head.{passes}
 use Rattle.reader.specs.Reader.{taking, readerOf}
 use Rattle.reader.specs.ReaderLaws.{take-profile}
 use Rattle.run.specs.Run.{Ran, ran, onward, runOf, lentRunOf}
-use Rattle.reader_laws.specs.Passing.{Small, Byte, Ok}
+use Rattle.reader_laws.specs.Passing.{Byte, Ok}
 use Rattle.reader_laws.specs.Passes.{passed, passes-test}
 use Rattle.reader_laws.specs.ByRuns.{ByNibbles}
 use Rattle.reader_laws.specs.ByRunsLaws.{run-on}
@@ -112,7 +113,7 @@ onward-within (n ∷ w) r i = go (leb n 15) (isAnswer (answerFor (taking r n .ou
     go true false rest = omega arith
 
 -- nibbles leave the reader in a state that calls reach
-onward-ok : {w : List ℕ} → Small w → (r : Reader) → Ok (r .head) → Ok (onward r w 0 .reader .head)
+onward-ok : {w : List ℕ} → AllNibbles w → (r : Reader) → Ok (r .head) → Ok (onward r w 0 .reader .head)
 onward-ok q r ok = run-on nothing-worked-out q r 0 ok .sound
   where
     nothing-worked-out : ByNibbles (Unit {0})
@@ -175,7 +176,7 @@ pub record Goes (h : Head) (body w v : List ℕ) (room : ℕ) (t : Ran) : Type 0
   pub sound : Ok (t .reader .head)
   pub profile : t .reader .head .profile ≡ h .profile
 
-pub lent-goes : (h : Head) (body w v : List ℕ) (room : ℕ) → Byte (h .at) → Small w → isAnswer (answerFor (lentRunOf h body w room .outcome)) ≡ false
+pub lent-goes : (h : Head) (body w v : List ℕ) (room : ℕ) → Byte (h .at) → AllNibbles w → isAnswer (answerFor (lentRunOf h body w room .outcome)) ≡ false
     → length (lentRunOf h body w room .reader .body) ≡ length body → Goes h body w v room (lentRunOf h body w room)
 lent-goes h body w v room byte small quiet same = by (lentRunOf h body w room) (lent-is h body room w (p .0) (p .1) (p .2)) quiet same
   where

@@ -10,20 +10,20 @@ use borrow.Author.Tests.{leb-true, leb-false}
 use lib.ListN.{length, take, drop, getD, set, length-append, length-take, length-drop, take-append-drop, drop-of-length-le}
 use lib.Seq.{drop-nil, drop-cons, take-suc, take-at, set-at, length-take-le, take-add, drop-append-le, drop-append-add}
 use Rattle.stream.specs.Written.{nibbles}
+use Rattle.stream.specs.Nibbles.{AllNibbles, no-nibble, and-nibble}
 use Rattle.stream.specs.NibblesLaws.{nibbles-length, nibbles-append}
-use Rattle.reader_laws.specs.Passing.{Small, small-none, small-more}
 use Rattle.capture_bytes.specs.Unpacked.{unpacked, portion}
 
 -- a byte's nibbles are nibbles
-pub nibbles-small : (bs : List ℕ) → ((i : ℕ) → getD bs i 0 < 256) → Small (nibbles bs)
-nibbles-small [] h = small-none
+pub nibbles-small : (bs : List ℕ) → ((i : ℕ) → getD bs i 0 < 256) → AllNibbles (nibbles bs)
+nibbles-small [] h = no-nibble
 nibbles-small (b ∷ bs) h =
     let low : b < 256 = h 0 in
-    small-more {n = b / 16} (omega arith) (small-more {n = b % 16} (omega arith) (nibbles-small bs (λ i. h (suc i))))
+    and-nibble {n = b / 16} (omega arith) (and-nibble {n = b % 16} (omega arith) (nibbles-small bs (λ i. h (suc i))))
 
-pub small-front : (v w : List ℕ) → Small (v ++ w) → Small v
-small-front [] w q = small-none
-small-front (n ∷ v) w (small-more h q) = small-more h (small-front v w q)
+pub all-nibbles-front : (v w : List ℕ) → AllNibbles (v ++ w) → AllNibbles v
+all-nibbles-front [] w q = no-nibble
+all-nibbles-front (n ∷ v) w (and-nibble h q) = and-nibble h (all-nibbles-front v w q)
 
 -- the front of what bytes were taken apart into
 module _ (bs : List ℕ) (k : ℕ) (h : k ≤ length bs) where

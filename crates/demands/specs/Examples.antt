@@ -1,14 +1,13 @@
 -- Demand 3 at work at the reader's own calls: the lines and the stretch of recovery's example, with refused calls between all nibbles. No hypothesis
 -- of demand 3 is empty: the writer writes such lines, and such lists of calls there are, of singles and of runs.
 use mathlib.Core.Path.{_≡_, refl, _∙_, ap, ap₂, sym, subst}
-use mathlib.Core.Bool.{Bool, true, false, _&&_, cond}
+use mathlib.Core.Bool.{Bool, true, false, cond}
 use mathlib.Core.List.{List, [], _∷_, _++_}
-use Prim.Native.Nat.{ℕ, _+_, _≤_, _<_}
+use Prim.Native.Nat.{ℕ, _≤_, _<_}
 use native.Mathlib.Omega.{arith}
-use lib.Dec.{leb, lit≤}
+use lib.Dec.{lit≤}
 use lib.ListN.{length, take, replicate}
-use borrow.Author.Tests.{leb-true, le-leb, lt-leb}
-use Rattle.bits.specs.Every.{and-left, and-right}
+use borrow.Author.Tests.{le-leb, lt-leb}
 use Rattle.refusal.specs.Refusal.{notANibble, noRoom}
 use Rattle.lent_buffer.specs.Filled.{used}
 use Rattle.line_code.specs.declared.Kind.the-variants.{BL, VL, SOF, EOF}
@@ -18,6 +17,8 @@ use Rattle.profile.specs.Profile.{bodyLength}
 use Rattle.stream.specs.declared.Answer.the-variants as answers
 use Rattle.stream.specs.Answers.{nothing, refused, answerFor, isAnswer}
 use Rattle.stream.specs.Written.{Sent, Writable, written, stream}
+use Rattle.stream.specs.Nibbles.{AllNibbles, no-nibble, and-nibble, nibblesOnly}
+use Rattle.stream.specs.NibblesLaws.{only-nibbles}
 use Rattle.reader.specs.declared.Reader.{Reader}
 use Rattle.reader.specs.Reader.{Took, freshReader, taking}
 use Rattle.reader.specs.ReaderLaws.{take-profile}
@@ -31,13 +32,13 @@ use Rattle.reader_laws.specs.Passes.{passes-test, fresh-ok, take-ok}
 use Rattle.reader_laws.specs.Passing.{Ok}
 use Rattle.recovery.specs.Calls.{Call, feed, done, FinishLast, CallResult, changed, takenBy, onTaken, DemandThree}
 use Rattle.recovery.specs.Calls as calls
-use Rattle.recovery.specs.WrittenLaws.{AllNibbles, no-nibble, and-nibble, all-changed}
+use Rattle.recovery.specs.WrittenLaws.{all-changed}
 use Rattle.recovery.specs.Examples.{sample, sample-writable, four, four-writable, from, to, new, new-nibbles, room, stretch-ordered, stretch-within}
 use Rattle.refinement.specs.CallTable.{not-a-nibble, no-room, taken}
 use Rattle.refinement.specs.CallTableLaws.{feeds-by-table}
 use Rattle.refinement.specs.ReaderCalls.{gives, readerCall}
 use Rattle.refinement.specs.ReaderCallsLaws.{reader-demand-three}
-use Rattle.refinement.specs.Runs.{RunCall, run, one, runsTaken, allOneByOne, FinishLastRun, done-last, feed-first, run-first, SameAsFeeds}
+use Rattle.refinement.specs.Runs.{RunCall, run, one, runsTaken, allOneByOne, FinishLastRun, done-last, run-first, SameAsFeeds}
 use Rattle.refinement.specs.RunsLaws.{takes-it}
 use Rattle.refinement.specs.RunAnswers.{runsFinish}
 use Rattle.refinement.specs.RunBySingles.{untouched}
@@ -100,13 +101,14 @@ module _ (p : Profile) (buffer : List ℕ) (enough : bodyLength p ≤ length buf
 
   singles-taken : {w : List ℕ} → AllNibbles w → (r : Reader) → At p r → onTaken readerCall r (singles w) ≡ w
   singles-taken no-nibble r a = refl
-  singles-taken (and-nibble {n} {w} l h) r a =
+  singles-taken (and-nibble {n} {t = w} h q) r a =
+      let l : n ≤ 15 = omega arith in
       let cs = singles w in
       ap (takesBy (feed 16 buffer) (feed n [] ∷ feed n buffer ∷ cs)) (above r a)
       ∙ ap (takesBy (feed n []) (feed n buffer ∷ cs)) (short r n l a)
       ∙ ap (takesBy (feed n buffer) cs) (right r n l a)
       ∙ takes-it (taking r n .outcome) (at-most-nine (take-sound (r .head) (r .body) n)) n _
-      ∙ ap (λ (v : List ℕ). n ∷ v) (singles-taken h (taking r n .reader) (next-at r n l a))
+      ∙ ap (λ (v : List ℕ). n ∷ v) (singles-taken q (taking r n .reader) (next-at r n l a))
 
   -- Runs.
 
@@ -150,13 +152,14 @@ module _ (p : Profile) (buffer : List ℕ) (enough : bodyLength p ≤ length buf
 
   runs-taken : {w : List ℕ} → AllNibbles w → (r : Reader) → At p r → runsTaken r (runs w) ≡ w
   runs-taken no-nibble r a = refl
-  runs-taken (and-nibble {n} {w} l h) r a =
+  runs-taken (and-nibble {n} {t = w} h q) r a =
+      let l : n ≤ 15 = omega arith in
       let cs = runs w in
       let k = stopped-run r n l a in
       ap (ranTakes (n ∷ []) (run [] buffer ∷ run (n ∷ 16 ∷ []) buffer ∷ cs)) (short-run r n a)
       ∙ ap (ranTakes [] (run (n ∷ 16 ∷ []) buffer ∷ cs)) (empty-run r a)
       ∙ ap₂ (λ (i : ℕ) (x : Reader). take i (n ∷ 16 ∷ []) ++ runsTaken x cs) (k .one-only) (k .leaves)
-      ∙ ap (λ (v : List ℕ). n ∷ v) (runs-taken h (taking r n .reader) (next-at r n l a))
+      ∙ ap (λ (v : List ℕ). n ∷ v) (runs-taken q (taking r n .reader) (next-at r n l a))
 
 -- Demand 3.
 
@@ -190,22 +193,14 @@ runs-recovered p =
 
 -- Calls that take any nibbles, for the other examples: runs that a 10 stops, with a 12 before each, and finish.
 
-abbrev pub areNibbles : List ℕ → Bool
-areNibbles [] = true
-areNibbles (n ∷ w) = leb n 15 && areNibbles w
-
-are-nibbles : (w : List ℕ) → areNibbles w ≡ true → AllNibbles w
-are-nibbles [] h = no-nibble
-are-nibbles (n ∷ w) h = and-nibble (leb-true n 15 (and-left (leb n 15) (areNibbles w) h)) (are-nibbles w (and-right (leb n 15) (areNibbles w) h))
-
 abbrev pub callsOn : Profile → List ℕ → List RunCall
 callsOn p w = runs p (blank p) (room p) w
 
 pub calls-last : (p : Profile) (w : List ℕ) → FinishLastRun (callsOn p w)
 calls-last p w = runs-last p (blank p) (room p) w
 
-pub calls-taken : (p : Profile) (w : List ℕ) → areNibbles w ≡ true → runsTaken (freshReader p) (callsOn p w) ≡ w
-calls-taken p w h = runs-taken p (blank p) (room p) (are-nibbles w h) (freshReader p) (fresh-at p)
+pub calls-taken : (p : Profile) (w : List ℕ) → nibblesOnly w ≡ true → runsTaken (freshReader p) (callsOn p w) ≡ w
+calls-taken p w h = runs-taken p (blank p) (room p) (only-nibbles w h) (freshReader p) (fresh-at p)
 
 pub calls-finish : (p : Profile) (w : List ℕ) → runsFinish (callsOn p w) ≡ true
 calls-finish p [] = refl

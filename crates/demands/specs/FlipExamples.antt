@@ -17,12 +17,13 @@ use Rattle.profile.specs.declared.Profile.{Profile}
 use Rattle.profile.specs.declared.Profile.the-variants.{VV5404, VV5300}
 use Rattle.stream.specs.Answers.{refused}
 use Rattle.stream.specs.Written.{Sent, written}
+use Rattle.stream.specs.Nibbles.{nibblesOnly}
 use Rattle.recovery.specs.CleanAnswers.{lineRead, gapRead}
 use Rattle.recovery.specs.Examples.{sample, sample-writable}
 use Rattle.flip_laws.specs.Flips.{Flips, no-bit, one-bit, two-bits, endCodePlace, Arrived, withFlips, arrivedWith, unflipped, flipAnswers}
 use Rattle.demands.specs.DemandTwo.{answersTo, AllArrived, none-arrived, and-arrived}
 use Rattle.demands.specs.DemandTwoLaws.{demand-two}
-use Rattle.demands.specs.Examples.{written-as, areNibbles, callsOn, calls-last, calls-taken, calls-finish}
+use Rattle.demands.specs.Examples.{written-as, callsOn, calls-last, calls-taken, calls-finish}
 
 -- Three lines, the second with bits of its codes flipped.
 
@@ -51,7 +52,7 @@ module _ (p : Profile) (start end : Flips) where
       (and-arrived _ _ (written-as p (bl p) (sample-writable p BL 3 (lit≤ tt)))
       (and-arrived _ _ (written-as p (vl p) (sample-writable p VL 10 (lit≤ tt))) none-arrived))
 
-  three-answers : areNibbles threeNibbles ≡ true → answersTo p (callsOn p threeNibbles) ≡ flipAnswers true three
+  three-answers : nibblesOnly threeNibbles ≡ true → answersTo p (callsOn p threeNibbles) ≡ flipAnswers true three
   three-answers h =
       let w = threeNibbles in
       demand-two p .lines-read three w three-arrived .alone (callsOn p w) (calls-last p w) (calls-taken p w h)
@@ -73,7 +74,7 @@ unfolding cleanByte
 codes-flipped VV5404 = (refl, refl)
 codes-flipped VV5300 = (refl, refl)
 
-one-each : (p : Profile) → areNibbles (threeNibbles p bit5 bit0) ≡ true
+one-each : (p : Profile) → nibblesOnly (threeNibbles p bit5 bit0) ≡ true
 unfolding cleanByte numberByte ones
 one-each VV5404 = refl
 one-each VV5300 = refl
@@ -95,7 +96,7 @@ both-repaired p = three-answers p bit5 bit0 (one-each p)
 abbrev bits01 : Flips
 bits01 = two-bits 0 1 (lit≤ tt) (lit≤ tt) (λ e. omega arith)
 
-two-in-start : (p : Profile) → areNibbles (threeNibbles p bits01 no-bit) ≡ true
+two-in-start : (p : Profile) → nibblesOnly (threeNibbles p bits01 no-bit) ≡ true
 unfolding cleanByte numberByte ones
 two-in-start VV5404 = refl
 two-in-start VV5300 = refl

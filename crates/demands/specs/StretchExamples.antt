@@ -10,6 +10,7 @@ use Rattle.line_number.specs.LineNumber.{numberByte}
 use Rattle.profile.specs.declared.Profile.{Profile}
 use Rattle.profile.specs.declared.Profile.the-variants.{VV5404, VV5300}
 use Rattle.stream.specs.Written.{Sent, stream}
+use Rattle.stream.specs.Nibbles.{nibblesOnly}
 use Rattle.reader.specs.Reader.{freshReader}
 use Rattle.recovery.specs.Calls.{asSent, lineCollector}
 use Rattle.recovery.specs.Examples.{sample, four}
@@ -17,9 +18,9 @@ use Rattle.refinement.specs.Runs.{RunCall, runsCollected}
 use Rattle.stretch_laws.specs.Stretches.{changedOf, Sublist}
 use Rattle.stretch_laws.specs.Examples.{twoStretches, segments-clean, whole-lines}
 use Rattle.demands.specs.StretchesWrittenLaws.{stretches-written}
-use Rattle.demands.specs.Examples.{four-wrote, areNibbles, callsOn, calls-last, calls-taken}
+use Rattle.demands.specs.Examples.{four-wrote, callsOn, calls-last, calls-taken}
 
-changed-nibbles : (p : Profile) → areNibbles (changedOf (twoStretches p)) ≡ true
+changed-nibbles : (p : Profile) → nibblesOnly (changedOf (twoStretches p)) ≡ true
 unfolding cleanByte numberByte ones
 changed-nibbles VV5404 = refl
 changed-nibbles VV5300 = refl

@@ -14,10 +14,11 @@ use Rattle.profile.specs.declared.Profile.{Profile}
 use Rattle.profile.specs.declared.Profile.the-variants.{VV5404, VV5300}
 use Rattle.profile.specs.Profile.{bodyLength}
 use Rattle.stream.specs.Written.{Sent, AllWritable, no-lines, and-line, written}
+use Rattle.stream.specs.Nibbles.{AllNibbles, no-nibble, and-nibble}
 use Rattle.writer.specs.Writer.{roomFor}
 use Rattle.writer.specs.WriterTable.{writeSent}
 use Rattle.recovery.specs.Calls.{Call, feed, done, CallResult, changed, LineOut, asSent, onTaken, onLines, MeetsDemandThree}
-use Rattle.recovery.specs.WrittenLaws.{AllNibbles, no-nibble, and-nibble, all-changed}
+use Rattle.recovery.specs.WrittenLaws.{all-changed}
 use Rattle.recovery.specs.Examples.{sample, sample-writable, fedThenDone, finish-last, room}
 use Rattle.demands.specs.Examples.{written-as}
 use Rattle.demands.specs.WrongPrograms.{TakesNibbles, RefusesEachMark, ReportsAlways, CopiesFirst, WriteCall, WritesByTable, WritesNothing, RefusesAlways}
@@ -43,8 +44,8 @@ module _ {R : Type 0} (on : R → Call → CallResult R) (p : Profile) (r : R) w
 
   all-fed : TakesNibbles on p → {w : List ℕ} → AllNibbles w → (s : R) → onTaken on s (fedThenDone blank w) ≡ w
   all-fed t no-nibble s = refl
-  all-fed t (and-nibble {n} {w} l g) s =
-      t s n blank (onTaken on (on s (feed n blank) .reader) (fedThenDone blank w)) l (room p)
+  all-fed t (and-nibble {n} {t = w} l g) s =
+      t s n blank (onTaken on (on s (feed n blank) .reader) (fedThenDone blank w)) (omega arith) (room p)
       ∙ ap {B = List ℕ} (λ v. n ∷ v) (all-fed t g (on s (feed n blank) .reader))
 
   -- demand 3 wants both lines out, and no other

@@ -24,10 +24,10 @@ use Rattle.profile.specs.Profile.{bodyLength, fillerByte, nullByte}
 use Rattle.profile.specs.Layout.{isPixel, allows, fits, rules, gapFits}
 use Rattle.stream.specs.Answers.{facts, Outcome, line, require, goodGap, bytesOnto, lineFrom, turned, allF, twoBytesThenF, gapFrom}
 use Rattle.stream.specs.Written.{nibbles}
+use Rattle.stream.specs.Nibbles.{AllNibbles, and-nibble}
+use Rattle.stream.specs.TextLaws.{refuses}
 use Rattle.recovery.specs.MarkFree.{spacedOut}
 use Rattle.recovery.specs.MarkFreeLaws.{rules-spaced}
-use Rattle.reader_laws.specs.Passing.{Small, small-more}
-use Rattle.refinement.specs.Stored.{refuses}
 
 -- Oldest first.
 
@@ -281,14 +281,14 @@ agree-turned (onto-other n {f} h q) m = agree-turned q (other f n h m)
 agree-turned (onto-F {f} q) m = agree-turned q (an-F f m)
 agree-turned (onto-free f a b g ha hb q) m = agree-turned q (free f a b g ha hb m)
 
-pub agree-small : {z f : ℕ} {base t t₂ : List ℕ} → Small base → AgreeOnto z base f t t₂ → Small t × Small t₂
+pub agree-small : {z f : ℕ} {base t t₂ : List ℕ} → AllNibbles base → AgreeOnto z base f t t₂ → AllNibbles t × AllNibbles t₂
 agree-small s at-base = (s, s)
 agree-small s (onto-other n h q) =
-    let r = agree-small s q in (small-more {n = n} (omega arith) (r .0), small-more {n = n} (omega arith) (r .1))
+    let r = agree-small s q in (and-nibble {n = n} (omega arith) (r .0), and-nibble {n = n} (omega arith) (r .1))
 agree-small s (onto-F q) =
-    let r = agree-small s q in (small-more {n = 15} (omega arith) (r .0), small-more {n = 15} (omega arith) (r .1))
+    let r = agree-small s q in (and-nibble {n = 15} (omega arith) (r .0), and-nibble {n = 15} (omega arith) (r .1))
 agree-small s (onto-free f a b g ha hb q) =
-    let r = agree-small s q in (small-more {n = a} (omega arith) (r .0), small-more {n = b} (omega arith) (r .1))
+    let r = agree-small s q in (and-nibble {n = a} (omega arith) (r .0), and-nibble {n = b} (omega arith) (r .1))
 
 pub agree-length : {z f : ℕ} {base t t₂ : List ℕ} → AgreeOnto z base f t t₂ → length t ≡ length t₂
 agree-length at-base = refl
@@ -302,14 +302,14 @@ pub data Bytes (t t₂ bs bs₂ : List ℕ) : Type 0 where
   even : (cs cs₂ : List ℕ) → bytesOnto t bs ≡ some cs → bytesOnto t₂ bs₂ ≡ some cs₂ → turned t (nibbles bs) ≡ nibbles cs
       → turned t₂ (nibbles bs₂) ≡ nibbles cs₂ → length cs ≡ length cs₂ → Bytes t t₂ bs bs₂
 
-pub as-bytes : (t t₂ : List ℕ) → Small t → Small t₂ → length t ≡ length t₂ → (bs bs₂ : List ℕ) → length bs ≡ length bs₂ → Bytes t t₂ bs bs₂
+pub as-bytes : (t t₂ : List ℕ) → AllNibbles t → AllNibbles t₂ → length t ≡ length t₂ → (bs bs₂ : List ℕ) → length bs ≡ length bs₂ → Bytes t t₂ bs bs₂
 as-bytes [] [] s s₂ e bs bs₂ l = even bs bs₂ refl refl refl refl l
 as-bytes [] (a ∷ t₂) s s₂ e bs bs₂ l = absurd (omega arith)
 as-bytes (a ∷ t) [] s s₂ e bs bs₂ l = absurd (omega arith)
 as-bytes (a ∷ []) (b ∷ []) s s₂ e bs bs₂ l = odd refl refl
 as-bytes (a ∷ []) (b ∷ d ∷ t₂) s s₂ e bs bs₂ l = absurd (omega arith)
 as-bytes (a ∷ c ∷ t) (b ∷ []) s s₂ e bs bs₂ l = absurd (omega arith)
-as-bytes (a ∷ c ∷ t) (b ∷ d ∷ t₂) (small-more ha (small-more hc s)) (small-more hb (small-more hd s₂)) e bs bs₂ l =
+as-bytes (a ∷ c ∷ t) (b ∷ d ∷ t₂) (and-nibble ha (and-nibble hc s)) (and-nibble hb (and-nibble hd s₂)) e bs bs₂ l =
     go (as-bytes t t₂ s s₂ (omega arith) ((16 * c + a) ∷ bs) ((16 * d + b) ∷ bs₂) (omega arith))
   where
     split : (h l : ℕ) (u w : List ℕ) → h < 16 → l < 16 → turned u (h ∷ l ∷ w) ≡ turned u ((16 * h + l) / 16 ∷ (16 * h + l) % 16 ∷ w)

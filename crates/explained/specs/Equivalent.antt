@@ -26,9 +26,10 @@ use Rattle.stream.specs.declared.Mark.{Mark}
 use Rattle.stream.specs.declared.Mark.the-variants.{NoMark, Open}
 use Rattle.stream.specs.Answers.{answerFor, bufferAfter, isLine, turned, periodOf, gapFrom, gapAnswer, afterCode, lineAnswer, byMeaning, byReading, answerOf}
 use Rattle.stream.specs.Stream.{State, Step, strip, markIf, kindAt, beforeBy, answerAt, advance, step, finish}
+use Rattle.stream.specs.Nibbles.{AllNibbles, no-nibble, and-nibble}
 use Rattle.recovery.specs.Calls.{Call, feed, done, CallResult, turnedAway, fed, meaningCall}
 use Rattle.recovery.specs.Resync.{stateWith}
-use Rattle.reader_laws.specs.Passing.{Small, small-none, small-more, Byte}
+use Rattle.reader_laws.specs.Passing.{Byte}
 use Rattle.explained.specs.Agree.{Agree, both-end, AgreeOnto, at-base, onto-other, onto-F, onto-free, agree-turned, agree-small, agree-length, as-bytes, line-from-same, gap-same}
 
 -- The code at a text's old end.
@@ -71,9 +72,9 @@ abbrev pub trailingFAt : Mark → ℕ
 trailingFAt NoMark = 0
 trailingFAt (Open before c) = trailingF c
 
-pub base-small : (m : Mark) → Byte m → Small (baseOf m)
-base-small NoMark h = small-none
-base-small (Open before c) h = small-more {n = c % 16} (omega arith) (small-more {n = c / 16} (omega arith) small-none)
+pub base-small : (m : Mark) → Byte m → AllNibbles (baseOf m)
+base-small NoMark h = no-nibble
+base-small (Open before c) h = and-nibble {n = c % 16} (omega arith) (and-nibble {n = c / 16} (omega arith) no-nibble)
 
 -- Texts that agree have the same answer.
 

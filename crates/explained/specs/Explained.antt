@@ -5,11 +5,12 @@ use Prim.Native.Nat.{ℕ, _≤_, _<_, _^_}
 use lib.ListN.{length, getD}
 use Rattle.profile.specs.Profile.{bodyLength, longest}
 use Rattle.stream.specs.declared.Answer.{Answer}
+use Rattle.stream.specs.Nibbles.{AllNibbles}
 use Rattle.mark_text.specs.declared.Kept.{Kept}
 use Rattle.reader.specs.declared.Reader.{Reader}
 use Rattle.reader.specs.Reader.{freshReader}
 use Rattle.recovery.specs.Calls.{Call, CallResult}
-use Rattle.reader_laws.specs.Passing.{Small, Byte}
+use Rattle.reader_laws.specs.Passing.{Byte}
 use Rattle.refinement.specs.Refine.{fedReader}
 use Rattle.refinement.specs.ReaderCalls.{readerCall}
 
@@ -48,6 +49,6 @@ pub record TypedReader (r : Reader) : Type 0 where
 -- alike, with the same buffers: feeds of anything and finishes, in any order
 pub record Explained (r : Reader) : Type 0 where
   pub nibbles : List ℕ
-  pub small : Small nibbles
+  pub small : AllNibbles nibbles
   pub same-later : (room : ℕ → ℕ) → ((k : ℕ) → bodyLength (r .head .profile) ≤ room k) → (cs : List Call)
       → outs readerCall r cs ≡ outs readerCall (fedReader room (freshReader (r .head .profile)) nibbles) cs

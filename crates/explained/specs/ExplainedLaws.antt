@@ -15,14 +15,15 @@ use Rattle.profile.specs.Profile.{gapStart}
 use Rattle.stream.specs.declared.Mark.{Mark}
 use Rattle.stream.specs.Answers.{answerFor, bufferAfter}
 use Rattle.stream.specs.Stream.{State, not-yet, detect, run, fresh}
+use Rattle.stream.specs.Nibbles.{AllNibbles}
+use Rattle.stream.specs.NibblesLaws.{all-nibbles-append}
 use Rattle.mark_text.specs.MarkText.{strayAt, keptAt}
 use Rattle.reader.specs.declared.Reader.{Reader}
 use Rattle.reader_head.specs.Head.{isMark, passes}
 use Rattle.reader.specs.Reader.{freshReader}
 use Rattle.recovery.specs.Calls.{Call, feed, done, CallResult, meaningCall}
 use Rattle.recovery.specs.Resync.{stateWith}
-use Rattle.reader_laws.specs.Passing.{Small, Passed, Ok}
-use Rattle.reader_laws.specs.SmallLaws.{small-append}
+use Rattle.reader_laws.specs.Passing.{Passed, Ok}
 use Rattle.refinement.specs.WindowLaws.{no-mark-yet}
 use Rattle.refinement.specs.StoredText.{storedKept}
 use Rattle.reader_laws.specs.Passes.{passed}
@@ -126,8 +127,8 @@ explained r typed e =
         text : List ℕ
         text = x .new ++ baseOf m
 
-        text-small : Small text
-        text-small = small-append (x .new-small) (base-small m (typed .code-byte))
+        text-small : AllNibbles text
+        text-small = all-nibbles-append (x .new-small) (base-small m (typed .code-byte))
 
         no-mark : detect text ≡ not-yet
         no-mark = no-mark-yet text text-small (ap isMark (x .is-window) ∙ h .no-mark-there)

@@ -27,15 +27,16 @@ use Rattle.stream.specs.declared.Mark.the-variants.{NoMark, Open}
 use Rattle.stream.specs.Answers.{turned, answerOf}
 use Rattle.stream.specs.Stream.{State, strip, group, Completed, not-yet, markIf, detect, advance, fresh, run}
 use Rattle.stream.specs.Written.{markOf, content}
+use Rattle.stream.specs.Nibbles.{AllNibbles, no-nibble, and-nibble}
+use Rattle.stream.specs.NibblesLaws.{all-nibbles-append}
 use Rattle.reader_head.specs.Head.{handedFits}
 use Rattle.recovery.specs.Resync.{stateWith}
 use Rattle.recovery.specs.MarksLaws.{strip-none}
 use Rattle.recovery.specs.MarkFreeLaws.{strip-wrong}
 use Rattle.recovery.specs.ReadBackLaws.{run-append, line-opens}
-use Rattle.recovery.specs.WrittenLaws.{AllNibbles, no-nibble as none-left, and-nibble, all-content}
+use Rattle.recovery.specs.WrittenLaws.{all-content}
 use Rattle.recovery.specs.Examples.{sample, sample-writable}
-use Rattle.reader_laws.specs.Passing.{Small, small-none, small-more, Byte}
-use Rattle.reader_laws.specs.SmallLaws.{small-append}
+use Rattle.reader_laws.specs.Passing.{Byte}
 use Rattle.explained.specs.Agree.{AgreeOnto, at-base, onto-other, onto-F, onto-free}
 use Rattle.explained.specs.Equivalent.{trailingF, baseOf, trailingFAt, below, above, Rests, one-rest, two-rests, rests-if, rests-F, Equivalent, the-same, texts-agree}
 
@@ -110,12 +111,12 @@ none-completed n (zero-F f q) = ap (markIf 15 n) (no-group q)
 
 -- newest first, on a base
 data NoMarkIn (base : List ℕ) : List ℕ → Type 0 where
-  no-nibble : NoMarkIn base []
+  none-since : NoMarkIn base []
   one-more : (n : ℕ) (v : List ℕ) → detect (n ∷ (v ++ base)) ≡ not-yet → NoMarkIn base v → NoMarkIn base (n ∷ v)
 
 run-lengthens : (p : Profile) (m : Mark) (base : List ℕ) {v : List ℕ} (w : List ℕ) → NoMarkIn base v
     → run p (stateWith m base) (turned v w) ≡ run p (stateWith m (v ++ base)) w
-run-lengthens p m base w no-nibble = refl
+run-lengthens p m base w none-since = refl
 run-lengthens p m base w (one-more n v e s) =
     run-lengthens p m base (n ∷ w) s ∙ ap (λ (d : Completed). run p (advance p m (n ∷ (v ++ base)) d .state) w) e
 
@@ -126,7 +127,7 @@ record Replaced (m : Mark) (v : List ℕ) : Type 0 where
   agree : AgreeOnto (trailingFAt m) (baseOf m) count (v ++ baseOf m) (new ++ baseOf m)
   no-zero : NoZero m count (new ++ baseOf m)
   no-mark : NoMarkIn (baseOf m) new
-  small : Small new
+  small : AllNibbles new
 
 replace-one : (m : Mark) (n : ℕ) (v : List ℕ) → n < 16 → Replaced m v → Replaced m (n ∷ v)
 replace-one m n v h q = go (ltb n 15) (eqb n 0) (leb 4 (q .count)) refl refl refl
@@ -139,7 +140,7 @@ replace-one m n v h q = go (ltb n 15) (eqb n 0) (leb 4 (q .count)) refl refl ref
           agree = onto-other n l (q .agree);
           no-zero = zero-other n (q .count) l z (q .no-zero);
           no-mark = one-more n (q .new) (none-completed n (q .no-zero)) (q .no-mark);
-          small = small-more h (q .small);
+          small = and-nibble h (q .small);
         }
 
     go : (x y z : Bool) → ltb n 15 ≡ x → eqb n 0 ≡ y → leb 4 (q .count) ≡ z → Replaced m (n ∷ v)
@@ -154,7 +155,7 @@ replace-one m n v h q = go (ltb n 15) (eqb n 0) (leb 4 (q .count)) refl refl ref
               (onto-F (q .agree));
           no-zero = subst (λ (x : ℕ). NoZero m (suc (q .count)) (x ∷ (q .new ++ baseOf m))) k (zero-F (q .count) (q .no-zero));
           no-mark = one-more n (q .new) (none-completed n (q .no-zero)) (q .no-mark);
-          small = small-more h (q .small);
+          small = and-nibble h (q .small);
         }
     go true true true e f g =
         record {
@@ -163,22 +164,22 @@ replace-one m n v h q = go (ltb n 15) (eqb n 0) (leb 4 (q .count)) refl refl ref
           agree = onto-free (q .count) n 1 (leb-true 4 (q .count) g) (ltb-true n 15 e) (omega arith) (q .agree);
           no-zero = zero-other 1 (q .count) (omega arith) (λ z. absurd (omega arith)) (q .no-zero);
           no-mark = one-more 1 (q .new) (none-completed 1 (q .no-zero)) (q .no-mark);
-          small = small-more {n = 1} (omega arith) (q .small);
+          small = and-nibble {n = 1} (omega arith) (q .small);
         }
     go true false z e f g = keep (ltb-true n 15 e) (λ k. absurd (eqb-false n 0 f k))
     go true true false e f g = keep (ltb-true n 15 e) (λ k. leb-false 4 (q .count) g)
 
-replace : (m : Mark) {v : List ℕ} → Small v → Replaced m v
-replace m small-none =
-    record { new = []; count = trailingFAt m; agree = at-base; no-zero = zero-base; no-mark = no-nibble; small = small-none }
-replace m (small-more {n} {t = v} h s) = replace-one m n v h (replace m s)
+replace : (m : Mark) {v : List ℕ} → AllNibbles v → Replaced m v
+replace m no-nibble =
+    record { new = []; count = trailingFAt m; agree = at-base; no-zero = zero-base; no-mark = none-since; small = no-nibble }
+replace m (and-nibble {n} {t = v} h s) = replace-one m n v h (replace m s)
 
 -- nibbles that bring no mark, and lead from the mark's code to an equivalent text
 record Leads (m : Mark) (v : List ℕ) : Type 0 where
   new : List ℕ
   no-mark : NoMarkIn (baseOf m) new
   equivalent : Equivalent (stateWith m (v ++ baseOf m)) (stateWith m (new ++ baseOf m))
-  small : Small new
+  small : AllNibbles new
 
 still-none : {z : ℕ} {base : List ℕ} {o o₂ : Option (List ℕ)} (x y : ℕ) → Rests z base o o₂ → markIf x y o ≡ not-yet
     → markIf x y o₂ ≡ not-yet
@@ -186,27 +187,27 @@ still-none x y (one-rest o) e = e
 still-none x y (two-rests f q) e = absurd (let z : _≡_ {A = ℕ} 0 1 = cc in omega arith)
 
 -- the newest four nibbles stay
-leads : (m : Mark) {v : List ℕ} → Byte m → Small v → detect (v ++ baseOf m) ≡ not-yet → Leads m v
-leads m b small-none e = record { new = []; no-mark = no-nibble; equivalent = the-same _; small = small-none }
-leads m b (small-more {n = a} ha small-none) e =
-    record { new = a ∷ []; no-mark = one-more a [] e no-nibble; equivalent = the-same _; small = small-more ha small-none }
-leads m b (small-more {n = a} ha (small-more {n = c} hc small-none)) e =
+leads : (m : Mark) {v : List ℕ} → Byte m → AllNibbles v → detect (v ++ baseOf m) ≡ not-yet → Leads m v
+leads m b no-nibble e = record { new = []; no-mark = none-since; equivalent = the-same _; small = no-nibble }
+leads m b (and-nibble {n = a} ha no-nibble) e =
+    record { new = a ∷ []; no-mark = one-more a [] e none-since; equivalent = the-same _; small = and-nibble ha no-nibble }
+leads m b (and-nibble {n = a} ha (and-nibble {n = c} hc no-nibble)) e =
     record {
       new = a ∷ c ∷ [];
-      no-mark = one-more a (c ∷ []) e (one-more c [] (base-no-mark m c) no-nibble);
+      no-mark = one-more a (c ∷ []) e (one-more c [] (base-no-mark m c) none-since);
       equivalent = the-same _;
-      small = small-more ha (small-more hc small-none);
+      small = and-nibble ha (and-nibble hc no-nibble);
     }
-leads m b (small-more {n = a} ha (small-more {n = c} hc (small-more {n = d} hd small-none))) e =
+leads m b (and-nibble {n = a} ha (and-nibble {n = c} hc (and-nibble {n = d} hd no-nibble))) e =
     record {
       new = a ∷ c ∷ d ∷ [];
       no-mark =
           one-more a (c ∷ d ∷ []) e
-          (one-more c (d ∷ []) (ap (markIf d c) (base-no-group m)) (one-more d [] (base-no-mark m d) no-nibble));
+          (one-more c (d ∷ []) (ap (markIf d c) (base-no-group m)) (one-more d [] (base-no-mark m d) none-since));
       equivalent = the-same _;
-      small = small-more ha (small-more hc (small-more hd small-none));
+      small = and-nibble ha (and-nibble hc (and-nibble hd no-nibble));
     }
-leads m b (small-more {n = a} ha (small-more {n = c} hc (small-more {n = d} hd (small-more {n = x} {t = u} hx s)))) e = go (replace m s)
+leads m b (and-nibble {n = a} ha (and-nibble {n = c} hc (and-nibble {n = d} hd (and-nibble {n = x} {t = u} hx s)))) e = go (replace m s)
   where
     go : Replaced m u → Leads m (a ∷ c ∷ d ∷ x ∷ u)
     go q =
@@ -218,7 +219,7 @@ leads m b (small-more {n = a} ha (small-more {n = c} hc (small-more {n = d} hd (
               (one-more d (x ∷ q .new) (ap (markIf x d) (no-group (q .no-zero)))
               (one-more x (q .new) (none-completed x (q .no-zero)) (q .no-mark))));
           equivalent = texts-agree m _ _ b (above a 3 ha (above c 2 hc (above d 1 hd (above x 0 hx (below (q .count) (q .agree))))));
-          small = small-more ha (small-more hc (small-more hd (small-more hx (q .small))));
+          small = and-nibble ha (and-nibble hc (and-nibble hd (and-nibble hx (q .small))));
         }
 
 -- To a mark with nothing after its code.
@@ -263,12 +264,12 @@ to-mark p (Open (RefusedLine VL) c) h = opened-at (RefusedLine VL) c (c % 16 ∷
 to-mark p (Open (RefusedLine SOF) c) h = opened-at (RefusedLine SOF) c (c % 16 ∷ c / 16 ∷ [])
 to-mark p (Open (RefusedLine EOF) c) h = opened-at (RefusedLine EOF) c (c % 16 ∷ c / 16 ∷ [])
 
-mark-small : (c : ℕ) → c < 256 → Small (markOf c)
+mark-small : (c : ℕ) → c < 256 → AllNibbles (markOf c)
 mark-small c h =
     let f : 15 < 16 = omega arith in
     let z : 0 < 16 = omega arith in
-    small-more f (small-more f (small-more f (small-more f (small-more z (small-more z
-    (small-more {n = c / 16} (omega arith) (small-more {n = c % 16} (omega arith) small-none)))))))
+    and-nibble f (and-nibble f (and-nibble f (and-nibble f (and-nibble z (and-nibble z
+    (and-nibble {n = c / 16} (omega arith) (and-nibble {n = c % 16} (omega arith) no-nibble)))))))
 
 clean-small : (k : Kind) → cleanByte (Line k) < 256
 unfolding cleanByte
@@ -278,29 +279,25 @@ clean-small VL = omega arith
 clean-small SOF = omega arith
 clean-small EOF = omega arith
 
-nibbles-small : {w : List ℕ} → AllNibbles w → Small w
-nibbles-small none-left = small-none
-nibbles-small (and-nibble {n} l h) = small-more {n = n} (omega arith) (nibbles-small h)
-
-to-mark-small : (p : Profile) (m : Mark) → Byte m → Small (nibblesTo p m)
-to-mark-small p NoMark h = small-none
+to-mark-small : (p : Profile) (m : Mark) → Byte m → AllNibbles (nibblesTo p m)
+to-mark-small p NoMark h = no-nibble
 to-mark-small p (Open NoLine c) h = mark-small c h
-to-mark-small p (Open (RefusedLine k) c) h = small-append (mark-small _ (clean-small k)) (mark-small c h)
+to-mark-small p (Open (RefusedLine k) c) h = all-nibbles-append (mark-small _ (clean-small k)) (mark-small c h)
 to-mark-small p (Open (HandedOut k) c) h =
-    small-append (mark-small _ (clean-small k))
-    (small-append (nibbles-small (all-content p (sample p k 0) (sample-writable p k 0 (omega arith)))) (mark-small c h))
+    all-nibbles-append (mark-small _ (clean-small k))
+    (all-nibbles-append (all-content p (sample p k 0) (sample-writable p k 0 (omega arith))) (mark-small c h))
 
-small-turned : {v w : List ℕ} → Small v → Small w → Small (turned v w)
-small-turned small-none t = t
-small-turned (small-more h s) t = small-turned s (small-more h t)
+small-turned : {v w : List ℕ} → AllNibbles v → AllNibbles w → AllNibbles (turned v w)
+small-turned no-nibble t = t
+small-turned (and-nibble h s) t = small-turned s (and-nibble h t)
 
 -- nibbles that lead a fresh reader to a state equivalent to s
 pub record Reachable (p : Profile) (s : State) : Type 0 where
   pub nibbles : List ℕ
-  pub small : Small nibbles
+  pub small : AllNibbles nibbles
   pub equivalent : Equivalent s (run p fresh nibbles)
 
-pub reachable : (p : Profile) (m : Mark) {v : List ℕ} → Byte m → handedFits m ≡ true → Small v → detect (v ++ baseOf m) ≡ not-yet
+pub reachable : (p : Profile) (m : Mark) {v : List ℕ} → Byte m → handedFits m ≡ true → AllNibbles v → detect (v ++ baseOf m) ≡ not-yet
     → Reachable p (stateWith m (v ++ baseOf m))
 reachable p m {v} b fits s e = go (leads m b s e)
   where
@@ -308,7 +305,7 @@ reachable p m {v} b fits s e = go (leads m b s e)
     go q =
         record {
           nibbles = nibblesTo p m ++ turned (q .new) [];
-          small = small-append (to-mark-small p m b) (small-turned (q .small) small-none);
+          small = all-nibbles-append (to-mark-small p m b) (small-turned (q .small) no-nibble);
           equivalent =
               subst (λ (x : State). Equivalent (stateWith m (v ++ baseOf m)) x)
               (sym

@@ -6,10 +6,10 @@ use Prim.Native.Nat.{ℕ, _≤_}
 use lib.ListN.{length}
 use Rattle.profile.specs.Profile.{bodyLength}
 use Rattle.stream.specs.declared.Answer.{Answer}
+use Rattle.stream.specs.Nibbles.{AllNibbles}
 use Rattle.reader.specs.declared.Reader.{Reader}
 use Rattle.reader.specs.Reader.{freshReader}
 use Rattle.run.specs.Run.{runOf}
-use Rattle.reader_laws.specs.Passing.{Small}
 use Rattle.refinement.specs.Refine.{fedReader}
 use Rattle.refinement.specs.Runs.{RunCall, run, one, runResult}
 
@@ -33,6 +33,6 @@ runOuts r (c ∷ cs) = record { answer = runResult r c .answer; buffer = runResu
 -- among them, alike
 pub record RunsExplained (r : Reader) : Type 0 where
   pub nibbles : List ℕ
-  pub small : Small nibbles
+  pub small : AllNibbles nibbles
   pub same-later : (room : ℕ → ℕ) → ((k : ℕ) → bodyLength (r .head .profile) ≤ room k) → (cs : List RunCall)
       → runOuts r cs ≡ runOuts (fedReader room (freshReader (r .head .profile)) nibbles) cs

@@ -15,11 +15,12 @@ use Rattle.profile.specs.Profile.{longest, gapStart}
 use Rattle.stream.specs.declared.Before.{Before}
 use Rattle.stream.specs.declared.Mark.{Mark}
 use Rattle.stream.specs.declared.Mark.the-variants.{NoMark, Open}
+use Rattle.stream.specs.Nibbles.{AllNibbles, no-nibble, and-nibble}
+use Rattle.stream.specs.NibblesLaws.{all-nibbles-append}
 use Rattle.mark_text.specs.MarkText.{strayAt, keptAt}
 use Rattle.reader_head.specs.Head.{aged}
 use Rattle.refinement.specs.Window.{num}
-use Rattle.reader_laws.specs.Passing.{Small, small-none, small-more, Byte, Fits}
-use Rattle.reader_laws.specs.SmallLaws.{small-append}
+use Rattle.reader_laws.specs.Passing.{Byte, Fits}
 use Rattle.refinement.specs.StoredText.{storedKept, storedBody}
 use Rattle.refinement.specs.Stored.{stored-length}
 use Rattle.explained.specs.Equivalent.{baseOf}
@@ -69,9 +70,9 @@ abbrev keptText : Profile → Mark → Store → ℕ → List ℕ
 keptText p m s zero = []
 keptText p m s (suc k) = textNibble p (endsLine m) s (k + length (baseOf m)) ∷ keptText p m s k
 
-all-small : (p : Profile) (m : Mark) (s : Store) → Typed s → (k : ℕ) → Small (keptText p m s k)
-all-small p m s h zero = small-none
-all-small p m s h (suc k) = small-more (text-small p (endsLine m) s h (k + length (baseOf m))) (all-small p m s h k)
+all-small : (p : Profile) (m : Mark) (s : Store) → Typed s → (k : ℕ) → AllNibbles (keptText p m s k)
+all-small p m s h zero = no-nibble
+all-small p m s h (suc k) = and-nibble (text-small p (endsLine m) s h (k + length (baseOf m))) (all-small p m s h k)
 
 text-length : (p : Profile) (m : Mark) (s : Store) (k : ℕ) → length (keptText p m s k ++ baseOf m) ≡ k + length (baseOf m)
 text-length p m s zero = omega arith
@@ -170,9 +171,9 @@ abbrev digits : ℕ → ℕ → List ℕ
 digits zero w = []
 digits (suc k) w = w % 16 ∷ digits k (w / 16)
 
-digits-small : (k w : ℕ) → Small (digits k w)
-digits-small zero w = small-none
-digits-small (suc k) w = small-more {n = w % 16} (omega arith) (digits-small k (w / 16))
+digits-small : (k w : ℕ) → AllNibbles (digits k w)
+digits-small zero w = no-nibble
+digits-small (suc k) w = and-nibble {n = w % 16} (omega arith) (digits-small k (w / 16))
 
 digits-length : (k w : ℕ) (u : List ℕ) → length (digits k w ++ u) ≡ k + length u
 digits-length zero w u = omega arith
@@ -190,7 +191,7 @@ window-zero w h = omega arith
 -- nibbles after the mark's code that make count, window and what is used of the store
 pub record StandsFor (p : Profile) (m : Mark) (c w : ℕ) (s : Store) : Type 0 where
   pub new : List ℕ
-  pub new-small : Small new
+  pub new-small : AllNibbles new
   pub is-count : length (new ++ baseOf m) ≡ c
   pub is-window : num (take 8 (new ++ baseOf m)) ≡ w
   pub is-store : SameUsed p (endsLine m) (c - 8) s (storedText p (s .body) (drop 8 (new ++ baseOf m)))
@@ -265,7 +266,7 @@ left-window p m k w s h c e l y =
     let d : c - 8 ≡ k + length (baseOf m) = omega arith in
     record {
       new = digits 8 w ++ keptText p m s k;
-      new-small = small-append (digits-small 8 w) (all-small p m s h k);
+      new-small = all-nibbles-append (digits-small 8 w) (all-small p m s h k);
       is-count = omega arith;
       is-window = num-digits 8 w [] (sym (window-zero w l));
       is-store =

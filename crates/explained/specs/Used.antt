@@ -28,12 +28,13 @@ use Rattle.stream.specs.declared.Before.the-variants.{NoLine, RefusedLine, Hand
 use Rattle.stream.specs.declared.Mark.{Mark}
 use Rattle.stream.specs.declared.Mark.the-variants.{NoMark, Open}
 use Rattle.stream.specs.Answers.{facts, Outcome, line, goodGap, require}
+use Rattle.stream.specs.TextLaws.{refuses}
 use Rattle.mark_text.specs.MarkText.{bodyPlace, strayAt, keptAt, bodyAt}
 use Rattle.gap_answer.specs.KeptGap.{keptGap}
 use Rattle.line_answer.specs.KeptLine.{keptLine}
 use Rattle.mark_answer.specs.KeptAnswer.{keptByMeaning, keptByReading, keptAnswer}
 use Rattle.profile.specs.LayoutLaws.{body-small}
-use Rattle.refinement.specs.Stored.{byte-high, byte-low, byte-keep, body-high, body-low, refuses, wrong-length}
+use Rattle.refinement.specs.Stored.{byte-high, byte-low, byte-keep, body-high, body-low, wrong-length}
 use Rattle.reader_laws.specs.Bodies.{bodyBy, length-body}
 use Rattle.explained.specs.Explained.{Store}
 

@@ -1,6 +1,6 @@
 -- Bits flipped in the nibbles of a line as written: what then stands there is the line with other code bytes, and how those are read.
 use mathlib.Core.Path.{_≡_, refl, _∙_, ap, ap₂, sym}
-use mathlib.Core.Bool.{Bool, true, false, _||_, _&&_, cond, true≢false}
+use mathlib.Core.Bool.{Bool, true, false, _||_, _&&_, cond}
 use mathlib.Core.List.{List, [], _∷_, _++_, append-assoc}
 use mathlib.Core.Option.{Option, none, some}
 use Prim.Native.Nat.{ℕ, suc, _+_, _-_, _/_, _%_, _≤_, _<_}
@@ -11,6 +11,7 @@ use lib.ListN.{length, length-append}
 use borrow.Author.Tests.{leb-true, eqb-true, ne-eqb}
 use Rattle.bits.specs.Bits.{flipped}
 use Rattle.bits.specs.Every.{every, each, and-left, and-right}
+use Rattle.bits.specs.Tests.{or-other}
 use Rattle.line_code.specs.declared.Kind.the-variants.{BL, BK, VL, SOF, EOF}
 use Rattle.line_code.specs.declared.Meaning.{Meaning}
 use Rattle.line_code.specs.declared.Meaning.the-variants.{EndOfLine, Line, ReservedEC, ReservedF1}
@@ -53,16 +54,12 @@ never-FF (Line EOF) = refl
 never-FF ReservedEC = refl
 never-FF ReservedF1 = refl
 
-or-right : (a b : Bool) → (a || b) ≡ true → a ≡ false → b ≡ true
-or-right true b h e = absurd (true≢false e)
-or-right false b h e = h
-
 -- a clean byte with bits flipped is a byte other than FF, and is read as its meaning or as damaged
 pub flipped-small : (m : Meaning) (f : Flips) → flippedCode f (cleanByte m) ≤ 254
 flipped-small m no-bit = read-small (cleanByte m) Clean m (clean-reading m)
 flipped-small m (one-bit i l) = read-small (flipped (cleanByte m) i) (Bit i) m (one-flip m i l)
 flipped-small m (two-bits i j l k d) =
-    leb-true _ 254 (or-right (eqb i j) _ (each (notFF m i) 8 (each (λ (n : ℕ). every (notFF m n) 8) 8 (never-FF m) i l) j k) (ne-eqb i j d))
+    leb-true _ 254 (or-other (eqb i j) _ (each (notFF m i) 8 (each (λ (n : ℕ). every (notFF m n) 8) 8 (never-FF m) i l) j k) (ne-eqb i j d))
 
 pub flipped-reads : (m : Meaning) (f : Flips) → readingOf (flippedCode f (cleanByte m)) ≡ readingBy m (repairBy f)
 flipped-reads m no-bit = clean-reading m

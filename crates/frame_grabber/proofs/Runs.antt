@@ -17,7 +17,7 @@ use Rattle.stream.specs.declared.Answer.the-variants as answers
 use Rattle.stream.specs.Answers.{answerFor, bufferAfter}
 use Rattle.stream.specs.AnswersLaws.{answer-of}
 use Rattle.stream.specs.Written.{nibbles}
-use Rattle.stream.specs.NibblesLaws.{nibbles-length}
+use Rattle.stream.specs.NibblesLaws.{all-nibbles-drop, nibbles-length}
 use Rattle.reader_head.specs.declared.Head.{Head}
 use Rattle.reader.specs.declared.Reader.{Reader}
 use Rattle.reader_head.specs.Head.{passes}
@@ -25,7 +25,6 @@ use Rattle.run.specs.declared.RunStepped.{RunStepped}
 use Rattle.run.specs.Run.{Ran, lentRunOf, onward}
 use Rattle.run.specs.Gives.{LentRunGives}
 use Rattle.reader_laws.specs.Passing.{Ok}
-use Rattle.reader_laws.specs.SmallLaws.{small-drop}
 use Rattle.reader_laws.specs.ByRuns.{ByNibbles, RunOn}
 use Rattle.reader_laws.specs.ByRunsLaws.{run-on, lent-onward}
 use Rattle.capture_bytes.specs.UnpackedLaws.{nibbles-small}
@@ -110,7 +109,7 @@ module _ {r : Reader} {g : Gatherer} {bytes held : List ℕ} {from at : ℕ} {h 
   goes = lent-onward h body (drop at s) longest (a .sound) full refl
 
   ran-on : RunOn (seeking m held′) (reader h body) (drop at s) 0 x
-  ran-on = run-on (seeking m held′) (small-drop (nibbles-small bytes known) at) (reader h body) 0 (a .sound)
+  ran-on = run-on (seeking m held′) (all-nibbles-drop (nibbles-small bytes known) at) (reader h body) 0 (a .sound)
 
   taken-is : t .taken ≡ ran-on .count
   taken-is = e .count ∙ ap (λ (u : Ran). u .taken) goes ∙ ran-on .counted ∙ zero-add (ran-on .count)

@@ -1,7 +1,7 @@
 -- Laws of frames: the judge's test is true of exactly the states that calls reach, a whole frame is Complete, and nothing else is.
 -- Of a frame's line at a place, any one, the judge's answer is known for every number (`Answers`).
 use mathlib.Core.Path.{_≡_, refl, sym, ap, ap₂, subst, _∙_}
-use mathlib.Core.Bool.{Bool, true, false, _&&_, _||_, cond, true≢false}
+use mathlib.Core.Bool.{Bool, true, false, _&&_, _||_, cond, true≢false, or-true}
 use mathlib.Core.List.{List, [], _∷_, _++_, append-nil, append-assoc}
 use Prim.Native.Nat.{ℕ, zero, suc, _+_, _-_, _≤_, _<_}
 use native.Mathlib.Nat.{not-suc-le-zero, le-of-suc-le-suc}
@@ -327,10 +327,6 @@ unfolding kindAt
 own-due p Unsettled place = ap (λ (t : Bool). t || standsAt p Off place (kindNumber (kindAt p On place))) (stands-own p On place)
 own-due p On place = ap (λ (t : Bool). t || standsAt p Off place (kindNumber (kindAt p On place))) (stands-own p On place)
 own-due p Off place = ap (λ (t : Bool). standsAt p On place (kindNumber (kindAt p Off place)) || t) (stands-own p Off place) ∙ or-true (standsAt p On place (kindNumber (kindAt p Off place)))
-  where
-    or-true : (t : Bool) → (t || true) ≡ true
-    or-true true = refl
-    or-true false = refl
 
 shown-due : (p : Profile) (b : Borders) (place : ℕ) → kindDue p (shown b) place (kindNumber (kindAt p b place)) ≡ true
 unfolding kindAt

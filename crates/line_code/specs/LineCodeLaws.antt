@@ -8,6 +8,7 @@ use native.Mathlib.Omega.{arith}
 use borrow.Author.Tests.{eqb-true, eq-eqb, ne-eqb, lt-ltb, ltb-true, ltb-false, not-true}
 use Rattle.bits.specs.Bits.{flipped}
 use Rattle.bits.specs.Every.{every, each, count}
+use Rattle.bits.specs.Tests.{or-other}
 use Rattle.line_code.specs.declared.Kind.{Kind}
 use Rattle.line_code.specs.declared.Kind.the-variants.{BL, BK, VL, SOF, EOF}
 use Rattle.line_code.specs.declared.Meaning.{Meaning}
@@ -172,16 +173,12 @@ damaged-is Damaged h = refl
 abbrev apart : Meaning → ℕ → ℕ → Bool
 apart m i j = eqb i j || isDamaged (readingOf (flipped (flipped (cleanByte m) i) j))
 
-or-right : (a b : Bool) → (a || b) ≡ true → a ≡ false → b ≡ true
-or-right true b h e = absurd (true≢false e)
-or-right false b h e = h
-
 -- any two different bits among the eight of a clean byte flipped are damage
 pub two-damaged : (m : Meaning) (i j : ℕ) → i < 8 → j < 8 → (i ≡ j → ⊥) → readingOf (flipped (flipped (cleanByte m) i) j) ≡ Damaged
 unfolding cleanByte readingOf meaningOf kindNumbered reservedOf
 two-damaged m i j h g d =
     damaged-is (readingOf (flipped (flipped (cleanByte m) i) j))
-    (or-right (eqb i j) _
+    (or-other (eqb i j) _
     (each (apart m i) 8 (each (λ (n : ℕ). every (apart m n) 8) 8 (at-each (λ (x : Meaning). every (λ (n : ℕ). every (apart x n) 8) 8) refl m) i h) j g)
     (ne-eqb i j d))
 
@@ -215,5 +212,5 @@ no-end-F b e = go (ltb b 256) refl
     go : (x : Bool) → ltb b 256 ≡ x → isEnd (readingOf b) ≡ false
     go true h =
         not-true (isEnd (readingOf b))
-        (or-right (not (eqb (b % 16) 15)) _ (each (λ (n : ℕ). not (eqb (n % 16) 15) || not (isEnd (readingOf n))) 256 refl b (ltb-true b 256 h)) (ap not (eq-eqb (b % 16) 15 e)))
+        (or-other (not (eqb (b % 16) 15)) _ (each (λ (n : ℕ). not (eqb (n % 16) 15) || not (isEnd (readingOf n))) 256 refl b (ltb-true b 256 h)) (ap not (eq-eqb (b % 16) 15 e)))
     go false h = ap isEnd (damaged-far b (ltb-false b 256 h))

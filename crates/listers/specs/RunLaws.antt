@@ -14,14 +14,13 @@ use Rattle.profile.specs.Profile.{longest}
 use Rattle.stream.specs.Answers.{Outcome, nothing, answerFor, bufferAfter}
 use Rattle.stream.specs.AnswersLaws.{answer-of}
 use Rattle.stream.specs.Written.{nibbles}
-use Rattle.stream.specs.NibblesLaws.{nibbles-length}
+use Rattle.stream.specs.NibblesLaws.{all-nibbles-drop, nibbles-length}
 use Rattle.reader.specs.declared.Reader.{Reader}
 use Rattle.reader.specs.Reader.{Took, feedOf}
 use Rattle.run.specs.declared.RunStepped.{RunStepped}
 use Rattle.run.specs.Run.{Ran, lentRunOf, onward}
 use Rattle.run.specs.Gives.{LentRunGives}
 use Rattle.reader_laws.specs.Passing.{Ok}
-use Rattle.reader_laws.specs.SmallLaws.{small-drop}
 use Rattle.reader_laws.specs.ByRuns.{ByNibbles, took, RunOn}
 use Rattle.reader_laws.specs.ByRunsLaws.{run-on, lent-onward}
 use Rattle.capture_bytes.specs.UnpackedLaws.{nibbles-small}
@@ -152,7 +151,7 @@ module _ {L : Type 0} {f : Lists L} {g : ByReader f} {l : L} {bytes d : List ℕ
   goes = lent-onward (g .reader m .head) (g .reader m .body) (drop at s) n (p .sound) full n-full
 
   ran-on : RunOn (by-nibbles g m (length d - used) room) (g .reader m) (drop at s) 0 ran
-  ran-on = run-on (by-nibbles g m (length d - used) room) (small-drop (nibbles-small bytes known) at) (g .reader m) 0 (p .sound)
+  ran-on = run-on (by-nibbles g m (length d - used) room) (all-nibbles-drop (nibbles-small bytes known) at) (g .reader m) 0 (p .sound)
 
   taken-is : r .taken ≡ ran-on .count
   taken-is = e .count ∙ ap (λ (x : Ran). x .taken) goes ∙ ran-on .counted ∙ zero-add (ran-on .count)

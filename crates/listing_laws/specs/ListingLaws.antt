@@ -1,7 +1,7 @@
 -- The text of `list`: the calls list what the nibbles one by one do, the reader answers as the meaning does, and each answer has its row.
 use mathlib.Core.Path.{_≡_, refl, _∙_, ap, ap₂, sym}
 use mathlib.Core.List.{List, [], _++_, append-assoc, append-nil}
-use Prim.Native.Nat.{ℕ, _+_, _≤_, _<_}
+use Prim.Native.Nat.{ℕ, _≤_, _<_}
 use lib.ListN.{getD}
 use borrow.Author.Tests.{le-ltb}
 use Rattle.counts.specs.Counts.{oneMore}
@@ -12,9 +12,9 @@ use Rattle.stream.specs.declared.Answer.{Answer}
 use Rattle.stream.specs.Answers.{Outcome, nothing, line, gap, refused, answerFor}
 use Rattle.stream.specs.Stream.{State, fresh, finish, step}
 use Rattle.stream.specs.Written.{nibbles}
+use Rattle.stream.specs.Nibbles.{AllNibbles, no-nibble, and-nibble}
 use Rattle.reader.specs.declared.Reader.{Reader}
 use Rattle.reader.specs.Reader.{freshReader, feedOf}
-use Rattle.reader_laws.specs.Passing.{Small, small-none, small-more}
 use Rattle.recovery.specs.CleanAnswers.{saidIn, said, outcomesFinished}
 use Rattle.refinement.specs.Refine.{Follows}
 use Rattle.refinement.specs.RefineLaws.{fresh-follows, feed-steps, finish-steps}
@@ -39,14 +39,14 @@ abbrev listerOf : Reader → ℕ → MarkLister
 listerOf r k = record { reader = r; marks = k }
 
 -- from a reader that stands for the state s on: the rows of nibbles, and that of finish
-rows-told : (p : Profile) {w : List ℕ} → Small w → (k : ℕ) (r : Reader) (s : State) → Follows p r s
+rows-told : (p : Profile) {w : List ℕ} → AllNibbles w → (k : ℕ) (r : Reader) (s : State) → Follows p r s
     → listText (listerOf r k) w ++ endText (listAfter (listerOf r k) w) ≡ rowsFrom (oneMore k) (said (outcomesFinished p s w))
 unfolding afterNibble nibbleText
-rows-told p small-none k r s h =
+rows-told p no-nibble k r s h =
     ap (λ (o : Outcome). rowOf (marksWith k (answerFor o)) (answerFor o)) (finish-steps p r s h .outcome-same)
     ∙ sym (append-nil (rowOf (marksWith k (answerFor (finish p s .outcome))) (answerFor (finish p s .outcome))))
     ∙ one-row k (finish p s .outcome) []
-rows-told p (small-more {n} {t} l q) k r s h =
+rows-told p (and-nibble {n} {t} l q) k r s h =
     let x = feed-steps p r s n longest l (body-small p) h in
     let o : Outcome = feedOf r n longest .outcome in
     let a : Answer = answerFor o in

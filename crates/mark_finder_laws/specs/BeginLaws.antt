@@ -11,33 +11,21 @@ use Rattle.stream.specs.declared.Mark.{Mark}
 use Rattle.stream.specs.Answers.{Outcome, answerFor, isAnswer, turned}
 use Rattle.stream.specs.AnswersLaws.{no-answer}
 use Rattle.stream.specs.Stream.{State, Step, Completed, not-yet, mark, fresh, detect, advance, step, run, outcomes}
+use Rattle.stream.specs.TextLaws.{turned-append}
 use Rattle.recovery.specs.CleanAnswers.{saidIn, said}
 use Rattle.recovery.specs.CollectedLaws.{collected-append}
 use Rattle.recovery.specs.CutTexts.{onto-append}
 use Rattle.recovery.specs.Marks.{onto, isMark, completes, MarkEnds}
 use Rattle.recovery.specs.MarksLaws.{completes-there, marks-are-places}
-use Rattle.recovery.specs.ReadBackLaws.{run-append, outcomes-append}
+use Rattle.recovery.specs.ReadBackLaws.{turned-onto, run-append, outcomes-append}
 use Rattle.mark_finder_laws.specs.Standing.{answers, beginFrom, beginIn, BeginsAt}
-
--- Newest first, and back.
-
-onto-back : (w t v : List ℕ) → turned (onto t w) v ≡ turned t (w ++ v)
-onto-back [] t v = refl
-onto-back (n ∷ w) t v = onto-back w (n ∷ t) v
-
-turned-apart : (t v : List ℕ) → turned t v ≡ turned t [] ++ v
-turned-apart [] v = refl
-turned-apart (n ∷ t) v =
-    turned-apart t (n ∷ v)
-    ∙ sym (append-assoc (turned t []) (n ∷ []) v)
-    ∙ ap (λ (w : List ℕ). w ++ v) (sym (turned-apart t (n ∷ [])))
 
 -- all nibbles end in a mark
 ends-there : (w : List ℕ) → MarkEnds (onto [] w) → BeginsAt w (length w - 8)
 ends-there w e =
     let v : List ℕ = 15 ∷ 15 ∷ 15 ∷ 15 ∷ 0 ∷ 0 ∷ e .high ∷ e .low ∷ [] in
     let is : w ≡ turned (e .older) [] ++ v =
-    sym (append-nil w) ∙ sym (onto-back w [] []) ∙ ap (λ (t : List ℕ). turned t []) (e .is) ∙ turned-apart (e .older) v in
+    sym (append-nil w) ∙ sym (turned-onto [] w []) ∙ ap (λ (t : List ℕ). turned t []) (e .is) ∙ turned-append (e .older) v in
     record {
       high = e .high;
       low = e .low;

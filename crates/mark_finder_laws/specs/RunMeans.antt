@@ -12,10 +12,10 @@ use Rattle.profile.specs.declared.Profile.{Profile}
 use Rattle.stream.specs.Answers.{Outcome, nothing, refused, answerFor, isAnswer}
 use Rattle.stream.specs.AnswersLaws.{no-answer}
 use Rattle.stream.specs.Stream.{State, step, run, outcomes}
+use Rattle.stream.specs.Nibbles.{AllNibbles, no-nibble, and-nibble}
 use Rattle.reader.specs.declared.Reader.{Reader}
 use Rattle.reader.specs.Reader.{Took, taking}
 use Rattle.run.specs.Run.{Ran, ran, onward}
-use Rattle.reader_laws.specs.Passing.{Small, small-none, small-more}
 use Rattle.recovery.specs.CleanAnswers.{saidIn, said}
 use Rattle.refinement.specs.Refine.{Follows}
 use Rattle.refinement.specs.RefineLaws.{Steps, taking-steps}
@@ -31,10 +31,10 @@ pub record RunMeans (p : Profile) (s : State) (v : List ℕ) (i : ℕ) (t : Ran)
   pub starts : (b j : ℕ) → beginFrom b j (outcomes p s (take count v)) ≡ cond (isAnswer (answerFor (t .outcome))) (j + count - 8) b
   pub whole : isAnswer (answerFor (t .outcome)) ≡ false → count ≡ length v
 
-pub run-means : (p : Profile) {v : List ℕ} → Small v → (r : Reader) (s : State) (i : ℕ) → Follows p r s → RunMeans p s v i (onward r v i)
-run-means p small-none r s i f =
+pub run-means : (p : Profile) {v : List ℕ} → AllNibbles v → (r : Reader) (s : State) (i : ℕ) → Follows p r s → RunMeans p s v i (onward r v i)
+run-means p no-nibble r s i f =
     record { count = 0; counted = sym (add-zero i); within = omega arith; follows = f; says = refl; starts = λ b j. refl; whole = λ e. refl }
-run-means p (small-more {n} {t = w} h q) r s i f = go (isAnswer (answerFor (t .outcome))) refl (run-means p q (t .reader) (step p s n .state) (i + 1) (k .follows))
+run-means p (and-nibble {n} {t = w} h q) r s i f = go (isAnswer (answerFor (t .outcome))) refl (run-means p q (t .reader) (step p s n .state) (i + 1) (k .follows))
   where
     t : Took
     t = taking r n

@@ -18,14 +18,13 @@ use Rattle.stream.specs.Answers.{Outcome, nothing, line, gap, refused, answerFo
 use Rattle.stream.specs.AnswersLaws.{no-answer}
 use Rattle.stream.specs.Stream.{State, fresh, run, outcomes, finish}
 use Rattle.stream.specs.Written.{nibbles}
-use Rattle.stream.specs.NibblesLaws.{nibbles-length, nibbles-append}
+use Rattle.stream.specs.NibblesLaws.{all-nibbles-drop, nibbles-length, nibbles-append}
 use Rattle.recovery.specs.CleanAnswers.{saidIn, said}
 use Rattle.recovery.specs.CollectedLaws.{collected-append}
 use Rattle.recovery.specs.ReadBackLaws.{run-append, outcomes-append}
 use Rattle.recovery.specs.Damage.{outcomes-length, outcomes-take}
 use Rattle.reader.specs.Reader.{freshReader, finishOf}
 use Rattle.run.specs.Run.{Ran, onward}
-use Rattle.reader_laws.specs.SmallLaws.{small-drop}
 use Rattle.reader_laws.specs.ByRunsLaws.{lent-onward}
 use Rattle.refinement.specs.Refine.{Follows}
 use Rattle.refinement.specs.RefineLaws.{fresh-follows, finish-steps}
@@ -106,7 +105,7 @@ module _ {p : Profile} {before piece : List ℕ} {from : ℕ} {f : Finder} {held
   goes = lent-onward (f .reader .head) (f .reader .body) v longest (s .follows .ok) full refl
 
   m : RunMeans p x v 0 t
-  m = run-means p (small-drop (nibbles-small piece known) from) (f .reader) x 0 (s .follows)
+  m = run-means p (all-nibbles-drop (nibbles-small piece known) from) (f .reader) x 0 (s .follows)
 
   taken-is : t .taken ≡ m .count
   taken-is = m .counted ∙ zero-add (m .count)

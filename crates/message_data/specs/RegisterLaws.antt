@@ -1,6 +1,6 @@
 -- Laws of a message's data: where it ends, and one byte of it after another.
 use mathlib.Core.Path.{_≡_, refl, sym, _∙_}
-use mathlib.Core.Bool.{Bool, true, false, _||_, true≢false}
+use mathlib.Core.Bool.{Bool, true, false, _||_}
 use mathlib.Core.List.{List, [], _∷_}
 use mathlib.Core.Logic.{⊎-elim}
 use Prim.Native.Nat.{ℕ, suc, _+_, _-_, _<_, _≤_}
@@ -11,6 +11,7 @@ use borrow.Author.Tests.{lt-ltb, le-ltb, ltb-false}
 use lib.Dec.{ltb, leb·zero, leb·suc-suc}
 use lib.ListN.{length, drop, getD}
 use lib.Seq.{drop-cons}
+use Rattle.bits.specs.Tests.{or-left, or-right}
 use Rattle.message_data.specs.Registers.{registerCount, lastIndex, next, passes, reached, put, stored, differs, someDiffers}
 
 -- ---- where data ends
@@ -62,14 +63,6 @@ past-alike increment i (b ∷ bytes) registers h =
     simp (le-ltb i 5 (omega arith), lt-ltb lastIndex i h) (past-alike increment (next increment i) bytes registers (omega (arith, next-more increment i)))
 
 -- ---- one byte after another
-
-pub or-left : (a b : Bool) → (a || b) ≡ false → a ≡ false
-or-left true b e = e
-or-left false b e = refl
-
-pub or-right : (a b : Bool) → (a || b) ≡ false → b ≡ false
-or-right true b e = absurd (true≢false e)
-or-right false b e = e
 
 module _ (increment : Bool) (bytes : List ℕ) (i : ℕ) (h : i < length bytes) where
   pub passes-step : (at : ℕ) → passes increment at (drop i bytes) ≡ (ltb lastIndex at || passes increment (next increment at) (drop (i + 1) bytes))

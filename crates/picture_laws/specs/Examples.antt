@@ -9,7 +9,7 @@ use Rattle.line_code.specs.declared.Kind.{Kind}
 use Rattle.line_code.specs.LineCode.{kindNumber}
 use Rattle.profile.specs.declared.Profile.the-variants.{VV5404}
 use Rattle.stream.specs.Written.{stream}
-use Rattle.reader_laws.specs.Passing.{Small, small-none, small-more}
+use Rattle.stream.specs.Nibbles.{AllNibbles, no-nibble, and-nibble}
 use Rattle.frame_layout.specs.declared.Borders.{Borders}
 use Rattle.frame_layout.specs.FrameLayout.{layout, kindsOf}
 use Rattle.frame.specs.Calls.{Line, line, IsFrame, numberedFrom}
@@ -39,8 +39,8 @@ sample-sent b =
 abbrev before : List ℕ
 before = 7 ∷ 0 ∷ 7 ∷ []
 
-before-small : Small before
-before-small = small-more (lit≤ tt) (small-more (lit≤ tt) (small-more (lit≤ tt) small-none))
+before-small : AllNibbles before
+before-small = and-nibble (lit≤ tt) (and-nibble (lit≤ tt) (and-nibble (lit≤ tt) no-nibble))
 
 pub sample-pictured : (o : Order) (b : Borders)
     → FramePictured o b (sampleFrame b)

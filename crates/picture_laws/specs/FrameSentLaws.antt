@@ -18,16 +18,16 @@ use Rattle.profile.specs.LayoutLaws.{rules-length, fits-length, body-small}
 use Rattle.stream.specs.Answers.{Outcome, nothing, line, gap, refused, answerFor, bufferAfter, goodGap}
 use Rattle.stream.specs.Stream.{State, fresh, step, run, outcomes}
 use Rattle.stream.specs.Written.{Sent, Writable, AllWritable, no-lines, and-line, startMark, content, tail, written, stream}
+use Rattle.stream.specs.Nibbles.{AllNibbles, no-nibble, and-nibble}
+use Rattle.stream.specs.NibblesLaws.{all-nibbles-append}
 use Rattle.reader.specs.declared.Reader.{Reader}
 use Rattle.reader.specs.Reader.{freshReader, feedOf}
 use Rattle.reader_laws.specs.Passes.{passes-test, fresh-ok}
-use Rattle.reader_laws.specs.Passing.{Small, small-none, small-more}
-use Rattle.reader_laws.specs.SmallLaws.{small-append}
 use Rattle.recovery.specs.Calls.{lineIn}
 use Rattle.recovery.specs.Collected.{nothings, collected, lines}
 use Rattle.recovery.specs.CollectedLaws.{collected-append, collected-nothings}
 use Rattle.recovery.specs.CleanAnswers.{lineRead}
-use Rattle.recovery.specs.WrittenLaws.{AllNibbles, no-nibble, and-nibble, all-changed}
+use Rattle.recovery.specs.WrittenLaws.{all-changed}
 use Rattle.recovery.specs.ReadBack.{seven, restTold}
 use Rattle.recovery.specs.ReadBackLaws.{outcomes-append}
 use Rattle.recovery.specs.Gaps.{after, back, sentGap, next-told}
@@ -65,9 +65,9 @@ use Rattle.picture_laws.specs.UnopenedLaws.{unopened-waits}
 
 -- What the gatherer is given, by the meaning's outcomes.
 
-given-outcomes : {w : List ℕ} → Small w → (r : Reader) (x : State) → Follows VV5404 r x → givens r w ≡ map givenOf (outcomes VV5404 x w)
-given-outcomes small-none r x h = refl
-given-outcomes (small-more {n} {t} l q) r x h =
+given-outcomes : {w : List ℕ} → AllNibbles w → (r : Reader) (x : State) → Follows VV5404 r x → givens r w ≡ map givenOf (outcomes VV5404 x w)
+given-outcomes no-nibble r x h = refl
+given-outcomes (and-nibble {n} {t} l q) r x h =
     let e = feed-steps VV5404 r x n longest l (body-small VV5404) h in
     ap₂ (λ (o : Outcome) (gs : List Given). givenOf o ∷ gs) (e .outcome-same) (given-outcomes q (feedOf r n longest .reader) (step VV5404 x n .state) (e .follows))
 
@@ -240,13 +240,9 @@ says-until k held w =
     ap (λ (a : After). a .output) (grab-is (freshGrabber k) w held (passes-test _ (fresh-ok VV5404 .test)))
     ∙ ap (λ (x : AfterCall). x .output) (seek-until w (freshReader VV5404) (freshGrabber k .gatherer) held)
 
-nibbles-small : {w : List ℕ} → AllNibbles w → Small w
-nibbles-small no-nibble = small-none
-nibbles-small (and-nibble {n} l h) = small-more {n = n} (omega arith) (nibbles-small h)
-
 -- a frame of one line and more
 frame-said : (k : Keeping) (b : Borders) (s : Sent) → Writable VV5404 s → {ss : List Sent} → AllWritable VV5404 ss → IsFrame VV5404 b (linesOf (map shownLine (s ∷ ss)))
-    → (held : List ℕ) → frameSize k b ≤ length held → {before : List ℕ} → Small before → grabOf (freshGrabber k) before held .output ≡ rows.nothing
+    → (held : List ℕ) → frameSize k b ≤ length held → {before : List ℕ} → AllNibbles before → grabOf (freshGrabber k) before held .output ≡ rows.nothing
     → (later : List ℕ) → grabOf (freshGrabber k) ((before ++ stream (s ∷ ss)) ++ later) held .output ≡ complete (frameSize k b) (sentRows k (s ∷ ss))
 frame-said k b s g {ss} h f held room {before} small none later =
     let R : Reader = freshReader VV5404 in
@@ -267,7 +263,7 @@ frame-said k b s g {ss} h f held room {before} small none later =
     ∙ append-assoc M (restTold s Clean Clean) (outcomes VV5404 (after s) (stream ss))
     ∙ ap (λ (os : List Outcome). M ++ os) (t .told))
     ∙ sym (append-assoc B M (t .until ++ (lineRead (t .last) Clean Clean ∷ t .rest))) in
-    let all : Small w = small-append small (nibbles-small (all-changed VV5404 (and-line g h) 0 0 no-nibble)) in
+    let all : AllNibbles w = all-nibbles-append small (all-changed VV5404 (and-line g h) 0 0 no-nibble) in
     let same : givens R (w ++ later) ≡ map givenOf (B ++ M) ++ ((gs ++ (last ∷ [])) ++ (map givenOf (t .rest) ++ L)) =
     givens-append w later R
     ∙ ap (λ (v : List Given). v ++ L)
@@ -297,7 +293,7 @@ frame-said k b s g {ss} h f held room {before} small none later =
     ∙ ap (complete (frameSize k b)) (rows-sent k (s ∷ ss))
 
 sent-said : (k : Keeping) (b : Borders) {ss : List Sent} → AllWritable VV5404 ss → IsFrame VV5404 b (linesOf (map shownLine ss))
-    → (held : List ℕ) → frameSize k b ≤ length held → {before : List ℕ} → Small before → grabOf (freshGrabber k) before held .output ≡ rows.nothing
+    → (held : List ℕ) → frameSize k b ≤ length held → {before : List ℕ} → AllNibbles before → grabOf (freshGrabber k) before held .output ≡ rows.nothing
     → (later : List ℕ) → grabOf (freshGrabber k) ((before ++ stream ss) ++ later) held .output ≡ complete (frameSize k b) (sentRows k ss)
 sent-said k b no-lines f held room small none later = absurd (let z = f .0 in omega arith)
 sent-said k b (and-line {s = s} g h) f held room small none later = frame-said k b s g h f held room small none later
@@ -339,14 +335,14 @@ sent-completes k b {ss} f =
 -- whatever nibbles come before a frame as the writer writes it, if a fresh grabber says nothing of them; whatever comes after it; and in whatever
 -- pieces the capture is taken: a fresh grabber whose buffer has room for the frame's rows says complete, with exactly those rows
 pub frame-written : (k : Keeping) (b : Borders) {ss : List Sent} → FrameSent b ss → (held : List ℕ) → frameSize k b ≤ length held
-    → {before : List ℕ} → Small before → grabOf (freshGrabber k) before held .output ≡ rows.nothing
+    → {before : List ℕ} → AllNibbles before → grabOf (freshGrabber k) before held .output ≡ rows.nothing
     → (later : List ℕ) (pieces : List (List ℕ)) → joined pieces ≡ (before ++ stream ss) ++ later
     → FrameSaid k b ss (grabPieces (freshGrabber k) held pieces .output)
 frame-written k b f held room small none later pieces e =
     ap (λ (a : After). a .output) (pieces-whole pieces (freshGrabber k) held (fresh-ok VV5404) ∙ ap (λ (w : List ℕ). grabOf (freshGrabber k) w held) e)
     ∙ sent-said k b (f .writable) (f .whole) held room small none later
 
-nothing-said : (k : Keeping) (held : List ℕ) {before : List ℕ} → Small before → opensNone (lines VV5404 fresh before) ≡ true
+nothing-said : (k : Keeping) (held : List ℕ) {before : List ℕ} → AllNibbles before → opensNone (lines VV5404 fresh before) ≡ true
     → grabOf (freshGrabber k) before held .output ≡ rows.nothing
 nothing-said k held {before} small e =
     says-until k held before
@@ -355,14 +351,14 @@ nothing-said k held {before} small e =
 
 -- so the first frame of a capture is found, at whatever nibble the capture starts: where no line that comes out before it opens a frame
 pub first-frame-found : (k : Keeping) (b : Borders) {ss : List Sent} → FrameSent b ss → (held : List ℕ) → frameSize k b ≤ length held
-    → {before : List ℕ} → Small before → opensNone (lines VV5404 fresh before) ≡ true
+    → {before : List ℕ} → AllNibbles before → opensNone (lines VV5404 fresh before) ≡ true
     → (later : List ℕ) (pieces : List (List ℕ)) → joined pieces ≡ (before ++ stream ss) ++ later
     → FrameSaid k b ss (grabPieces (freshGrabber k) held pieces .output)
 first-frame-found k b f held room small e = frame-written k b f held room small (nothing-said k held small e)
 
 -- the law: and as a picture it holds exactly the pixels of the frame's visible lines in the order sent, and its file is written
 pub first-frame-pictured : (o : Order) (b : Borders) {ss : List Sent} → FrameSent b ss → (held : List ℕ) → size (pictureOf b) ≤ length held
-    → {before : List ℕ} → Small before → opensNone (lines VV5404 fresh before) ≡ true
+    → {before : List ℕ} → AllNibbles before → opensNone (lines VV5404 fresh before) ≡ true
     → (later : List ℕ) (pieces : List (List ℕ)) → joined pieces ≡ (before ++ stream ss) ++ later
     → FramePictured o b ss (grabPieces (freshGrabber (VisiblePixels o)) held pieces .output)
 unfolding sent-completes

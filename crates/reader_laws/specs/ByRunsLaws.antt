@@ -13,12 +13,13 @@ use Rattle.profile.specs.Profile.{bodyLength, longest}
 use Rattle.profile.specs.LayoutLaws.{body-small}
 use Rattle.stream.specs.AnswersLaws.{no-answer}
 use Rattle.stream.specs.Answers.{Outcome, refused, answerFor, isAnswer}
+use Rattle.stream.specs.Nibbles.{AllNibbles, no-nibble, and-nibble}
 use Rattle.reader_head.specs.declared.Head.{Head}
 use Rattle.reader.specs.declared.Reader.{Reader}
 use Rattle.reader.specs.Reader.{Took, taking, feedOf}
 use Rattle.run.specs.Run.{Ran, ran, lentRunOf, onward}
 use Rattle.run.proofs.Running.{lent-right, run-goes}
-use Rattle.reader_laws.specs.Passing.{Small, small-none, small-more, Ok}
+use Rattle.reader_laws.specs.Passing.{Ok}
 use Rattle.reader_laws.specs.Passes.{passes-test, take-ok}
 use Rattle.reader_laws.specs.ByRuns.{took, ByNibbles, RunOn}
 
@@ -28,10 +29,10 @@ fed-taken r n ok l =
     let p = r .head .profile in
     simp (passes-test (r .head) (ok .test), le-leb n 15 (omega arith), le-leb (bodyLength p) longest (body-small p))
 
-pub run-on : {R : Type 0} (f : ByNibbles R) {w : List ℕ} → Small w → (r : Reader) (i : ℕ) → Ok (r .head) → RunOn f r w i (onward r w i)
-run-on f small-none r i ok =
+pub run-on : {R : Type 0} (f : ByNibbles R) {w : List ℕ} → AllNibbles w → (r : Reader) (i : ℕ) → Ok (r .head) → RunOn f r w i (onward r w i)
+run-on f no-nibble r i ok =
     record { count = 0; counted = sym (add-zero i); some = λ h. h; within = omega arith; sound = ok; same = sym (f .ignores r []) }
-run-on f (small-more {n} {t = w} h q) r i ok = go (isAnswer (answerFor (t .outcome))) refl (run-on f q (t .reader) (i + 1) ok-next)
+run-on f (and-nibble {n} {t = w} h q) r i ok = go (isAnswer (answerFor (t .outcome))) refl (run-on f q (t .reader) (i + 1) ok-next)
   where
     t : Took
     t = taking r n

@@ -1,5 +1,4 @@
 pub mod Passing
-pub mod SmallLaws
 pub mod Bodies
 pub mod Passes
 pub mod ByRuns

@@ -8,6 +8,7 @@ use native.Mathlib.Omega.{arith}
 use lib.Dec.{eqb, leb, ltb}
 use borrow.Author.Tests.{eqb-true, eq-eqb, ne-eqb, le-leb, lt-leb, leb-true, leb-false, ltb-true, ltb-false, lt-ltb, not-true}
 use Rattle.bits.specs.Every.{and-left, and-right, and-both}
+use Rattle.bits.specs.Tests.{by-test}
 use Rattle.refusal.specs.Refusal.{notANibble, badState, noRoom}
 use Rattle.line_code.specs.declared.LineKind.{LineKind}
 use Rattle.line_code.specs.declared.LineKind.the-variants.{NotLine, LineOf}
@@ -41,10 +42,6 @@ else-fact : (b x y : Bool) → b ≡ false → cond b x y ≡ true → y ≡ tru
 else-fact true x y e h = absurd (true≢false e)
 else-fact false x y e h = h
 
-by-test : (b x y : Bool) → (b ≡ true → x ≡ true) → (b ≡ false → y ≡ true) → cond b x y ≡ true
-by-test true x y f g = f refl
-by-test false x y f g = g refl
-
 fits-fact : (m : Mark) (c w : ℕ) → windowFits m c w ≡ true → Fits m c w
 fits-fact NoMark c w h = λ l. eqb-true (aged c w) 0 (then-fact (leb c 8) (eqb (aged c w) 0) true (le-leb c 8 l) h)
 fits-fact (Open before code) c w h =
@@ -66,12 +63,16 @@ fits-fact (Open before code) c w h =
     g : cond (leb c 8) X Y ≡ true
     g = and-right (leb 2 c) _ h
 
+-- a test that holds
+abbrev Holds : Bool → Type 0
+Holds b = b ≡ true
+
 fact-fits : (m : Mark) (c w : ℕ) → Fits m c w → windowFits m c w ≡ true
-fact-fits NoMark c w h = by-test (leb c 8) _ true (λ e. eq-eqb (aged c w) 0 (h (leb-true c 8 e))) (λ e. refl)
+fact-fits NoMark c w h = by-test Holds (leb c 8) (λ e. eq-eqb (aged c w) 0 (h (leb-true c 8 e))) (λ e. refl)
 fact-fits (Open before code) c w h =
     and-both (leb 2 c) _ (le-leb 2 c (h .two))
-    (by-test (leb c 8) _ _ (λ e. eq-eqb (aged (c - 2) w) code (h .within (leb-true c 8 e)))
-    λ e. by-test (eqb c 9) _ true (λ q. eq-eqb (aged 7 w) (code % 16) (h .half (eqb-true c 9 q))) (λ q. refl))
+    (by-test Holds (leb c 8) (λ e. eq-eqb (aged (c - 2) w) code (h .within (leb-true c 8 e)))
+    λ e. by-test Holds (eqb c 9) (λ q. eq-eqb (aged 7 w) (code % 16) (h .half (eqb-true c 9 q))) (λ q. refl))
 
 not-then : (a b : Bool) → (not a || b) ≡ true → a ≡ true → b ≡ true
 not-then true b h e = h

@@ -1,7 +1,7 @@
--- The states that calls reach: the reader's own test as facts, and that a mark's code is a byte; and nibbles. Definitions only.
+-- The states that calls reach: the reader's own test as facts, and that a mark's code is a byte. Definitions only.
 use mathlib.Core.Path.{_≡_}
 use mathlib.Core.Bool.{true, false}
-use mathlib.Core.List.{List, [], _∷_}
+use mathlib.Core.List.{[]}
 use Prim.Native.Nat.{ℕ, _+_, _-_, _%_, _≤_, _<_}
 use Rattle.profile.specs.Profile.{gapStart}
 use Rattle.stream.specs.declared.Mark.{Mark}
@@ -12,11 +12,6 @@ use mathlib.Core.Option.{none}
 use Rattle.mark_answer.specs.KeptAnswer.{keptAnswer}
 use Rattle.reader.specs.declared.Reader.{Reader}
 use Rattle.reader.specs.Reader.{Took, freshReader}
-
--- each number is a nibble
-pub data Small : List ℕ → Type 0 where
-  small-none : Small []
-  small-more : {n : ℕ} {t : List ℕ} → n < 16 → Small t → Small (n ∷ t)
 
 -- The test as facts.
 

@@ -8,7 +8,7 @@ use native.Mathlib.Omega.{arith}
 use native.Mathlib.Numerals.{add-one}
 use lib.Dec.{eqb, leb, ltb}
 use lib.ListN.{length, take, drop, getD, length-drop, drop-of-length-le}
-use lib.Seq.{drop-cons}
+use lib.Seq.{drop-cons, take-length}
 use borrow.Author.Tests.{eqb-true, eqb-false, eq-eqb, ne-eqb, leb-true, le-leb, lt-leb, ltb-true, ltb-false}
 use Rattle.bits.specs.Every.{and-left, and-right, and-both}
 use Rattle.refusal.specs.Refusal.{notANibble, badKind, noMarkFirst}
@@ -23,11 +23,12 @@ use Rattle.profile.specs.Profile.{bodyLength}
 use Rattle.profile.specs.Layout.{allows, rules}
 use Rattle.profile.specs.LayoutLaws.{rules-length}
 use Rattle.stream.specs.Answers.{lineNibbles}
+use Rattle.stream.specs.Nibbles.{nibblesOnly}
 use Rattle.reason.specs.declared.Next.{Next}
 use Rattle.reason.specs.declared.Next.the-variants.{Finish, Code}
 use Rattle.reason.specs.declared.Reason.{Reason}
 use Rattle.reason.specs.declared.Reason.the-variants.{GoodGap, WrongLength, BadNumber, BadBody, BadGap, ShortGap, Refused}
-use Rattle.reason.specs.Explanation.{codeAfter, codeAt, isCode, beginsMark, nextMark, pairAt, bytesIn, numberReason, bodyReason, lineFromNumber, lineReason, gapRule, strayReason, twoBytesReason, reasonOf, afterOpener, firstReason, nibblesOnly, lastKind, runReason}
+use Rattle.reason.specs.Explanation.{codeAfter, codeAt, isCode, beginsMark, nextMark, pairAt, bytesIn, numberReason, bodyReason, lineFromNumber, lineReason, gapRule, strayReason, twoBytesReason, reasonOf, afterOpener, firstReason, lastKind, runReason}
 use Rattle.reason.specs.ExplanationLaws.{begun, bytes-length, bytes-body}
 
 -- Nibbles.
@@ -124,11 +125,7 @@ next-end w i h = rw (drop-of-length-le w)
 
 -- from a place to the end
 pub part-rest : (w : List ℕ) (i : ℕ) → take (length w - i) (drop i w) ≡ drop i w
-part-rest w i = ap (λ (n : ℕ). take n (drop i w)) (sym (length-drop i w)) ∙ take-all (drop i w)
-  where
-    take-all : (u : List ℕ) → take (length u) u ≡ u
-    take-all [] = refl
-    take-all (n ∷ u) = ap (λ (l : List ℕ). n ∷ l) (take-all u)
+part-rest w i = ap (λ (n : ℕ). take n (drop i w)) (sym (length-drop i w)) ∙ take-length (drop i w)
 
 pub nibbles-rest : (w : List ℕ) (i : ℕ) → nibblesOnly w ≡ true → nibblesOnly (take (length w - i) (drop i w)) ≡ true
 nibbles-rest w i h = ap nibblesOnly (part-rest w i) ∙ nibbles-drop i w h

@@ -1,6 +1,6 @@
 -- Why a mark is answered as it is (02, A9): the reason, of a profile, the kind of the mark before, and a run that begins with the mark.
 -- A text is the nibbles from the mark's code up to the next mark, oldest first.
-use mathlib.Core.Bool.{Bool, true, false, _&&_, cond}
+use mathlib.Core.Bool.{Bool, true, false, cond}
 use mathlib.Core.List.{List, [], _∷_}
 use mathlib.Core.Option.{Option, none, some}
 use Prim.Native.Nat.{ℕ, suc, _+_, _*_}
@@ -26,6 +26,7 @@ use Rattle.profile.specs.declared.Rule.the-variants.{Filler, Pixel}
 use Rattle.profile.specs.Profile.{profileNumbered}
 use Rattle.profile.specs.Layout.{allows, rules}
 use Rattle.stream.specs.Answers.{lineNibbles}
+use Rattle.stream.specs.Nibbles.{nibblesOnly}
 use Rattle.stream.specs.Stream.{strip}
 use Rattle.reason.specs.declared.Next.{Next}
 use Rattle.reason.specs.declared.Next.the-variants.{Finish, Code}
@@ -169,10 +170,6 @@ nextIn u = codeAt (drop (nextMark u) u)
 -- the reason of the first mark's answer
 unfoldable pub firstReason : Profile → LineKind → List ℕ → Reason
 firstReason p before u = reasonOf p before (pairAt u 0) (textIn u) (nextIn u)
-
-abbrev pub nibblesOnly : List ℕ → Bool
-nibblesOnly [] = true
-nibblesOnly (n ∷ w) = leb n 15 && nibblesOnly w
 
 -- the greatest kind number
 abbrev pub lastKind : ℕ

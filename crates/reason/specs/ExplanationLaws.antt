@@ -9,8 +9,8 @@ use native.Mathlib.Nat.{not-suc-le-zero, le-of-suc-le-suc}
 use lib.Dec.{eqb}
 use lib.ListN.{length, drop, getD}
 use lib.Seq.{getD-drop}
-use borrow.Author.Tests.{eqb-true}
 use Rattle.stream.specs.Stream.{strip}
+use Rattle.stream.specs.TextLaws.{strip-found}
 use Rattle.reason.specs.declared.Next.the-variants.{Finish}
 use Rattle.reason.specs.Explanation.{opener, codeAfter, codeAt, isCode, beginsMark, pairAt, bytesIn}
 
@@ -44,15 +44,6 @@ code-short u h = go (strip opener u) (strip-rest opener u)
     go (some (x ∷ [])) f = refl
     go (some (x ∷ y ∷ w)) f = absurd (let e = f (x ∷ y ∷ w) refl in omega arith)
 
-strip-is : (ps u rest : List ℕ) → strip ps u ≡ some rest → u ≡ ps ++ rest
-strip-is [] u rest h = cc
-strip-is (q ∷ ps) [] rest h = cc
-strip-is (q ∷ ps) (n ∷ u) rest h = go (eqb q n) refl h (strip-is ps u rest)
-  where
-    go : (b : Bool) → eqb q n ≡ b → cond b (strip ps u) none ≡ some rest → (strip ps u ≡ some rest → u ≡ ps ++ rest) → n ∷ u ≡ q ∷ (ps ++ rest)
-    go true e k f = ap₂ (λ (m : ℕ) (l : List ℕ). m ∷ l) (sym (eqb-true q n e)) (f k)
-    go false e k f = cc
-
 pub begun : (w : List ℕ) → beginsMark w ≡ true → Begun w
 unfolding codeAt
 begun w h = go (strip opener w) refl h
@@ -61,7 +52,7 @@ begun w h = go (strip opener w) refl h
     go none e k = absurd (true≢false (sym k))
     go (some []) e k = absurd (true≢false (sym k))
     go (some (x ∷ [])) e k = absurd (true≢false (sym k))
-    go (some (x ∷ y ∷ v)) e k = record { high = x; low = y; rest = v; is = strip-is opener w (x ∷ y ∷ v) e }
+    go (some (x ∷ y ∷ v)) e k = record { high = x; low = y; rest = v; is = strip-found opener w (x ∷ y ∷ v) e }
 
 pub begun-begins : (w : List ℕ) → Begun w → beginsMark w ≡ true
 unfolding codeAt

@@ -9,6 +9,7 @@ use native.Mathlib.Omega.{arith}
 use native.Mathlib.Nat.{not-suc-le-zero, le-of-suc-le-suc}
 use lib.Dec.{eqb}
 use lib.ListN.{length, take, drop}
+use lib.Seq.{take-length}
 use Rattle.profile.specs.declared.Profile.{Profile}
 use Rattle.stream.specs.declared.Before.{Before}
 use Rattle.stream.specs.declared.Mark.{Mark}
@@ -46,16 +47,12 @@ next-short [] h = refl
 next-short (n ∷ u) h =
     ap (λ (c : Next). cond (isCode c) 0 (suc (nextMark u))) (code-short (n ∷ u) h) ∙ ap suc (next-short u (omega arith))
 
-take-all : (u : List ℕ) → take (length u) u ≡ u
-take-all [] = refl
-take-all (n ∷ u) = ap (λ (l : List ℕ). n ∷ l) (take-all u)
-
 drop-all : (u : List ℕ) → drop (length u) u ≡ []
 drop-all [] = refl
 drop-all (n ∷ u) = drop-all u
 
 text-short : (u : List ℕ) → length u < 8 → textIn u ≡ u
-text-short u h = ap (λ (n : ℕ). take n u) (next-short u h) ∙ take-all u
+text-short u h = ap (λ (n : ℕ). take n u) (next-short u h) ∙ take-length u
 
 code-none : codeAt [] ≡ Finish
 unfolding codeAt

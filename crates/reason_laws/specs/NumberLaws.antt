@@ -28,6 +28,7 @@ use Rattle.stream.specs.declared.Before.{Before}
 use Rattle.stream.specs.declared.Before.the-variants.{NoLine, RefusedLine, HandedOut}
 use Rattle.stream.specs.declared.LineFacts.{LineFacts}
 use Rattle.stream.specs.Answers.{Outcome, line, require, bytesOnto, lineFrom, lineAnswer, goodGap, lineNibbles, turned, allF, afterCode, twoBytesThenF, gapFrom, gapAnswer, byMeaning, byReading, answerOf}
+use Rattle.stream.specs.TextLaws.{turned-back, after-code}
 use Rattle.reason.specs.declared.Next.{Next}
 use Rattle.reason.specs.declared.Next.the-variants.{Finish, Code}
 use Rattle.reason.specs.declared.Reason.{Reason}
@@ -36,18 +37,6 @@ use Rattle.reason.specs.Explanation.{bytesIn, numberReason, bodyReason, nextRea
 use Rattle.reason_laws.specs.Short.{refusal, inShort, shortOf, beforeKind, codeOr}
 
 -- Texts.
-
-pub turned-twice : (u t w : List ℕ) → turned (turned u t) w ≡ turned t (u ++ w)
-turned-twice [] t w = refl
-turned-twice (n ∷ u) t w = turned-twice u (n ∷ t) w
-
-turned-back : (u : List ℕ) → turned (turned u []) [] ≡ u
-turned-back u = turned-twice u [] [] ∙ append-nil u
-
-after-two : (u : List ℕ) → afterCode u ≡ drop 2 u
-after-two [] = refl
-after-two (x ∷ []) = refl
-after-two (x ∷ y ∷ w) = refl
 
 -- texts of an even and of an odd length
 pub data Evenly : List ℕ → Type 0 where
@@ -219,8 +208,8 @@ two-said k n (h ∷ l ∷ h₂ ∷ l₂ ∷ w) = long
         ∙ simp (le-leb 4 _ g)
 
 gap-said : (p : Profile) (k : Kind) (n : ℕ) (t : List ℕ) → inShort (gapFrom p k n (afterCode (turned (turned t []) []))) ≡ shortOf (gapReason p k (drop 2 t))
-gap-said VV5404 k n t = ap (λ w. inShort (gapFrom VV5404 k n w)) (ap afterCode (turned-back t) ∙ after-two t) ∙ stray-said (drop 2 t) 0 n _ _
-gap-said VV5300 k n t = ap (λ w. inShort (gapFrom VV5300 k n w)) (ap afterCode (turned-back t) ∙ after-two t) ∙ two-said k n (drop 2 t)
+gap-said VV5404 k n t = ap (λ w. inShort (gapFrom VV5404 k n w)) (ap afterCode (turned-back t) ∙ after-code t) ∙ stray-said (drop 2 t) 0 n _ _
+gap-said VV5300 k n t = ap (λ w. inShort (gapFrom VV5300 k n w)) (ap afterCode (turned-back t) ∙ after-code t) ∙ two-said k n (drop 2 t)
 
 end-mark-said : (p : Profile) (before : Before) (n : ℕ) (t : List ℕ)
     → inShort (gapAnswer p before n (turned t [])) ≡ shortOf (endMarkReason p (beforeKind before) (drop 2 t))

@@ -1,15 +1,12 @@
 -- The number is the reader's own (02, A9): read after any nibbles from a fresh state, the run's first mark is answered with the reason's number;
 -- so answer the meaning, the reader that is fed singly, and any list of its calls.
 use mathlib.Core.Path.{_≡_, refl, _∙_, ap, ap₂, sym}
-use mathlib.Core.Bool.{Bool, true, false, true≢false, _||_, cond}
+use mathlib.Core.Bool.{Bool, true, false, true≢false, or-true, cond}
 use mathlib.Core.List.{List, [], _∷_, _++_, append-assoc, append-nil}
-use Prim.Native.Nat.{ℕ, suc, _+_, _*_, _≤_}
-use native.Mathlib.Omega.{arith}
-use lib.Dec.{leb}
+use Prim.Native.Nat.{ℕ, _+_, _*_, _≤_}
 use lib.ListN.{length, take, drop, length-append, take-append-drop}
 use lib.Seq.{drop-append-seam}
-use borrow.Author.Tests.{le-leb, leb-true}
-use Rattle.bits.specs.Every.{and-left, and-right}
+use borrow.Author.Tests.{le-leb}
 use Rattle.line_code.specs.declared.LineKind.{LineKind}
 use Rattle.line_code.specs.LineCode.{kindNumbered, meaningOf, readingOf}
 use Rattle.profile.specs.declared.Profile.{Profile}
@@ -18,6 +15,8 @@ use Rattle.profile.specs.Profile.{profileNumbered, profileNumber, bodyLength}
 use Rattle.stream.specs.declared.Mark.the-variants.{Open}
 use Rattle.stream.specs.Answers.{Outcome, nothing, line, gap, refused, turned}
 use Rattle.stream.specs.Stream.{State, Completed, not-yet, mark, fresh, detect, kindAt, advance, step, finish, run, outcomes}
+use Rattle.stream.specs.Nibbles.{nibblesOnly}
+use Rattle.stream.specs.NibblesLaws.{all-nibbles-append, only-nibbles}
 use Rattle.recovery.specs.Marks.{onto, isMark, completes}
 use Rattle.recovery.specs.MarksLaws.{marks-are-places}
 use Rattle.recovery.specs.Calls.{markNibbles}
@@ -25,18 +24,17 @@ use Rattle.recovery.specs.CallAnswers.{markCollector, broughtBy}
 use Rattle.recovery.specs.CleanAnswers.{saidIn, said}
 use Rattle.recovery.specs.CollectedLaws.{collected-append}
 use Rattle.recovery.specs.CutTexts.{onto-append}
+use Rattle.recovery.specs.Damage.{outcomes-length}
 use Rattle.recovery.specs.Resync.{stateWith}
 use Rattle.recovery.specs.ReadBackLaws.{run-append, outcomes-append}
 use Rattle.reader.specs.Reader.{freshReader}
-use Rattle.reader_laws.specs.Passing.{Small, small-none, small-more}
-use Rattle.reader_laws.specs.SmallLaws.{small-append}
 use Rattle.refinement.specs.Refine.{fedReader}
 use Rattle.refinement.specs.RefineLaws.{fresh-follows, fed-follows, refines, finish-refines}
 use Rattle.refinement.specs.RunAnswers.{runsFinish}
 use Rattle.refinement.specs.RunAnswersLaws.{runs-said}
 use Rattle.refinement.specs.Runs.{RunCall, FinishLastRun, runsTaken, runsCollected}
 use Rattle.reason.specs.ExplanationLaws.{begun}
-use Rattle.reason.specs.Explanation.{opener, isCode, beginsMark, textIn, nextIn, firstReason, afterOpener, nibblesOnly, lastKind, runReason, explanation}
+use Rattle.reason.specs.Explanation.{opener, isCode, beginsMark, textIn, nextIn, firstReason, afterOpener, lastKind, runReason, explanation}
 use Rattle.reason_laws.specs.Short.{inShort, shortOf, kindBefore, firstAnswer, answerAtEnd, answerGiven, isAnswered, readerGives, answersBefore, callsGive}
 use Rattle.reason_laws.specs.NumberLaws.{reason-said}
 use Rattle.reason_laws.specs.MarkLaws.{answerFrom, answerNow, now-answered, open-answer, Opened, first-opens}
@@ -48,16 +46,12 @@ unfolding explanation runReason profileNumbered
 explanation-first VV5404 k w h n b = simp (le-leb k lastKind h, n, b)
 explanation-first VV5300 k w h n b = simp (le-leb k lastKind h, n, b)
 
-told-length : (p : Profile) (s : State) (w : List ℕ) → length (outcomes p s w) ≡ length w
-told-length p s [] = refl
-told-length p s (n ∷ w) = ap suc (told-length p (step p s n .state) w)
-
 -- what comes after nibbles u, if k is how many these are
 module _ (ends : Bool) (p : Profile) (u v : List ℕ) (k : ℕ) (e : length u ≡ k) where
   after-nibbles : firstAnswer (drop k (outcomes p fresh (u ++ v))) (answerAtEnd ends p (run p fresh (u ++ v))) ≡ answerFrom ends p (run p fresh u) v
   after-nibbles =
       ap₂ (λ (os : List Outcome) (s : State). firstAnswer os (answerAtEnd ends p s))
-      (ap₂ (λ (n : ℕ) (os : List Outcome). drop n os) (sym (told-length p fresh u ∙ e)) (outcomes-append p fresh u v)
+      (ap₂ (λ (n : ℕ) (os : List Outcome). drop n os) (sym (outcomes-length p fresh u ∙ e)) (outcomes-append p fresh u v)
       ∙ drop-append-seam (outcomes p fresh u) (outcomes p (run p fresh u) v))
       (run-append p fresh u v)
 
@@ -94,22 +88,12 @@ number-of-the-meaning ends p w₀ k w a h n b e =
     ∙ ap (λ (l : List ℕ). shortOf (firstReason p (kindNumbered k) (afterOpener l))) (sym (g .is))
     ∙ ap shortOf (sym (explanation-first p k w h n b))
 
-small : (w : List ℕ) → nibblesOnly w ≡ true → Small w
-small [] h = small-none
-small (n ∷ w) h =
-    let k = leb-true n 15 (and-left (leb n 15) (nibblesOnly w) h) in
-    small-more {n = n} (omega arith) (small w (and-right (leb n 15) (nibblesOnly w) h))
-
-or-true : (b : Bool) → (b || true) ≡ true
-or-true true = refl
-or-true false = refl
-
 -- the number is the reader's own: fed w₀ and then the run, a nibble a call, with a buffer long enough lent to each, and finished
 pub number-of-the-reader : (p : Profile) (room : ℕ → ℕ) → ((i : ℕ) → bodyLength p ≤ room i) → (w₀ w : List ℕ) (k : ℕ)
     → nibblesOnly w₀ ≡ true → k ≤ lastKind → nibblesOnly w ≡ true → beginsMark w ≡ true → kindBefore p w₀ ≡ kindNumbered k
     → inShort (readerGives room p w₀ w) ≡ shortOf (explanation (profileNumber p) k w)
 number-of-the-reader p room roomy w₀ w k n₀ h n b e =
-    let s = small-append (small w₀ n₀) (small w n) in
+    let s = all-nibbles-append (only-nibbles w₀ n₀) (only-nibbles w n) in
     ap inShort
     (ap₂ (λ (os : List Outcome) (o : Outcome). firstAnswer (drop (length w₀ + markNibbles) os) o) (refines p room roomy s) (finish-refines p room roomy s))
     ∙ number-of-the-meaning true p w₀ k w (or-true (isCode (nextIn (afterOpener w)))) h n b e
@@ -175,7 +159,7 @@ number-of-the-calls p w₀ w k {cs} last answered taken h n b e =
 pub kind-of-the-reader : (p : Profile) (room : ℕ → ℕ) → ((i : ℕ) → bodyLength p ≤ room i) → (w₀ : List ℕ) → nibblesOnly w₀ ≡ true
     → kindAt (fedReader room (freshReader p) (w₀ ++ opener) .head .at) ≡ kindBefore p w₀
 kind-of-the-reader p room roomy w₀ n₀ =
-    ap kindAt (fed-follows p room roomy (small-append (small w₀ n₀) (small opener refl)) (freshReader p) fresh (fresh-follows p) .same .head-same .at-same)
+    ap kindAt (fed-follows p room roomy (all-nibbles-append (only-nibbles w₀ n₀) (only-nibbles opener refl)) (freshReader p) fresh (fresh-follows p) .same .head-same .at-same)
 
 -- The kind of the mark before is that of the last mark in w₀, unless a mark's code is still due when w₀ ends.
 pub kind-before : (p : Profile) (w₀ : List ℕ) → completes (15 ∷ onto [] w₀) ≡ false → completes (15 ∷ 15 ∷ onto [] w₀) ≡ false

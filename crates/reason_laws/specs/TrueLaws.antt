@@ -29,13 +29,14 @@ use Rattle.profile.specs.Profile.{profileNumbered, profileNumber, bodyLength}
 use Rattle.profile.specs.Layout.{allows, rules}
 use Rattle.profile.specs.LayoutLaws.{rules-length}
 use Rattle.stream.specs.Answers.{lineNibbles}
+use Rattle.stream.specs.Nibbles.{nibblesOnly}
 use Rattle.reason.specs.declared.FailedSums.{FailedSums}
 use Rattle.reason.specs.declared.Next.{Next}
 use Rattle.reason.specs.declared.Next.the-variants.{Finish, Code}
 use Rattle.reason.specs.declared.Reason.{Reason}
 use Rattle.reason.specs.declared.Reason.the-variants.{GoodLine, GoodGap, WrongLength, BadNumber, BadBody, NoEndOfLine, BadGap, ShortGap, Refused}
 use Rattle.reason.specs.Sums.{sumP0, sumP1, sumP2, sumP3, failedSums}
-use Rattle.reason.specs.Explanation.{codeAt, isCode, beginsMark, nextMark, pairAt, bytesIn, numberReason, bodyReason, nextReason, lineReason, gapRule, strayReason, twoBytesReason, endMarkReason, meaningReason, readingReason, reasonOf, textIn, nextIn, firstReason, afterOpener, nibblesOnly, lastKind, runReason, profileReason, explanation}
+use Rattle.reason.specs.Explanation.{codeAt, isCode, beginsMark, nextMark, pairAt, bytesIn, numberReason, bodyReason, nextReason, lineReason, gapRule, strayReason, twoBytesReason, endMarkReason, meaningReason, readingReason, reasonOf, textIn, nextIn, firstReason, afterOpener, lastKind, runReason, profileReason, explanation}
 use Rattle.reason.specs.ExplanationLaws.{begun, begun-begins, bytes-length, byte-drop, bytes-body}
 use Rattle.reason_laws.specs.True.{HoldBelow, bodyByteAt, numberHolds, bodyHolds, gapHolds, SumsFail, CodeSays, LineLong, NumberGood, BodyGood, GapAfter, TrueOf, damaged, reserved-ec, reserved-f1, unfinished, wrong-length, bad-number, bad-body, no-end, good-line, end-without-line, short-gap, bad-gap, good-gap, CutAt, TrueOfRun, Above, Explains, no-profile, no-kind, no-nibble, no-mark, because}
 

@@ -26,6 +26,7 @@ use Rattle.profile.specs.Layout.{rules, fits, gapFits}
 use Rattle.stream.specs.declared.Before.{Before}
 use Rattle.stream.specs.declared.Before.the-variants.{NoLine, RefusedLine, HandedOut}
 use Rattle.stream.specs.Answers.{facts, Outcome, line, refused, require, bytesOnto, lineFrom, goodGap, lineNibbles, periodOf, turned, allF, afterCode, gapFrom, gapAnswer, byMeaning, byReading, answerOf}
+use Rattle.stream.specs.TextLaws.{requires, refuses}
 use Rattle.stream.specs.TextLengthLaws.{bytes-length}
 use Rattle.recovery.specs.AnswerTable.{Reserved, reserved-EC, reserved-F1, AreBytes, no-bytes, byte-more, LineLaid, LineBefore, line-refused, line-handed, GapLaid, only-F, two-then-F, LineTable, wrong-length, bad-number, bad-body, no-end, a-line, Table, damaged, reserved, unfinished, of-line, without-line, bad-gap, a-gap}
 
@@ -33,12 +34,6 @@ required : (A : Outcome → Type 0) (t : Bool) (n : ℕ) (o : Outcome) → (t �
 unfolding require
 required A true n o f g = g refl
 required A false n o f g = f refl
-
-requires : (t : Bool) (n : ℕ) (o : Outcome) → t ≡ true → require t n o ≡ o
-requires t n o h = required (λ (x : Outcome). x ≡ o) t n o (λ e. absurd (true≢false (sym h ∙ e))) (λ e. refl)
-
-refuses : (t : Bool) (n : ℕ) (o : Outcome) → t ≡ false → require t n o ≡ refused n
-refuses t n o h = required (λ (x : Outcome). x ≡ refused n) t n o (λ e. refl) (λ e. absurd (true≢false (sym e ∙ h)))
 
 -- Lines.
 

@@ -9,6 +9,7 @@ use lib.Dec.{leb}
 use lib.ListN.{length, drop}
 use lib.Seq.{take-at}
 use borrow.Author.Tests.{lt-ltb}
+use Rattle.bits.specs.Tests.{by-test}
 use Rattle.refusal.specs.Refusal.{notANibble}
 use Rattle.profile.specs.declared.Profile.{Profile}
 use Rattle.profile.specs.Profile.{bodyLength}
@@ -16,7 +17,6 @@ use Rattle.stream.specs.Answers.{Outcome, line, refused, outcomeOf, answerFor, 
 use Rattle.stream.specs.Stream.{State, step, finish, run}
 use Rattle.recovery.specs.Calls.{Call, feed, done, FinishLast, no-call, done-last, feed-first, CallResult, takes, onRun, onTaken, onCollected, fed, meaningCall}
 use Rattle.recovery.specs.AnswerLaws.{answer-cases, step-cases}
-use Rattle.recovery.specs.Damage.{by-test}
 use Rattle.recovery.specs.DemandThree.{step-taken}
 use Rattle.recovery.specs.CleanAnswers.{saidIn, said}
 use Rattle.recovery.specs.CallAnswers.{markAnswerIn, markCollector, withFinish, broughtBy}

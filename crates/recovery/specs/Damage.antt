@@ -9,6 +9,7 @@ use lib.Dec.{leb}
 use lib.ListN.{length, take, drop, length-append, length-drop}
 use lib.Seq.{drop-nil, take-at, length-take-le, drop-append-add, drop-drop, take-nil}
 use borrow.Author.Tests.{leb-true}
+use Rattle.bits.specs.Tests.{by-test}
 use Rattle.line_code.specs.declared.Meaning.the-variants.{EndOfLine, Line}
 use Rattle.line_code.specs.declared.Repair.the-variants.{Clean}
 use Rattle.line_code.specs.LineCode.{cleanByte}
@@ -112,11 +113,6 @@ lines-up-to p (and-line {s = s} {ss = ss} g h) x i o =
     ∙ map-test asSent (leb (o + length (upToEnd s)) i) s (endedBy i (o + length (written s)) ss)
 
 -- After the stretch.
-
--- a test, by its two outcomes
-pub by-test : {A : Type 0} (P : A → Type 0) (b : Bool) {x y : A} → (b ≡ true → P x) → (b ≡ false → P y) → P (cond b x y)
-by-test P true f g = f refl
-by-test P false f g = g refl
 
 pub writable-from : (p : Profile) (j o : ℕ) {ss : List Sent} → AllWritable p ss → AllWritable p (linesFrom j o ss)
 writable-from p j o no-lines = no-lines

@@ -9,8 +9,8 @@ use native.Mathlib.Omega.{arith}
 use lib.Dec.{eqb, leb}
 use lib.ListN.{length, take, drop, length-append}
 use lib.Seq.{take-at, drop-at, length-take-le}
+use Rattle.bits.specs.Tests.{by-test}
 use Rattle.refusal.specs.Refusal.{notANibble, noRoom}
-use Rattle.line_code.specs.declared.Meaning.the-variants.{Line}
 use Rattle.profile.specs.declared.Profile.{Profile}
 use Rattle.profile.specs.Profile.{bodyLength}
 use Rattle.stream.specs.declared.GapFacts.{GapFacts}
@@ -24,7 +24,7 @@ use Rattle.recovery.specs.CallsLaws.{others-take}
 use Rattle.recovery.specs.AnswerLaws.{step-cases}
 use Rattle.recovery.specs.Collected.{collected, lines, gaps}
 use Rattle.recovery.specs.ResyncLaws.{BringsNoLine, no-line}
-use Rattle.recovery.specs.Damage.{by-test, places-within, drop-changed, writable-from, recovers}
+use Rattle.recovery.specs.Damage.{places-within, drop-changed, writable-from, recovers}
 use Rattle.recovery.specs.Gaps.{gaps-before, gaps-from}
 
 -- Calls and the nibbles that they take.

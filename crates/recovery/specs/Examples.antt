@@ -3,7 +3,8 @@
 use mathlib.Core.Path.{_≡_, refl, _∙_, ap, ap₂}
 use mathlib.Core.Bool.{Bool, true, cond}
 use mathlib.Core.List.{List, [], _∷_, map}
-use Prim.Native.Nat.{ℕ, _≤_}
+use Prim.Native.Nat.{ℕ, _≤_, _<_}
+use native.Mathlib.Omega.{arith}
 use lib.Dec.{lit≤}
 use lib.ListN.{length, replicate}
 use borrow.Author.Tests.{le-leb}
@@ -19,8 +20,9 @@ use Rattle.profile.specs.Profile.{bodyLength, fillerByte, nullByte}
 use Rattle.profile.specs.Layout.{fits, rules, gapFits}
 use Rattle.stream.specs.Stream.{State, fresh, step}
 use Rattle.stream.specs.Written.{Sent, Writable, AllWritable, no-lines, and-line, stream}
+use Rattle.stream.specs.Nibbles.{AllNibbles, no-nibble, and-nibble}
 use Rattle.recovery.specs.Calls.{Call, feed, done, FinishLast, done-last, feed-first, CallResult, takes, changed, endedBy, linesFrom, closedBy, closed, onTaken, DemandThree, turnedAway, fed, meaningCall}
-use Rattle.recovery.specs.WrittenLaws.{AllNibbles, no-nibble, and-nibble, all-changed}
+use Rattle.recovery.specs.WrittenLaws.{all-changed}
 use Rattle.recovery.specs.DemandThree.{step-taken, demand-three}
 
 -- Lines.
@@ -114,16 +116,16 @@ pub finish-last : (buffer w : List ℕ) → FinishLast (fedThenDone buffer w)
 finish-last buffer [] = done-last
 finish-last buffer (n ∷ w) = feed-first (finish-last buffer w)
 
-fed-call : (p : Profile) (s : State) (n : ℕ) (buffer : List ℕ) → n ≤ 15 → bodyLength p ≤ length buffer → meaningCall p s (feed n buffer) ≡ fed p s n buffer
+fed-call : (p : Profile) (s : State) (n : ℕ) (buffer : List ℕ) → n < 16 → bodyLength p ≤ length buffer → meaningCall p s (feed n buffer) ≡ fed p s n buffer
 fed-call p s n buffer l h =
-    ap₂ (λ (b c : Bool). cond b (cond c (fed p s n buffer) (turnedAway s noRoom buffer)) (turnedAway s notANibble buffer)) (le-leb n 15 l)
+    ap₂ (λ (b c : Bool). cond b (cond c (fed p s n buffer) (turnedAway s noRoom buffer)) (turnedAway s notANibble buffer)) (le-leb n 15 (omega arith))
     (le-leb (bodyLength p) (length buffer) h)
 
 -- they take all of them
 pub all-taken : (p : Profile) (buffer : List ℕ) → bodyLength p ≤ length buffer → {w : List ℕ} → AllNibbles w → (s : State)
     → onTaken (meaningCall p) s (fedThenDone buffer w) ≡ w
 all-taken p buffer h no-nibble s = refl
-all-taken p buffer h (and-nibble {n} {w} l g) s =
+all-taken p buffer h (and-nibble {n} {t = w} l g) s =
     ap (λ (c : CallResult State). takes (c .answer) n (onTaken (meaningCall p) (c .reader) (fedThenDone buffer w))) (fed-call p s n buffer l h)
     ∙ step-taken p s n (onTaken (meaningCall p) (step p s n .state) (fedThenDone buffer w))
     ∙ ap {B = List ℕ} (λ v. n ∷ v) (all-taken p buffer h g (step p s n .state))

@@ -9,7 +9,6 @@ use native.Mathlib.Nat.{not-suc-le-zero, le-of-suc-le-suc}
 use native.Mathlib.Omega.{arith}
 use lib.Dec.{eqb}
 use lib.ListN.{length, replicate}
-use borrow.Author.Tests.{eqb-true}
 use Rattle.refusal.specs.Refusal.{damagedCode}
 use Rattle.line_code.specs.LineCode.{readingOf}
 use Rattle.profile.specs.declared.Profile.{Profile}
@@ -17,6 +16,7 @@ use Rattle.stream.specs.declared.Mark.{Mark}
 use Rattle.stream.specs.declared.Mark.the-variants.{NoMark, Open}
 use Rattle.stream.specs.Answers.{Outcome, nothing, refused, answerOf}
 use Rattle.stream.specs.Stream.{State, fresh, group, strip, Completed, not-yet, mark, markIf, detect, answerAt, advance, step, finish, run, outcomes}
+use Rattle.stream.specs.TextLaws.{strip-found}
 use Rattle.recovery.specs.AnswerLaws.{mark-cases}
 use Rattle.recovery.specs.Marks.{onto, isMark, completes, MarkEnds, Since, all-taken, since-group, answerIn, answersIn, counted, marksIn}
 
@@ -40,15 +40,6 @@ found-older : (ps t older : List ℕ) → length ps ≤ length t → found (stri
 found-older [] t older h = refl
 found-older (q ∷ ps) [] older h = absurd (not-suc-le-zero h)
 found-older (q ∷ ps) (n ∷ t) older h = found-if (eqb q n) _ _ (found-older ps t older (le-of-suc-le-suc h))
-
-strip-found : (ps t rest : List ℕ) → strip ps t ≡ some rest → t ≡ ps ++ rest
-strip-found [] t rest h = cc
-strip-found (q ∷ ps) [] rest h = cc
-strip-found (q ∷ ps) (n ∷ t) rest h = go (eqb q n) refl h (strip-found ps t rest)
-  where
-    go : (b : Bool) → eqb q n ≡ b → cond b (strip ps t) none ≡ some rest → (strip ps t ≡ some rest → t ≡ ps ++ rest) → n ∷ t ≡ q ∷ (ps ++ rest)
-    go true e k f = ap₂ (λ (m : ℕ) (l : List ℕ). m ∷ l) (sym (eqb-true q n e)) (f k)
-    go false e k f = cc
 
 -- Where a mark is completed.
 

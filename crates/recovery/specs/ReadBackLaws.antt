@@ -31,6 +31,7 @@ use Rattle.stream.specs.declared.Mark.{Mark}
 use Rattle.stream.specs.declared.Mark.the-variants.{Open}
 use Rattle.stream.specs.Answers.{facts, Outcome, line, isLine, require, bytesOnto, lineFrom, turned, allF, afterCode, goodGap, periodOf, gapFrom, byReading, answerOf}
 use Rattle.stream.specs.Stream.{State, fresh, beforeBy, answerAt, step, finish, run, outcomes}
+use Rattle.stream.specs.TextLaws.{requires}
 use Rattle.stream.specs.Written.{Sent, Writable, nibbles, markOf, content, tail, written}
 use Rattle.stream.specs.NibblesLaws.{nibbles-length}
 use Rattle.line_number.specs.LineNumberLaws.{byte-good, byte-value}
@@ -90,11 +91,6 @@ read-small c r m h = go (leb c 254) refl
 
 -- The line.
 
-passes : (t : Bool) (n : ℕ) (o : Outcome) → t ≡ true → require t n o ≡ o
-unfolding require
-passes true n o h = refl
-passes false n o h = absurd (true≢false (sym h))
-
 bytes-onto : (bs t rest : List ℕ) → bytesOnto (onto t (nibbles bs)) rest ≡ bytesOnto t (bs ++ rest)
 bytes-onto [] t rest = refl
 bytes-onto (b ∷ bs) t rest = bytes-onto bs (b % 16 ∷ b / 16 ∷ t) rest ∙ ap (λ (c : ℕ). bytesOnto t (c ∷ (bs ++ rest))) (byte-joined b)
@@ -119,10 +115,10 @@ line-by-end p s g before start end r hs =
     = omega (arith, byte-value (s .number / 64) high, byte-value (s .number % 64) low) in
     ap (λ x. byReading p before x (lineText start s) (some end)) hs
     ∙ ap (λ bs. lineFrom p (s .kind) r bs (readingOf end)) (line-bytes start s)
-    ∙ passes (eqb (length (s .body)) (bodyLength p)) wrongLength _ (body-long p s g)
-    ∙ passes (numberGood (numberByte (s .number / 64)) && numberGood (numberByte (s .number % 64))) badNumber _
+    ∙ requires (eqb (length (s .body)) (bodyLength p)) wrongLength _ (body-long p s g)
+    ∙ requires (numberGood (numberByte (s .number / 64)) && numberGood (numberByte (s .number % 64))) badNumber _
     (and-both (numberGood (numberByte (s .number / 64))) _ (byte-good (s .number / 64) high) (byte-good (s .number % 64) low))
-    ∙ passes (fits (rules p (s .kind)) (s .body)) badBody _ (g .body-fits)
+    ∙ requires (fits (rules p (s .kind)) (s .body)) badBody _ (g .body-fits)
     ∙ ap (λ n. require (isEnd (readingOf end)) noEndOfLine (line (facts (s .kind) n r (repairOf (readingOf end))) (s .body))) number
 
 pub line-answer : (p : Profile) (s : Sent) → Writable p s → (before : Before) (start end : ℕ) (r q : Repair)
@@ -131,7 +127,7 @@ pub line-answer : (p : Profile) (s : Sent) → Writable p s → (before : Before
 line-answer p s g before start end r q hs he =
     line-by-end p s g before start end r hs
     ∙ ap (λ x. require (isEnd x) noEndOfLine (line (facts (s .kind) (s .number) r (repairOf x)) (s .body))) he
-    ∙ passes true noEndOfLine _ refl
+    ∙ requires true noEndOfLine _ refl
 
 -- The gap.
 
@@ -173,7 +169,7 @@ no-group-two VV5300 EOF a b c h hc = no-group-fillers a b c h hc
 pub no-group-gap : (p : Profile) (s : Sent) → Writable p s → (c : ℕ) → c ≤ 254 → NoGroup (gapText c s)
 no-group-gap p s g c h = no-group-nulls (s .nulls) _ (no-group-two p (s .kind) (s .gap-one) (s .gap-two) c (g .gap-fits) h)
 
-turned-onto : (t w rest : List ℕ) → turned (onto t w) rest ≡ turned t (w ++ rest)
+pub turned-onto : (t w rest : List ℕ) → turned (onto t w) rest ≡ turned t (w ++ rest)
 turned-onto t [] rest = refl
 turned-onto t (n ∷ w) rest = turned-onto (n ∷ t) w rest
 
@@ -189,10 +185,10 @@ gap-from VV5404 k m a b n h =
     let ea = eqb-true a nullByte (and-left (eqb a nullByte) (eqb b nullByte) h) in
     let eb = eqb-true b nullByte (and-right (eqb a nullByte) (eqb b nullByte) h) in
     let ns : List ℕ = replicate n nullByte in
-    passes (allF (nibbles (a ∷ b ∷ ns))) badGap _ (null-F a (b ∷ ns) ea (null-F b ns eb (nulls-F n))) ∙ ap₂ (goodGap m) (sym ea) (sym eb)
+    requires (allF (nibbles (a ∷ b ∷ ns))) badGap _ (null-F a (b ∷ ns) ea (null-F b ns eb (nulls-F n))) ∙ ap₂ (goodGap m) (sym ea) (sym eb)
 gap-from VV5300 k m a b n h =
     ap₂ (λ (x y : ℕ). require (gapFits VV5300 k x y && allF (nibbles (replicate n nullByte))) badGap (goodGap m x y)) (byte-joined a) (byte-joined b)
-    ∙ passes (gapFits VV5300 k a b && allF (nibbles (replicate n nullByte))) badGap _ (and-both (gapFits VV5300 k a b) _ h (nulls-F n))
+    ∙ requires (gapFits VV5300 k a b && allF (nibbles (replicate n nullByte))) badGap _ (and-both (gapFits VV5300 k a b) _ h (nulls-F n))
 
 pub gap-answer : (p : Profile) (s : Sent) → Writable p s → (end : ℕ) (q : Repair) → readingOf end ≡ Says EndOfLine q → (next : Option ℕ)
     → answerAt p (Open (HandedOut (s .kind)) end) (gapText end s) next

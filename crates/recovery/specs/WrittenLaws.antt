@@ -1,11 +1,11 @@
 -- Laws of lines as written: each nibble is 0 to 15.
 use mathlib.Core.Path.{_≡_, sym}
 use mathlib.Core.Bool.{true, true≢false}
-use mathlib.Core.List.{List, [], _∷_, _++_}
-use Prim.Native.Nat.{ℕ, zero, suc, _/_, _%_, _≤_}
+use mathlib.Core.List.{List, [], _∷_}
+use Prim.Native.Nat.{ℕ, zero, suc, _/_, _%_, _≤_, _<_}
 use native.Mathlib.Omega.{arith}
 use lib.Dec.{eqb, leb}
-use lib.ListN.{replicate, take, drop}
+use lib.ListN.{replicate}
 use borrow.Author.Tests.{leb-true, eqb-true}
 use Rattle.bits.specs.Every.{and-left, and-right}
 use Rattle.line_code.specs.declared.Kind.{Kind}
@@ -23,31 +23,14 @@ use Rattle.profile.specs.declared.Rule.the-variants.{Filler, Pixel, Any}
 use Rattle.profile.specs.Profile.{fillerByte, nullByte}
 use Rattle.profile.specs.Layout.{isPixel, allows, fits, rules, bothAre, gapFits}
 use Rattle.stream.specs.Written.{Sent, Writable, AllWritable, no-lines, and-line, nibbles, markOf, content, written, stream}
+use Rattle.stream.specs.Nibbles.{AllNibbles, no-nibble, and-nibble}
+use Rattle.stream.specs.NibblesLaws.{all-nibbles-append, all-nibbles-take, all-nibbles-drop}
 use Rattle.line_number.specs.LineNumberLaws.{byte-small}
 use Rattle.recovery.specs.Calls.{changed}
 use Rattle.recovery.specs.ReadBackLaws.{read-small}
 
--- each is 0 to 15
-pub data AllNibbles : List ℕ → Type 0 where
-  no-nibble : AllNibbles []
-  and-nibble : {n : ℕ} {w : List ℕ} → n ≤ 15 → AllNibbles w → AllNibbles (n ∷ w)
-
-all-append : {u v : List ℕ} → AllNibbles u → AllNibbles v → AllNibbles (u ++ v)
-all-append no-nibble h = h
-all-append (and-nibble l g) h = and-nibble l (all-append g h)
-
-all-take : (n : ℕ) {w : List ℕ} → AllNibbles w → AllNibbles (take n w)
-all-take zero h = no-nibble
-all-take (suc n) no-nibble = no-nibble
-all-take (suc n) (and-nibble l h) = and-nibble l (all-take n h)
-
-all-drop : (n : ℕ) {w : List ℕ} → AllNibbles w → AllNibbles (drop n w)
-all-drop zero h = h
-all-drop (suc n) no-nibble = no-nibble
-all-drop (suc n) (and-nibble l h) = all-drop n h
-
 all-byte : (b : ℕ) {w : List ℕ} → b ≤ 255 → AllNibbles w → AllNibbles (b / 16 ∷ b % 16 ∷ w)
-all-byte b h g = let high : b / 16 ≤ 15 = omega arith in let low : b % 16 ≤ 15 = omega arith in and-nibble high (and-nibble low g)
+all-byte b h g = let high : b / 16 < 16 = omega arith in let low : b % 16 < 16 = omega arith in and-nibble high (and-nibble low g)
 
 all-nulls : (k : ℕ) → AllNibbles (nibbles (replicate k nullByte))
 all-nulls zero = no-nibble
@@ -92,14 +75,14 @@ all-content p s g =
 all-written : (p : Profile) (s : Sent) → Writable p s → AllNibbles (written s)
 all-written p s g =
     let two = gap-bytes p (s .kind) (s .gap-one) (s .gap-two) (g .gap-fits) in
-    all-append (all-mark (Line (s .kind)))
-    (all-append (all-content p s g)
-    (all-append (all-mark EndOfLine) (all-byte (s .gap-one) (two .0) (all-byte (s .gap-two) (two .1) (all-nulls (s .nulls))))))
+    all-nibbles-append (all-mark (Line (s .kind)))
+    (all-nibbles-append (all-content p s g)
+    (all-nibbles-append (all-mark EndOfLine) (all-byte (s .gap-one) (two .0) (all-byte (s .gap-two) (two .1) (all-nulls (s .nulls))))))
 
 all-stream : (p : Profile) {ss : List Sent} → AllWritable p ss → AllNibbles (stream ss)
 all-stream p no-lines = no-nibble
-all-stream p (and-line {s = s} g h) = all-append (all-written p s g) (all-stream p h)
+all-stream p (and-line {s = s} g h) = all-nibbles-append (all-written p s g) (all-stream p h)
 
 -- a clean stream with a stretch replaced by nibbles is made of nibbles
 pub all-changed : (p : Profile) {ss : List Sent} → AllWritable p ss → (i j : ℕ) {new : List ℕ} → AllNibbles new → AllNibbles (changed ss i j new)
-all-changed p h i j g = all-append (all-take i (all-stream p h)) (all-append g (all-drop j (all-stream p h)))
+all-changed p h i j g = all-nibbles-append (all-nibbles-take (all-stream p h) i) (all-nibbles-append g (all-nibbles-drop (all-stream p h) j))

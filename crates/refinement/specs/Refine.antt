@@ -8,12 +8,13 @@ use Rattle.profile.specs.Profile.{longest}
 use Rattle.stream.specs.declared.Mark.{Mark}
 use Rattle.stream.specs.Answers.{Outcome}
 use Rattle.stream.specs.Stream.{State}
+use Rattle.stream.specs.Nibbles.{AllNibbles}
 use Rattle.reader_head.specs.declared.Head.{Head}
 use Rattle.reader.specs.declared.Reader.{Reader}
 use Rattle.reader_head.specs.Head.{countStop}
 use Rattle.reader.specs.Reader.{feedOf}
 use Rattle.refinement.specs.Window.{num}
-use Rattle.reader_laws.specs.Passing.{Small, Ok}
+use Rattle.reader_laws.specs.Passing.{Ok}
 use Rattle.refinement.specs.StoredText.{storedKept, storedBody}
 
 -- all but the body: the open mark, and the text
@@ -23,7 +24,7 @@ pub record SameHead (p : Profile) (h : Head) (m : Mark) (t : List ℕ) : Type 0 
   pub count-same : h .count ≡ min (length t) countStop
   pub window-same : h .window ≡ num (take 8 t)
   pub kept-same : h .kept ≡ storedKept p (drop 8 t)
-  pub small : Small t
+  pub small : AllNibbles t
 
 -- all of it
 pub record Same (p : Profile) (r : Reader) (s : State) : Type 0 where

@@ -28,6 +28,7 @@ use Rattle.stream.specs.declared.Mark.{Mark}
 use Rattle.stream.specs.declared.Mark.the-variants.{NoMark, Open}
 use Rattle.stream.specs.Answers.{Outcome, nothing, isLine, require, goodGap, periodOf}
 use Rattle.stream.specs.Stream.{State, Step, Completed, not-yet, mark, detect, fresh, kindAt, beforeBy, answerAt, advance, step, finish, run, outcomes}
+use Rattle.stream.specs.Nibbles.{AllNibbles, no-nibble, and-nibble}
 use Rattle.mark_text.specs.declared.Kept.{Kept}
 use Rattle.mark_text.specs.MarkText.{bodyPlace, byteAt, strayAt, keptAt, bodyAt}
 use Rattle.gap_answer.specs.KeptGap.{keptGap, keptEnd}
@@ -41,7 +42,7 @@ use Rattle.profile.specs.LayoutLaws.{body-small}
 use Rattle.refinement.specs.Window.{num}
 use Rattle.refinement.specs.WindowLaws.{oldest, slide-num, no-mark-yet, Complete, complete}
 use Rattle.mark_text.specs.MarkTextLaws.{gap-start-small}
-use Rattle.reader_laws.specs.Passing.{Small, small-none, small-more, Ok, finished}
+use Rattle.reader_laws.specs.Passing.{Ok, finished}
 use Rattle.refinement.specs.StoredText.{storedKept, storedBody}
 use Rattle.refinement.specs.Stored.{byte-keep, body-out, stored-length, wrong-length, stored-answer}
 use Rattle.reader_laws.specs.Passes.{fresh-ok, take-ok, passes-test}
@@ -140,7 +141,7 @@ pub fresh-same : (p : Profile) → Same p (freshReader p) fresh
 fresh-same p =
     record {
       head-same =
-          record { profile-same = refl; at-same = refl; count-same = refl; window-same = refl; kept-same = refl; small = small-none };
+          record { profile-same = refl; at-same = refl; count-same = refl; window-same = refl; kept-same = refl; small = no-nibble };
       base = replicate longest 0;
       base-length = length-replicate {A = ℕ} longest 0;
       body-same = refl;
@@ -205,7 +206,7 @@ shifted-same {h = h} {t = t} n l s =
       count-same = bump-min (h .count) (length t) (s .count-same);
       window-same = slide-same s n;
       kept-same = leave-kept s;
-      small = small-more l (s .small);
+      small = and-nibble l (s .small);
     }
 
 -- what a call gives, and what a step of the meaning gives: states that are the same, and the same outcome
@@ -276,7 +277,7 @@ module _ (p : Profile) (r : Reader) (s : State) (n : ℕ) (small-n : n < 16) (sa
                     count-same = refl;
                     window-same = code ∙ (let z : 16 * x + y ≡ y + 16 * (x + 16 * 0) = omega arith in z);
                     kept-same = refl;
-                    small = small-more (c .low-small) (small-more (c .high-small) small-none);
+                    small = and-nibble (c .low-small) (and-nibble (c .high-small) no-nibble);
                   };
               base = leaveBody h (r .body);
               base-length = ap length body′ ∙ stored-length (same .base) text ∙ same .base-length;
@@ -289,8 +290,8 @@ module _ (p : Profile) (r : Reader) (s : State) (n : ℕ) (small-n : n < 16) (sa
   unfolding takeHead takeOutcome
   taking-sim = go (isMark w) refl
     where
-      all-small : Small t′
-      all-small = small-more small-n (same .head-same .small)
+      all-small : AllNibbles t′
+      all-small = and-nibble small-n (same .head-same .small)
 
       is-window : (b : Bool) → isMark w ≡ b → isMark (num (take 8 t′)) ≡ b
       is-window b e = ap isMark (sym (slide-same (same .head-same) n)) ∙ e
@@ -386,19 +387,19 @@ finish-steps p r s f =
     })
 
 module _ (p : Profile) (room : ℕ → ℕ) (roomy : (k : ℕ) → bodyLength p ≤ room k) where
-  pub fed-follows : {w : List ℕ} → Small w → (r : Reader) (s : State) → Follows p r s → Follows p (fedReader room r w) (run p s w)
-  fed-follows small-none r s f = f
-  fed-follows (small-more {n} {t} l q) r s f = fed-follows q _ _ (feed-steps p r s n (room (length t)) l (roomy (length t)) f .follows)
+  pub fed-follows : {w : List ℕ} → AllNibbles w → (r : Reader) (s : State) → Follows p r s → Follows p (fedReader room r w) (run p s w)
+  fed-follows no-nibble r s f = f
+  fed-follows (and-nibble {n} {t} l q) r s f = fed-follows q _ _ (feed-steps p r s n (room (length t)) l (roomy (length t)) f .follows)
 
-  fed-outcomes : {w : List ℕ} → Small w → (r : Reader) (s : State) → Follows p r s → fedOutcomes room r w ≡ outcomes p s w
-  fed-outcomes small-none r s f = refl
-  fed-outcomes (small-more {n} {t} l q) r s f =
+  fed-outcomes : {w : List ℕ} → AllNibbles w → (r : Reader) (s : State) → Follows p r s → fedOutcomes room r w ≡ outcomes p s w
+  fed-outcomes no-nibble r s f = refl
+  fed-outcomes (and-nibble {n} {t} l q) r s f =
       let x = feed-steps p r s n (room (length t)) l (roomy (length t)) f in
       ap₂ {C = List Outcome} (λ a b. a ∷ b) (x .outcome-same) (fed-outcomes q _ _ (x .follows))
 
   -- the reader refines the meaning: from a fresh reader each call's outcome is the meaning's, and so is that of finish after any nibbles
-  pub refines : {w : List ℕ} → Small w → fedOutcomes room (freshReader p) w ≡ outcomes p fresh w
+  pub refines : {w : List ℕ} → AllNibbles w → fedOutcomes room (freshReader p) w ≡ outcomes p fresh w
   refines q = fed-outcomes q (freshReader p) fresh (fresh-follows p)
 
-  pub finish-refines : {w : List ℕ} → Small w → finishOf (fedReader room (freshReader p) w) .outcome ≡ finish p (run p fresh w) .outcome
+  pub finish-refines : {w : List ℕ} → AllNibbles w → finishOf (fedReader room (freshReader p) w) .outcome ≡ finish p (run p fresh w) .outcome
   finish-refines {w} q = finish-steps p _ _ (fed-follows q (freshReader p) fresh (fresh-follows p)) .outcome-same

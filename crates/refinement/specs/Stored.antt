@@ -1,6 +1,6 @@
 -- What is kept of a text is enough to answer for it: the answer that is stored-answer from that is the answer of the text itself.
 use mathlib.Core.Path.{_≡_, refl, _∙_, ap, ap₂, sym}
-use mathlib.Core.Bool.{Bool, true, false, _&&_, _||_, not, cond, true≢false}
+use mathlib.Core.Bool.{Bool, true, false, _&&_, _||_, not, cond, true≢false, or-false, Bool·not-not}
 use mathlib.Core.List.{List, [], _∷_, _++_, append-nil, append-assoc}
 use mathlib.Core.Option.{Option, none, some}
 use Prim.Native.Nat.{ℕ, zero, suc, _+_, _*_, _-_, _/_, _%_, _≤_, _<_}
@@ -29,6 +29,7 @@ use Rattle.stream.specs.declared.Mark.{Mark}
 use Rattle.stream.specs.declared.Mark.the-variants.{NoMark, Open}
 use Rattle.stream.specs.Answers.{facts, Outcome, line, refused, require, goodGap, bytesOnto, lineFrom, turned, allF, afterCode, twoBytesThenF, gapFrom, byMeaning, byReading, answerOf}
 use Rattle.stream.specs.Stream.{answerAt}
+use Rattle.stream.specs.TextLaws.{turned-append, after-code, refuses}
 use Rattle.mark_text.specs.declared.Kept.{Kept}
 use Rattle.reader_laws.specs.Bodies.{bodyBy, length-body}
 use Rattle.mark_text.specs.MarkText.{bodyPlace, byteAt, strayAt, keptAt, bodyAt}
@@ -39,11 +40,6 @@ use Rattle.profile.specs.LayoutLaws.{body-small}
 use Rattle.refinement.specs.StoredText.{storedKept, storedBody}
 
 -- The text's nibbles, by number.
-
-turned-append : (c w : List ℕ) → turned c w ≡ turned c [] ++ w
-turned-append [] w = refl
-turned-append (n ∷ c) w =
-    turned-append c (n ∷ w) ∙ sym (append-assoc (turned c []) (n ∷ []) w) ∙ ap (λ (l : List ℕ). l ++ w) (sym (turned-append c (n ∷ [])))
 
 -- the text, oldest first
 abbrev old : List ℕ → List ℕ
@@ -170,10 +166,6 @@ stored-stray p (v ∷ c) = go (leb (gapStart p) (length c)) refl (stored-stray p
     n-out true b = refl
     n-out false b = refl
 
-    side : (b : Bool) → (b || false) ≡ b
-    side true = refl
-    side false = refl
-
     go : (b : Bool) → leb (gapStart p) (length c) ≡ b → storedKept p c .stray ≡ not (allF (drop (gapStart p) (old c)))
         → (storedKept p c .stray || (b && not (eqb v 15))) ≡ not (allF (drop (gapStart p) (old (v ∷ c))))
     go true e ih =
@@ -188,24 +180,15 @@ stored-stray p (v ∷ c) = go (leb (gapStart p) (length c)) refl (stored-stray p
         let k = leb-false (gapStart p) (length c) e in
         let l = length-old c in
         let m = length-old (v ∷ c) in
-        side (storedKept p c .stray)
+        or-false (storedKept p c .stray)
         ∙ ih
         ∙ ap (λ (w : List ℕ). not (allF w))
         (drop-of-length-le (old c) {i = gapStart p} (omega arith) ∙ sym (drop-of-length-le (old (v ∷ c)) {i = gapStart p} (omega arith)))
 
 not-stray : (p : Profile) (c : List ℕ) → allF (drop (gapStart p) (old c)) ≡ not (storedKept p c .stray)
-not-stray p c = sym (ap not (stored-stray p c) ∙ not-not (allF (drop (gapStart p) (old c))))
-  where
-    not-not : (b : Bool) → not (not b) ≡ b
-    not-not true = refl
-    not-not false = refl
+not-stray p c = sym (ap not (stored-stray p c) ∙ Bool·not-not (allF (drop (gapStart p) (old c))))
 
 -- The gap's answer.
-
-after-code : (w : List ℕ) → afterCode w ≡ drop 2 w
-after-code [] = refl
-after-code (a ∷ []) = refl
-after-code (a ∷ b ∷ w) = refl
 
 -- profile 1's, from the text's length, whether it ends in nothing but F, and its two bytes
 abbrev gapShape : Kind → ℕ → ℕ → Bool → ℕ → ℕ → Outcome
@@ -368,11 +351,6 @@ whole-bytes p b s zero (one-more {l} {h} (one-more {l = l₂} {h = h₂} (one-mo
 whole-bytes p b s (suc m) (one-more {l} {h} {c} q) = keep-two p b s l h c m (let e = length-pairs q in omega arith) (whole-bytes p b s m q)
 
 -- The line's answer.
-
-pub refuses : (t : Bool) (n : ℕ) (o : Outcome) → t ≡ false → require t n o ≡ refused n
-unfolding require
-refuses true n o h = absurd (true≢false h)
-refuses false n o h = refl
 
 pub wrong-length : (p : Profile) (k : Kind) (r : Repair) (n : ℕ) (t : Kept) (body : List ℕ) (next : Reading) → (n ≡ 2 * bodyLength p + bodyPlace → ⊥)
     → keptLine p k r n t body next ≡ refused wrongLength

@@ -1,7 +1,7 @@
 -- Calls one after another on a list of saved settings: versions stay in unbroken sequence; a refusal changes nothing; saving drops the oldest
 -- where eight stand, and nothing else; what was saved is found until eight later ones came; after 65,535 nothing is saved and nothing is lost.
 use mathlib.Core.Path.{_≡_, refl, sym, ap, subst, _∙_}
-use mathlib.Core.Bool.{Bool, true, false, cond, true≢false}
+use mathlib.Core.Bool.{Bool, true, cond, true≢false}
 use mathlib.Core.List.{List, [], _∷_, _++_}
 use Prim.Native.Nat.{ℕ, _+_, _<_, _≤_}
 use native.Mathlib.Omega.{arith}
@@ -9,11 +9,12 @@ use lib.Dec.{eqb, ltb}
 use lib.ListN.{length, drop}
 use borrow.Author.Tests.{ne-eqb, eqb-true, eqb-false, ltb-true, ltb-false}
 use Rattle.bits.specs.Every.{and-left, and-right}
+use Rattle.bits.specs.Tests.{sides, by-test}
 use Rattle.refusal.specs.Refusal.{notSavedSettings, badSetting, versionNotHeld, noVersionLeft}
 use Rattle.saved_setting.specs.declared.SavedSetting.{SavedSetting}
 use Rattle.saved_setting.specs.SavedSettings.{Reply, yields, refused, isAllowed, clipped, renumbered, versionsInOrder, settingPlaces, isSavedList, lastVersion, newestVersion, lookUp, allUsed, savedInto, ListReply, keepingList, savedNext, savedWanted, foundIn, savedFound, savedAgain}
 use Rattle.saved_settings_laws.specs.Histories.{usedOf, SettingCall, saving, goingBack, calledOn, ToSave, afterCalls, savesOf, laterSaves}
-use Rattle.saved_settings_laws.specs.OrderLaws.{by-side, sides, by-held, held-recent, isSetting}
+use Rattle.saved_settings_laws.specs.OrderLaws.{by-held, held-recent, isGiven}
 use Rattle.saved_settings_laws.specs.PutInLaws.{into}
 
 -- ---- one call: it refuses, or it saves a setting under the next version
@@ -27,7 +28,7 @@ module _ (P : ListReply → Type 0) (list : List SavedSetting) (no : (n : ℕ) �
   by-next : (s : SavedSetting) → isSavedList list ≡ true → P (savedNext list s)
   unfolding savedNext
   by-next s ok =
-      by-side P (eqb (newestVersion list) lastVersion) (λ e. no noVersionLeft) (λ e. yes s ok (eqb-false (newestVersion list) lastVersion e))
+      by-test P (eqb (newestVersion list) lastVersion) (λ e. no noVersionLeft) (λ e. yes s ok (eqb-false (newestVersion list) lastVersion e))
 
   by-found : (h : Reply SavedSetting) → isSavedList list ≡ true → P (savedFound list h)
   by-found (yields s) ok = by-next s ok
@@ -36,14 +37,10 @@ module _ (P : ListReply → Type 0) (list : List SavedSetting) (no : (n : ℕ) �
   by-call : (c : SettingCall) → P (calledOn list c)
   unfolding savedWanted savedAgain foundIn
   by-call (saving w) =
-      by-side P (isSavedList list) (λ ok. by-side P (isAllowed w) (λ e. by-next (clipped w) ok) (λ e. no badSetting)) (λ e. no notSavedSettings)
+      by-test P (isSavedList list) (λ ok. by-test P (isAllowed w) (λ e. by-next (clipped w) ok) (λ e. no badSetting)) (λ e. no notSavedSettings)
   by-call (goingBack v) =
-      by-side (λ (h : Reply SavedSetting). P (savedFound list h)) (isSavedList list)
-      (λ ok. by-side (λ (h : Reply SavedSetting). P (savedFound list h)) (eqb v 0) (λ e. no versionNotHeld) (λ e. by-found (lookUp v list) ok)) (λ e. no notSavedSettings)
-
-abbrev isVersion : Reply ℕ → Bool
-isVersion (yields v) = true
-isVersion (refused n) = false
+      by-test (λ (h : Reply SavedSetting). P (savedFound list h)) (isSavedList list)
+      (λ ok. by-test (λ (h : Reply SavedSetting). P (savedFound list h)) (eqb v 0) (λ e. no versionNotHeld) (λ e. by-found (lookUp v list) ok)) (λ e. no notSavedSettings)
 
 abbrev versionIn : Reply ℕ → ℕ
 versionIn (yields v) = v
@@ -52,7 +49,7 @@ versionIn (refused n) = 0
 -- a refusal changes nothing
 pub refusal-keeps : (list : List SavedSetting) (c : SettingCall) (n : ℕ) → calledOn list c .reply ≡ refused n → calledOn list c .list ≡ list
 refusal-keeps list c n =
-    by-call (λ (o : ListReply). o .reply ≡ refused n → o .list ≡ list) list (λ m q. refl) (λ s ok left q. absurd (true≢false (ap isVersion q))) c
+    by-call (λ (o : ListReply). o .reply ≡ refused n → o .list ≡ list) list (λ m q. refl) (λ s ok left q. absurd (true≢false (ap isGiven q))) c
 
 -- versions stay in unbroken sequence
 pub stays-ordered : (list : List SavedSetting) (c : SettingCall) → isSavedList list ≡ true → isSavedList (calledOn list c .list) ≡ true
@@ -83,7 +80,7 @@ found-saved : (list : List SavedSetting) (v : ℕ) (s : SavedSetting) → foundI
 unfolding foundIn
 found-saved list v s q =
     sides (isSavedList list) (λ ok. ok)
-    (λ e. absurd (true≢false (sym (ap isSetting (ap (λ (b : Bool). cond b (cond (eqb v 0) (refused versionNotHeld) (lookUp v list)) (refused notSavedSettings)) (sym e) ∙ q)))))
+    (λ e. absurd (true≢false (sym (ap isGiven (ap (λ (b : Bool). cond b (cond (eqb v 0) (refused versionNotHeld) (lookUp v list)) (refused notSavedSettings)) (sym e) ∙ q)))))
 
 -- what a call that answers a version did
 record Did (list : List SavedSetting) (s : SavedSetting) (v : ℕ) (o : ListReply) : Type 0 where
@@ -93,20 +90,20 @@ record Did (list : List SavedSetting) (s : SavedSetting) (v : ℕ) (o : ListRepl
 
 module _ (list : List SavedSetting) (v : ℕ) where
   refuses : (s : SavedSetting) (n : ℕ) → keepingList n list .reply ≡ yields v → Did list s v (keepingList n list)
-  refuses s n q = absurd (true≢false (sym (ap isVersion q)))
+  refuses s n q = absurd (true≢false (sym (ap isGiven q)))
 
   did-next : (s : SavedSetting) → isSavedList list ≡ true → savedNext list s .reply ≡ yields v → Did list s v (savedNext list s)
   unfolding savedNext
   did-next s ok =
-      by-side (λ (o : ListReply). o .reply ≡ yields v → Did list s v o) (eqb (newestVersion list) lastVersion) (λ e. refuses s noVersionLeft)
+      by-test (λ (o : ListReply). o .reply ≡ yields v → Did list s v o) (eqb (newestVersion list) lastVersion) (λ e. refuses s noVersionLeft)
       (λ e q. record { ok = ok; next = sym (ap versionIn q); does = refl })
 
   did-wanted : (c : SettingCall) (s : SavedSetting) → ToSave list c s → calledOn list c .reply ≡ yields v → Did list s v (calledOn list c)
   unfolding savedWanted savedAgain foundIn
   did-wanted (saving w) s same =
-      by-side (λ (o : ListReply). o .reply ≡ yields v → Did list s v o) (isSavedList list)
+      by-test (λ (o : ListReply). o .reply ≡ yields v → Did list s v o) (isSavedList list)
       (λ ok.
-      by-side (λ (o : ListReply). o .reply ≡ yields v → Did list s v o) (isAllowed w)
+      by-test (λ (o : ListReply). o .reply ≡ yields v → Did list s v o) (isAllowed w)
       (λ e. subst (λ (t : SavedSetting). savedNext list t .reply ≡ yields v → Did list s v (savedNext list t)) (sym same) (did-next s ok))
       (λ e. refuses s badSetting))
       (λ e. refuses s notSavedSettings)
@@ -153,7 +150,7 @@ module _ (v : ℕ) (s : SavedSetting) (some : v ≡ 0 → ⊥) where
       let long = eqb-true (length list) settingPlaces (and-left (eqb (length list) settingPlaces) (versionsInOrder list) ok) in
       let h = and-right (eqb (length list) settingPlaces) (versionsInOrder list) ok in
       let looked : lookUp v list ≡ cond (ltb k settingPlaces) (yields s) (refused versionNotHeld) =
-      by-side (λ (x : Reply SavedSetting). lookUp v list ≡ x) (ltb k settingPlaces) (λ e. since .stays (ltb-true k settingPlaces e))
+      by-test (λ (x : Reply SavedSetting). lookUp v list ≡ x) (ltb k settingPlaces) (λ e. since .stays (ltb-true k settingPlaces e))
       (λ e.
       by-held (λ (x : Reply SavedSetting). x ≡ refused versionNotHeld) v list
       (λ t q. absurd (too-old (ltb-false k settingPlaces e) (held-recent v list t h some q .1) long (since .newest))) refl) in

@@ -8,19 +8,11 @@ use lib.Dec.{eqb}
 use lib.ListN.{length}
 use borrow.Author.Tests.{eq-eqb, ne-eqb, eqb-true, eqb-false}
 use Rattle.bits.specs.Every.{and-left, and-right}
+use Rattle.bits.specs.Tests.{sides, by-test}
 use Rattle.saved_setting.specs.declared.SavedSetting.{SavedSetting}
 use Rattle.saved_setting.specs.SavedSettings.{Reply, yields, refused, isUnused, mayFollow, versionsInOrder, laterVersion, newestVersion, heldHere, lookUp, allUsed}
 use Rattle.refusal.specs.Refusal.{versionNotHeld}
 use Rattle.saved_settings_laws.specs.Histories.{usedOf}
-
--- what holds on both sides of a test
-pub by-side : {A : Type 0} (P : A → Type 0) (b : Bool) {x y : A} → (b ≡ true → P x) → (b ≡ false → P y) → P (cond b x y)
-by-side P true f g = f refl
-by-side P false f g = g refl
-
-pub sides : (b : Bool) {P : Type 0} → (b ≡ true → P) → (b ≡ false → P) → P
-sides true f g = f refl
-sides false f g = g refl
 
 pub used-positive : (n : ℕ) → eqb n 0 ≡ false → 0 < n
 used-positive zero h = absurd (true≢false h)
@@ -169,17 +161,18 @@ pub by-held : (P : Reply SavedSetting → Type 0) (v : ℕ) (list : List SavedSe
 unfolding lookUp heldHere
 by-held P v [] f g = g
 by-held P v (x ∷ list) f g =
-    by-side P (eqb (x .version) v) (λ e. f x (simp e)) (λ e. by-held P v list (λ s q. f s (simp e q)) g)
+    by-test P (eqb (x .version) v) (λ e. f x (simp e)) (λ e. by-held P v list (λ s q. f s (simp e q)) g)
 
-abbrev pub isSetting : Reply SavedSetting → Bool
-isSetting (yields s) = true
-isSetting (refused n) = false
+-- an answer, not a refusal
+abbrev pub isGiven : {A : Type 0} → Reply A → Bool
+isGiven (yields a) = true
+isGiven (refused n) = false
 
 -- a version that is held is one of the last ones, as many as there are places
 pub held-recent : (v : ℕ) (list : List SavedSetting) (s : SavedSetting) → versionsInOrder list ≡ true → (v ≡ 0 → ⊥) → lookUp v list ≡ yields s
     → (v ≤ newestVersion list) × (newestVersion list < v + length list)
 unfolding lookUp newestVersion
-held-recent v [] s h some q = absurd (true≢false (sym (ap isSetting q)))
+held-recent v [] s h some q = absurd (true≢false (sym (ap isGiven q)))
 held-recent v (x ∷ list) s h some q =
     sides (eqb (x .version) v)
     (λ e.

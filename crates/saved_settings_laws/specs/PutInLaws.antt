@@ -8,11 +8,12 @@ use lib.Dec.{eqb}
 use lib.ListN.{length, drop}
 use borrow.Author.Tests.{eq-eqb, ne-eqb, eqb-true, eqb-false}
 use Rattle.bits.specs.Every.{and-left, and-right, and-both}
+use Rattle.bits.specs.Tests.{sides, by-test}
 use Rattle.refusal.specs.Refusal.{versionNotHeld}
 use Rattle.saved_setting.specs.declared.SavedSetting.{SavedSetting}
 use Rattle.saved_setting.specs.SavedSettings.{yields, refused, isUnused, mayFollow, versionsInOrder, settingPlaces, isSavedList, laterVersion, newestVersion, heldHere, lookUp, allUsed, putIn, savedInto}
 use Rattle.saved_settings_laws.specs.Histories.{usedOf}
-use Rattle.saved_settings_laws.specs.OrderLaws.{by-side, sides, unused-follows, may-next, may-unused, order-tail, order-head, later-used, newest-rest, used-rest, newest-last, newest-least, newest-on, all-used, newest-full, skipped, here, isSetting, kept-behind, held-recent}
+use Rattle.saved_settings_laws.specs.OrderLaws.{unused-follows, may-next, may-unused, order-tail, order-head, later-used, newest-rest, used-rest, newest-last, newest-least, newest-on, all-used, newest-full, skipped, here, isGiven, kept-behind, held-recent}
 
 -- the setting t, put into a list
 module _ (t : SavedSetting) (used : isUnused t ≡ false) where
@@ -28,7 +29,7 @@ module _ (t : SavedSetting) (used : isUnused t ≡ false) where
   unfolding versionsInOrder putIn newestVersion laterVersion
   put-behind s [] h u e = and-both (mayFollow s t) true (may-next s t u e) refl
   put-behind s (x ∷ list) h u e =
-      by-side (λ (l : List SavedSetting). versionsInOrder (s ∷ l) ≡ true) (isUnused x)
+      by-test (λ (l : List SavedSetting). versionsInOrder (s ∷ l) ≡ true) (isUnused x)
       (λ none.
       and-both (mayFollow s t) (versionsInOrder (t ∷ list)) (may-next s t u (ap (λ (n : ℕ). n + 1) (sym (newest-last s x list h none)) ∙ e))
       (fresh-head x list (order-tail s (x ∷ list) h) none))
@@ -40,13 +41,13 @@ module _ (t : SavedSetting) (used : isUnused t ≡ false) where
   unfolding putIn versionsInOrder
   put-ordered [] h e = refl
   put-ordered (x ∷ list) h e =
-      by-side (λ (l : List SavedSetting). versionsInOrder l ≡ true) (isUnused x) (fresh-head x list h) (λ some. put-behind x list h some e)
+      by-test (λ (l : List SavedSetting). versionsInOrder l ≡ true) (isUnused x) (fresh-head x list h) (λ some. put-behind x list h some e)
 
   pub put-newest : (list : List SavedSetting) → versionsInOrder list ≡ true → newestVersion (putIn t list) ≡ t .version
   unfolding putIn newestVersion laterVersion
   put-newest [] h = refl
   put-newest (x ∷ list) h =
-      by-side (λ (l : List SavedSetting). newestVersion l ≡ t .version) (isUnused x) (λ none. rw (newest-rest x list h none) refl)
+      by-test (λ (l : List SavedSetting). newestVersion l ≡ t .version) (isUnused x) (λ none. rw (newest-rest x list h none) refl)
       (λ some.
       let z : t .version ≡ 0 → ⊥ = eqb-false (t .version) 0 used in
       rw (put-newest list (order-tail x list h)) (later-used (x .version) (t .version) z))
@@ -75,9 +76,9 @@ module _ (t : SavedSetting) (used : isUnused t ≡ false) where
   pub put-keeps : (v : ℕ) (list : List SavedSetting) (s : SavedSetting) → (v ≡ 0 → ⊥) → (t .version ≡ v → ⊥) → lookUp v list ≡ yields s
       → lookUp v (putIn t list) ≡ yields s
   unfolding putIn lookUp
-  put-keeps v [] s some other q = absurd (true≢false (sym (ap isSetting q)))
+  put-keeps v [] s some other q = absurd (true≢false (sym (ap isGiven q)))
   put-keeps v (x ∷ list) s some other q =
-      by-side (λ (l : List SavedSetting). lookUp v l ≡ yields s) (isUnused x)
+      by-test (λ (l : List SavedSetting). lookUp v l ≡ yields s) (isUnused x)
       (λ none.
       let nought : x .version ≡ 0 = eqb-true (x .version) 0 none in
       skipped t v (lookUp v list) other ∙ sym (skipped x v (lookUp v list) (λ (e : x .version ≡ v). some (sym e ∙ nought))) ∙ q)
@@ -94,14 +95,14 @@ module _ (t : SavedSetting) (used : isUnused t ≡ false) where
       let least = newest-least x (y ∷ list) h u in
       let ordered = order-tail x (y ∷ list) h in
       skipped x (t .version) (lookUp (t .version) (putIn t (y ∷ list))) (λ (q : x .version ≡ t .version). omega (arith, q, least, e))
-      ∙ by-side (λ (l : List SavedSetting). lookUp (t .version) l ≡ yields t) (isUnused y) (λ none. here t (lookUp (t .version) list))
+      ∙ by-test (λ (l : List SavedSetting). lookUp (t .version) l ≡ yields t) (isUnused y) (λ none. here t (lookUp (t .version) list))
       (λ some. found-behind y list ordered some (ap (λ (n : ℕ). n + 1) (sym (newest-on x y list ordered some)) ∙ e))
 
   pub put-found : (list : List SavedSetting) → versionsInOrder list ≡ true → newestVersion list + 1 ≡ t .version → lookUp (t .version) (putIn t list) ≡ yields t
   unfolding putIn lookUp
   put-found [] h e = here t (refused versionNotHeld)
   put-found (x ∷ list) h e =
-      by-side (λ (l : List SavedSetting). lookUp (t .version) l ≡ yields t) (isUnused x) (λ none. here t (lookUp (t .version) list))
+      by-test (λ (l : List SavedSetting). lookUp (t .version) l ≡ yields t) (isUnused x) (λ none. here t (lookUp (t .version) list))
       (λ some. found-behind x list h some e)
 
 -- ---- the oldest is dropped first where all places are used

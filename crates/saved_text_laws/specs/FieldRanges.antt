@@ -6,7 +6,7 @@ use lib.Dec.{eqb, ltb, leb}
 use lib.ListN.{set}
 use Rattle.text.specs.Text.{newline}
 use Rattle.saved_setting.specs.declared.SavedSetting.{SavedSetting}
-use Rattle.saved_settings_laws.specs.OrderLaws.{by-side}
+use Rattle.bits.specs.Tests.{by-test}
 use Rattle.saved_text.specs.declared.FieldName.{FieldName}
 use Rattle.saved_text.specs.declared.FieldName.the-variants.{Version, Fine, Coarse, Gain, Divisor}
 use Rattle.saved_lines.specs.SavedLines.{unused}
@@ -40,9 +40,9 @@ field-in f r = record { version = r .version; fine = r .fine; coarse = r .coarse
 after-in : (f : LineFields) (c : ℕ) → InLine f → InLine (fieldsAfter f c)
 unfolding fieldsAfter
 after-in f c r =
-    by-side InLine (leb 0x30 c)
-    (λ d. by-side InLine (leb c 0x39) (λ e. number-in (f .name) f (withOneMore (numberOf (f .name) f) c) (omega arith) r) (λ e. by-side InLine (eqb c 0x3A) (λ q. field-in f r) (λ q. r)))
-    (λ d. by-side InLine (eqb c 0x2C) (λ q. field-in f r) (λ q. r))
+    by-test InLine (leb 0x30 c)
+    (λ d. by-test InLine (leb c 0x39) (λ e. number-in (f .name) f (withOneMore (numberOf (f .name) f) c) (omega arith) r) (λ e. by-test InLine (eqb c 0x3A) (λ q. field-in f r) (λ q. r)))
+    (λ d. by-test InLine (eqb c 0x2C) (λ q. field-in f r) (λ q. r))
 
 set-in : (list : List SavedSetting) (i : ℕ) (s : SavedSetting) → AllInFields list → InFields s → AllInFields (set list i s)
 set-in [] i s r h = r
@@ -54,13 +54,13 @@ setting-in f r = record { version = r .version; fine = r .fine; coarse = r .coar
 
 line-in : (g : TextGathered) → InText g → InText (withSettingLine g)
 line-in g r =
-    by-side InText (ltb (g .count) 8) (λ e. record { list = set-in (g .list) (g .count) (settingOfFields (g .fields)) (r .list) (setting-in (g .fields) (r .fields)); fields = none-in })
+    by-test InText (ltb (g .count) 8) (λ e. record { list = set-in (g .list) (g .count) (settingOfFields (g .fields)) (r .list) (setting-in (g .fields) (r .fields)); fields = none-in })
     (λ e. record { list = r .list; fields = none-in })
 
 next-in : (g : TextGathered) (c : ℕ) → InText g → InText (gatheredAfter g c)
 unfolding gatheredAfter
 next-in g c r =
-    by-side InText (eqb c newline) (λ e. line-in g r) (λ e. record { list = r .list; fields = after-in (g .fields) c (r .fields) })
+    by-test InText (eqb c newline) (λ e. line-in g r) (λ e. record { list = r .list; fields = after-in (g .fields) c (r .fields) })
 
 over-in : (g : TextGathered) (text : List ℕ) → InText g → InText (gatheredOver g text)
 over-in g [] r = r

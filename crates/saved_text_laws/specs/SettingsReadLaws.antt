@@ -10,11 +10,12 @@ use lib.ListN.{length, drop, getD, set, replicate, length-append, length-map, Li
 use lib.Seq.{append-snoc, set-append-seam}
 use borrow.Author.Tests.{lt-ltb, le-ltb, eq-eqb, eqb-true, ne-eqb}
 use Rattle.bits.specs.Every.{and-left, and-right, and-both}
+use Rattle.bits.specs.Tests.{sides, by-test}
 use Rattle.text.specs.Text.{ascii, newline, digit, digits, decimal}
 use Rattle.saved_setting.specs.declared.SavedSetting.{SavedSetting}
 use Rattle.saved_setting.specs.SavedSettings.{isUnused, mayFollow, versionsInOrder, settingPlaces, isSavedList}
 use Rattle.saved_settings_laws.specs.Histories.{usedOf}
-use Rattle.saved_settings_laws.specs.OrderLaws.{by-side, sides, unused-follows, order-tail, order-head}
+use Rattle.saved_settings_laws.specs.OrderLaws.{unused-follows, order-tail, order-head}
 use Rattle.saved_text.specs.declared.Restored.{Restored}
 use Rattle.saved_lines.specs.SavedLines.{settingLine, placeLine, unused, placeLines, settingsText}
 use Rattle.saved_text.specs.SettingsText.{TextGathered, noFields, fieldsAfter, withSettingLine, gatheredAfter, gatheredOver, nothingGathered, numbersOf, carriageReturn, coverOf, startsBy, mayStand, atMostNewline, isLike, isSettingsText, restored}
@@ -34,7 +35,7 @@ restored-used s u = simp u
 
 restored-version : (s : SavedSetting) → placeRestored s .version ≡ s .version
 unfolding placeRestored
-restored-version s = by-side (λ (r : SavedSetting). r .version ≡ s .version) (isUnused s) (λ u. sym (eqb-true (s .version) 0 u)) (λ u. refl)
+restored-version s = by-test (λ (r : SavedSetting). r .version ≡ s .version) (isUnused s) (λ u. sym (eqb-true (s .version) 0 u)) (λ u. refl)
 
 restored-line : (s : SavedSetting) → placeLine (placeRestored s) ≡ placeLine s
 unfolding placeLine
@@ -179,7 +180,7 @@ returnless-digit d = simp (ne-eqb (digit d) carriageReturn (λ e. omega (arith, 
 returnless-digits : (k n : ℕ) → noReturns (digits k n) ≡ true
 returnless-digits zero n = refl
 returnless-digits (suc k) n =
-    by-side (λ (t : List ℕ). noReturns t ≡ true) (ltb n 10) (λ e. returnless-digit n)
+    by-test (λ (t : List ℕ). noReturns t ≡ true) (ltb n 10) (λ e. returnless-digit n)
     (λ e. returnless-append (digits k (n / 10)) (digit (n % 10) ∷ []) (returnless-digits k (n / 10)) (returnless-digit (n % 10)))
 
 returnless-field : (name : List ℕ) (n : ℕ) (rest : List ℕ) → noReturns name ≡ true → noReturns rest ≡ true → noReturns ((name ++ decimal n) ++ rest) ≡ true
@@ -196,7 +197,7 @@ returnless-line s =
 -- a place's line, or none
 by-place : (P : List ℕ → Type 0) (s : SavedSetting) → P [] → P (settingLine s) → P (placeLine s)
 unfolding placeLine
-by-place P s none line = by-side P (isUnused s) (λ u. none) (λ u. line)
+by-place P s none line = by-test P (isUnused s) (λ u. none) (λ u. line)
 
 returnless-lines : (n : ℕ) (list : List SavedSetting) → noReturns (placeLines n list) ≡ true
 returnless-lines zero list = refl
@@ -235,7 +236,7 @@ returns-like : (text : List ℕ) → noReturns text ≡ true → isLike (withRet
 returns-like [] h = refl
 returns-like (c ∷ text) h =
     let rest = also-like c (withReturns text) text (returnless-first c text h) (returns-like text (returnless-rest c text h)) in
-    by-side (λ (t : List ℕ). isLike t (c ∷ text) ≡ true) (eqb c newline)
+    by-test (λ (t : List ℕ). isLike t (c ∷ text) ≡ true) (eqb c newline)
     (λ e. return-like carriageReturn (c ∷ withReturns text) (c ∷ text) refl ∙ rest) (λ e. rest)
 
 -- ---- read back

@@ -14,9 +14,9 @@ use Rattle.stream.specs.declared.Answer.the-variants as answer
 use Rattle.stream.specs.Answers.{Outcome, isAnswer, answerFor}
 use Rattle.stream.specs.Stream.{State, fresh, finish, run, outcomes}
 use Rattle.stream.specs.Written.{Sent, AllWritable}
+use Rattle.stream.specs.Nibbles.{AllNibbles, no-nibble}
 use Rattle.recovery.specs.Collected.{collected}
-use Rattle.recovery.specs.WrittenLaws.{no-nibble, all-changed}
-use Rattle.reader_laws.specs.Passing.{Small}
+use Rattle.recovery.specs.WrittenLaws.{all-changed}
 use Rattle.signal.specs.Signal.{isCut}
 use Rattle.frame.specs.declared.Judge.the-variants.{Waiting}
 use Rattle.frame.specs.declared.Ruling.{Ruling}
@@ -45,7 +45,7 @@ use Rattle.verdict_laws.specs.CleanCaptureLaws.{handed-append}
 use Rattle.verdict_laws.specs.GoodCaptureLaws.{isBroken, first-not-broken}
 use Rattle.verdict_laws.specs.JudgedFrames.{some-append}
 use Rattle.verdict_laws.specs.ListedVerdict.{EndsIn}
-use Rattle.verdict_laws.specs.ListedVerdictLaws.{nibbles-small, verdict-told}
+use Rattle.verdict_laws.specs.ListedVerdictLaws.{verdict-told}
 use Rattle.slip_verdict.specs.SlipVerdict.{slipVerdict, FoundWithSlip}
 
 -- A broken line that is handed to the judge is a refused mark that counts.
@@ -155,7 +155,7 @@ slip-found fs front s back gs whole h i k n =
     ∙ or-true (some isBroken (map judgedLine before)) in
     let v : verdictOn p w ≡ slipVerdict (fs ++ gs) = broken-verdict told last (isLost p (x .at) (length (x .text))) b (fs ++ gs) (lost-complete l) in
     let c = counts-rulings p told last in
-    let small : Small w = nibbles-small (all-changed p g (bodyStart before s + i) (bodyStart before s + (i + k)) no-nibble) in
+    let small : AllNibbles w = all-changed p g (bodyStart before s + i) (bodyStart before s + (i + k)) no-nibble in
     record {
       one-uncounted = lost-counted l (findingsOn p w .tally) (c .complete) (c .broken);
       verdict-is = v;

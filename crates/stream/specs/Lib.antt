@@ -2,6 +2,8 @@ pub mod Answers
 pub mod AnswersLaws
 pub mod TextLengthLaws
 pub mod Stream
+pub mod TextLaws
 pub mod Written
+pub mod Nibbles
 pub mod NibblesLaws
 pub mod Starred

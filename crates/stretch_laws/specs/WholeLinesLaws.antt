@@ -7,11 +7,11 @@ use native.Mathlib.Omega.{arith}
 use lib.Dec.{leb}
 use lib.ListN.{length, length-append}
 use borrow.Author.Tests.{le-leb}
+use Rattle.bits.specs.Tests.{by-test}
 use Rattle.profile.specs.declared.Profile.{Profile}
 use Rattle.stream.specs.Written.{Sent, AllWritable, written, stream}
 use Rattle.reader.specs.Reader.{freshReader}
 use Rattle.recovery.specs.Calls.{asSent, upToEnd, endedBy, startFrom, linesFrom, lineCollector}
-use Rattle.recovery.specs.Damage.{by-test}
 use Rattle.recovery.specs.CutStream.{wholeBetween}
 use Rattle.refinement.specs.Runs.{RunCall, runsTaken, runsCollected, FinishLastRun}
 use Rattle.stretch_laws.specs.Stretches.{Segment, unchanged, replaced, cleanOf, changedOf, inUnchanged, wholeLines, Sublist, both-empty, left-out, as-well}

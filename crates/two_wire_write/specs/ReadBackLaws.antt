@@ -10,7 +10,7 @@ use lib.ListN.{length, getD}
 use Rattle.lent_buffer.specs.Filled.{used}
 use Rattle.two_wire.specs.declared.Sensor.{Sensor}
 use Rattle.message_data.specs.Registers.{registerCount, lastIndex, firstSettable, next, put}
-use Rattle.message_data.specs.RegisterLaws.{or-left, or-right}
+use Rattle.bits.specs.Tests.{or-left, or-right}
 use Rattle.two_wire.specs.Messages.{Acceptance, accepted, refused, messageOn, messagesOn, message}
 use Rattle.two_wire.specs.TwoWireLaws.{told, put-own, put-other, put-same, length-put, write-accepted}
 use Rattle.two_wire_write.specs.Writing.{someIndexPast, messages, writeOf, inThrees, lastListed}

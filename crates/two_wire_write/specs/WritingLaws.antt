@@ -1,6 +1,6 @@
 -- Laws of a list of pairs: its messages' length, and one pair of it after another.
 use mathlib.Core.Path.{_≡_, refl, sym, ap, _∙_}
-use mathlib.Core.Bool.{true, false, not, _||_, true≢false}
+use mathlib.Core.Bool.{false, not, _||_, true≢false}
 use mathlib.Core.List.{List, [], _∷_, _++_}
 use Prim.Native.Nat.{ℕ, suc, _+_, _*_, _/_, _%_, _<_, _≤_}
 use native.Mathlib.Numerals.{add-one, unary-clauses}

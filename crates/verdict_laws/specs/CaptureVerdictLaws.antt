@@ -11,6 +11,7 @@ use lib.Dec.{eqb, leb, ltb, lit≤}
 use lib.ListN.{length, getD}
 use borrow.Author.Tests.{lt-ltb, ltb-true, ltb-false, le-leb, lt-leb, leb-true, leb-false, eqb-true, ne-eqb, eq-eqb}
 use Rattle.bits.specs.Every.{and-left, and-right, and-both}
+use Rattle.bits.specs.Tests.{or-left, or-right, or-neither}
 use Rattle.refusal.specs.Refusal.{endWithoutLine, badKind, numberTooLarge}
 use Rattle.counts.specs.Counts.{allZero}
 use Rattle.counts.specs.Counts as counts
@@ -176,18 +177,6 @@ zero-there (n ∷ ns) (suc i) h = zero-there ns i (and-right (eqb n 0) _ h)
 zero-all : (ns : List ℕ) → ((i : ℕ) → i < length ns → getD ns i 0 ≡ 0) → allZero ns ≡ true
 zero-all [] h = refl
 zero-all (n ∷ ns) h = and-both (eqb n 0) _ (eq-eqb n 0 (h 0 (omega arith))) (zero-all ns (λ i l. h (suc i) (omega arith)))
-
-pub or-left : (a b : Bool) → (a || b) ≡ false → a ≡ false
-or-left true b h = h
-or-left false b h = refl
-
-pub or-right : (a b : Bool) → (a || b) ≡ false → b ≡ false
-or-right true b h = absurd (true≢false h)
-or-right false b h = h
-
-pub or-neither : (a b : Bool) → a ≡ false → b ≡ false → (a || b) ≡ false
-or-neither true b h g = h
-or-neither false b h g = g
 
 -- no mark is refused with a number below 10 exactly if none is with each of them
 numbered-no : (a : Answer) (n : ℕ) → n < refusals → isRefused a ≡ false → isRefusal n a ≡ false

@@ -9,6 +9,7 @@ use lib.Dec.{leb}
 use lib.ListN.{length, length-append, take, drop, take-append-drop}
 use borrow.Author.Tests.{le-leb, lt-leb, leb-false, le-ltb}
 use Rattle.bits.specs.Every.{and-both, and-right}
+use Rattle.bits.specs.Tests.{or-neither}
 use Rattle.counts.specs.CountsLaws.{some}
 use Rattle.line_code.specs.LineCode.{kindNumber}
 use Rattle.profile.specs.declared.Profile.{Profile}
@@ -41,7 +42,7 @@ use Rattle.findings.specs.Findings.{noFindings, takeOf, closeOf}
 use Rattle.findings.specs.FindingsLaws.{nothing-found}
 use Rattle.verdict.specs.Verdict.{isLost, verdictOf}
 use Rattle.verdict_laws.specs.CaptureVerdict.{found, captureVerdict, beforeFirst, fromFirst, wholeLines, someOutside, isRefused, markRefused}
-use Rattle.verdict_laws.specs.CaptureVerdictLaws.{or-neither, verdicts}
+use Rattle.verdict_laws.specs.CaptureVerdictLaws.{verdicts}
 use Rattle.verdict_laws.specs.CleanCapture.{HoldsFrame, verdictOn}
 use Rattle.verdict_laws.specs.JudgedFrames.{some-append, NoStray, front-no-stray, Framed, framed-none, framed-on, frame-framed, Tail, Begins, frame-begins, InPlace, in-place}
 

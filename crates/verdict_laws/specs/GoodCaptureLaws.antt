@@ -9,6 +9,7 @@ use lib.Dec.{eqb, leb, ltb}
 use lib.ListN.{length, length-append}
 use borrow.Author.Tests.{not-true, not-false, ltb-false, eqb-true, lt-leb}
 use Rattle.bits.specs.Every.{and-left, and-right, and-both}
+use Rattle.bits.specs.Tests.{or-left, or-right, or-neither}
 use Rattle.refusal.specs.Refusal.{badState, endWithoutLine, damagedCode, noEndOfLine, badKind, numberTooLarge, notTheLineDue, brokenLine}
 use Rattle.counts.specs.CountsLaws.{some}
 use Rattle.line_code.specs.declared.Kind.the-variants.{EOF}
@@ -34,7 +35,7 @@ use Rattle.frame_laws.specs.FrameLaws.{passes-high, rulings-append, after-snoc,
 use Rattle.tally.specs.Tally.{isUnfinished}
 use Rattle.verdict.specs.declared.Verdict.the-variants.{Good}
 use Rattle.verdict_laws.specs.CaptureVerdict.{captureVerdict, frameBroken, isOpening, beforeFirst, fromFirst, isWhole, isWaiting, someOutside, fewBefore, lineOutside, isRefused, markRefused}
-use Rattle.verdict_laws.specs.CaptureVerdictLaws.{or-left, or-right, or-neither, whole-line, verdicts}
+use Rattle.verdict_laws.specs.CaptureVerdictLaws.{whole-line, verdicts}
 use Rattle.verdict_laws.specs.JudgedFrames.{some-append, some-parts, tail-waits}
 use Rattle.verdict_laws.specs.CleanCaptureLaws.{handed-append}
 use Rattle.verdict_laws.specs.GoodCapture.{isGoing, allGoing, FrameByFrame, unfinished, frame-first}

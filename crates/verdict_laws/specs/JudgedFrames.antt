@@ -9,6 +9,7 @@ use lib.Dec.{eqb, leb}
 use lib.ListN.{length, drop, getD}
 use borrow.Author.Tests.{eqb-true, le-leb}
 use Rattle.bits.specs.Every.{and-left, and-right}
+use Rattle.bits.specs.Tests.{or-left, or-right, or-neither}
 use Rattle.counts.specs.CountsLaws.{some}
 use Rattle.line_code.specs.declared.Kind.{Kind}
 use Rattle.line_code.specs.declared.Kind.the-variants.{BL, SOF}
@@ -27,7 +28,7 @@ use Rattle.frame.specs.Calls.{Line, called, after, rulings, isComplete, isBreak
 use Rattle.frame_laws.specs.CompleteFrames.{toComplete}
 use Rattle.frame_laws.specs.FrameLaws.{after-append, rulings-append, frame-complete, first-is, Effect, wrongKind, wrongNumber, waits, breaks, strays, starts, restarts, goes, ends, effect, reached-passes, after-snoc}
 use Rattle.verdict_laws.specs.CaptureVerdict.{isOpening, beforeFirst, fromFirst, isWhole, wholeLines, isWaiting, someOutside}
-use Rattle.verdict_laws.specs.CaptureVerdictLaws.{or-left, or-right, or-neither, still-waits}
+use Rattle.verdict_laws.specs.CaptureVerdictLaws.{still-waits}
 
 -- Rulings.
 

@@ -2,7 +2,7 @@
 -- the answers bring.
 use mathlib.Core.Path.{_≡_, refl, _∙_, ap, ap₂, sym, subst}
 use mathlib.Core.Bool.{Bool, true, false}
-use mathlib.Core.List.{List, [], _++_, append-assoc, map}
+use mathlib.Core.List.{List, _++_, append-assoc, map}
 use Prim.Native.Nat.{ℕ, _<_, min}
 use native.Mathlib.Omega.{arith}
 use lib.Dec.{ltb, lit≤}
@@ -19,13 +19,13 @@ use Rattle.stream.specs.declared.Mark.the-variants.{NoMark, Open}
 use Rattle.stream.specs.Answers.{Outcome, answerFor}
 use Rattle.stream.specs.Stream.{State, fresh, finish, run, step, outcomes}
 use Rattle.stream.specs.Written.{Sent, nibbles, mostText, AllWritable}
+use Rattle.stream.specs.Nibbles.{AllNibbles, no-nibble, and-nibble}
+use Rattle.stream.specs.NibblesLaws.{all-nibbles-take, all-nibbles-drop}
 use Rattle.reader.specs.declared.Reader.{Reader}
 use Rattle.reader_head.specs.Head.{countStop}
 use Rattle.reader.specs.Reader.{freshReader, feedOf}
-use Rattle.reader_laws.specs.Passing.{Small, small-none, small-more}
-use Rattle.reader_laws.specs.SmallLaws.{small-take, small-drop}
 use Rattle.recovery.specs.CutStream.{cutOut}
-use Rattle.recovery.specs.WrittenLaws.{AllNibbles, no-nibble, and-nibble, all-changed}
+use Rattle.recovery.specs.WrittenLaws.{all-changed}
 use Rattle.refinement.specs.Refine.{Follows}
 use Rattle.refinement.specs.RefineLaws.{fresh-follows, feed-steps, finish-steps}
 use Rattle.findings.specs.declared.Findings.{Findings}
@@ -56,11 +56,11 @@ record Holds (p : Profile) (f : Findings) (s : State) (w : List ℕ) (l : FrameL
   findings-same : l .findings ≡ found f (map answerFor (outcomes p s w))
   follows : Follows p (l .reader) (run p s w)
 
-holds : (p : Profile) {w : List ℕ} → Small w → (f : Findings) (r : Reader) (s : State) → Follows p r s
+holds : (p : Profile) {w : List ℕ} → AllNibbles w → (f : Findings) (r : Reader) (s : State) → Follows p r s
     → Holds p f s w (listAfter (record { reader = r; findings = f }) w)
 unfolding afterNibble
-holds p small-none f r s h = record { findings-same = refl; follows = h }
-holds p (small-more {n} {t} l q) f r s h =
+holds p no-nibble f r s h = record { findings-same = refl; follows = h }
+holds p (and-nibble {n} {t} l q) f r s h =
     let x = feed-steps p r s n longest l (body-small p) h in
     let rest = holds p q (takeOf f (answerFor (feedOf r n longest .outcome)) .findings) (feedOf r n longest .reader) (step p s n .state) (x .follows) in
     record {
@@ -90,7 +90,7 @@ by-parts : (f g : Findings) (a b : Answer) (x y : Bool) → f ≡ g → a ≡ b 
 by-parts f g a b x y e d c = ap₂ (λ (h : Findings) (i : Answer). verdictOf (closeOf h i .findings) x) e d ∙ ap (verdictOf (closeOf g b .findings)) c
 
 -- the verdict that a lister would give at the end is the one on the nibbles it listed
-pub lister-verdict : (p : Profile) {w : List ℕ} → Small w → listerVerdict (listAfter (freshLister p) w) ≡ verdictOn p w
+pub lister-verdict : (p : Profile) {w : List ℕ} → AllNibbles w → listerVerdict (listAfter (freshLister p) w) ≡ verdictOn p w
 lister-verdict p {w} q =
     let l : FrameLister = listAfter (freshLister p) w in
     let h = holds p q (noFindings p) (freshReader p) fresh (fresh-follows p) in
@@ -114,7 +114,7 @@ end-ends : (l : FrameLister) → EndsIn (endText l) (verdictLine (listerVerdict 
 end-ends l = ends-on (newsLine (lastFound l .news)) (report-ends (lastFound l .findings) (lostAt l) (listerVerdict l))
 
 -- the law: whatever the nibbles, the text of `frames` ends in the line of the verdict on them
-pub verdict-told : (p : Profile) {w : List ℕ} → Small w → EndsIn (endText (listAfter (freshLister p) w)) (verdictLine (verdictOn p w))
+pub verdict-told : (p : Profile) {w : List ℕ} → AllNibbles w → EndsIn (endText (listAfter (freshLister p) w)) (verdictLine (verdictOn p w))
 verdict-told p {w} q =
     let l : FrameLister = listAfter (freshLister p) w in
     subst (λ (v : Verdict). EndsIn (endText l) (verdictLine v)) (lister-verdict p q) (end-ends l)
@@ -126,15 +126,10 @@ pieces-told p pieces bytes {m} c =
     let w : List ℕ = nibbles (endToEnd pieces) in
     subst (λ (l : FrameLister). EndsIn (endText l) (verdictLine (verdictOn p w))) (sym (frames-listed c .0)) (verdict-told p (bytes-small (endToEnd pieces) bytes))
 
--- a clean stream's nibbles are nibbles
-pub nibbles-small : {w : List ℕ} → AllNibbles w → Small w
-nibbles-small no-nibble = small-none
-nibbles-small (and-nibble {n} l h) = small-more {n = n} (omega arith) (nibbles-small h)
-
 -- and of a clean capture that holds a whole frame, in GOOD
 pub good-told : (p : Profile) {fs : List (List Sent)} → AllFrames p fs → AllWritable p (allLines fs) → (i n : ℕ) → HoldsFrame fs i n
     → EndsIn (endText (listAfter (freshLister p) (cutOut (allLines fs) i n))) (ascii "GOOD\n")
 good-told p {fs} h g i n c =
     let w : List ℕ = cutOut (allLines fs) i n in
-    let small : Small w = small-take (small-drop (nibbles-small (all-changed p g 0 0 no-nibble)) i) n in
+    let small : AllNibbles w = all-nibbles-take (all-nibbles-drop (all-changed p g 0 0 no-nibble) i) n in
     subst (λ (v : Verdict). EndsIn (endText (listAfter (freshLister p) w)) (verdictLine v)) (clean-good p h g i n c) (verdict-told p small)

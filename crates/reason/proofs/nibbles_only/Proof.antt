@@ -4,7 +4,7 @@ use Prim.Native.Nat.{_≤_, _-_}
 use lib.ListN.{length, drop}
 use borrow.Author.Needs.{needs}
 use borrow.Author.Tests.{le-leb, lt-leb}
-use Rattle.reason.specs.Explanation.{nibblesOnly}
+use Rattle.stream.specs.Nibbles.{nibblesOnly}
 use Rattle.reason.proofs.Steps.{nibbles-step, nibbles-end}
 use Rattle.reason.proofs.nibbles_only.Statement.{statement}
 use Rattle.reason.proofs.nibbles_only.Tie as tie
