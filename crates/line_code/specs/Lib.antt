@@ -1,2 +1,3 @@
 pub mod LineCode
 pub mod LineCodeLaws
+pub mod Parts

@@ -1,4 +1,5 @@
 pub mod Text
+pub mod Parts
 pub mod TextLaws
 pub mod Put
 pub mod PutLaws

@@ -7,7 +7,7 @@ use native.Mathlib.Numerals.{add-one}
 use native.Mathlib.Omega.{arith}
 use borrow.Author.Tests.{leb-true, leb-false}
 use lib.Dec.{leb}
-use lib.ListN.{length, take, drop, set, getD, length-append, length-drop}
+use lib.ListN.{length, take, drop, set, getD, length-append, length-drop, take-append-drop}
 use lib.Seq.{sets, length-sets, sets-eq, set-out, drop-drop, take-suc, take-all, take-append-seam}
 use Rattle.lent_buffer.specs.StoringLaws.{sets-append, sets-front}
 use Rattle.text.specs.Put.{Puts, Put, onFront, AtFront}
@@ -46,6 +46,10 @@ then {d} {d₁} {d₂} {v} {w} {at} {r₁} {r₂} p q =
 pub puts-none : (d : List ℕ) (at : ℕ) → Puts d at [] at d
 puts-none d at = record { place = omega arith; stored = refl }
 
+-- beyond the end
+pub puts-full : (d v : List ℕ) (at : ℕ) → length d ≤ at → Puts d at v at d
+puts-full d v at h = record { place = omega arith; stored = sym (sets-out v d at h) }
+
 -- one byte, where there is room, and where there is none
 pub puts-one : (d : List ℕ) (at b : ℕ) → at < length d → Puts d at (b ∷ []) (at + 1) (set d at b)
 puts-one d at b h = record { place = omega arith; stored = refl }
@@ -62,6 +66,18 @@ puts-more s i h p q = rw (add-one i, take-suc s i 0) (then p q)
 -- a text to its end
 pub puts-whole : (s : List ℕ) (i : ℕ) {d d₁ : List ℕ} {at r : ℕ} → length s ≤ i → Puts d at (take i s) r d₁ → Puts d at s r d₁
 puts-whole s i {d} {d₁} {at} {r} h p = subst (λ t. Puts d at t r d₁) (take-all i s h) p
+
+-- a text up to the buffer's end
+pub puts-cut : (s : List ℕ) (i : ℕ) {d d₁ : List ℕ} {at r : ℕ} → length d ≤ r → Puts d at (take i s) r d₁ → Puts d at s r d₁
+puts-cut s i {d} {d₁} {at} {r} h p =
+    let end = puts-full d₁ (drop i s) r (omega (arith, puts-length p)) in
+    subst (λ t. Puts d at t r d₁) (take-append-drop i s) (then p end)
+
+-- what follows a place of a text, to its end
+pub puts-rest :
+    (s : List ℕ) (i n : ℕ) {d d₁ t : List ℕ} {at r : ℕ}
+    → length s ≤ i + n → drop i s ≡ t → Puts d at (take n (drop i s)) r d₁ → Puts d at t r d₁
+puts-rest s i n {d} {d₁} {t} {at} {r} h e p = subst (λ v. Puts d at v r d₁) (take-all n (drop i s) (omega (arith, length-drop i s)) ∙ e) p
 
 -- Whole.
 

@@ -5,8 +5,10 @@
 // stays. So texts put one after another are their concatenation, put at once. Cost: linear in the text.
 ghost use mathlib.Core.Path.{_≡_};
 ghost use mathlib.Core.List.{_∷_, []};
-ghost use Prim.Native.Nat.{_<_};
-ghost use Rattle.text.specs.Text.{digits, decimal, hexDigit, hexByte};
+ghost use Prim.Native.Nat.{_+_, _%_, _<_, _≤_};
+ghost use lib.ListN.{length, take, drop};
+ghost use Rattle.text.specs.Text.{digit, decimal, hexDigit, hexByte};
+ghost use Rattle.text.specs.Parts.{isMore};
 ghost use Rattle.text.specs.Put.{Puts};
 
 // The decimal digits of the greatest u64.
@@ -16,20 +18,26 @@ const PLACES: usize = 20;
 pub fn put(text: &[u8], out: &mut [u8], at: usize) -> usize
     ensures { λ r. ⌜ Puts (now (out .entry)) at (now (text .entry)) r (now (out .exit)) ⌝ }
 {
-    let mut next = at;
-    let mut i: usize = 0;
-    while i < text.len() {
-        next = put_byte(text[i], out, next);
-        i += 1;
+    if out.len() <= at {
+        return at;
     }
-    next
+    let n = text.len();
+    let room = out.len() - at;
+    if n <= room {
+        copy(text, n, out, at);
+        return at + n;
+    }
+    copy(text, room, out, at);
+    at + room
 }
 
 // A number in decimal.
 pub fn put_decimal(n: u64, out: &mut [u8], at: usize) -> usize
     ensures { λ r. ⌜ Puts (now (out .entry)) at (decimal n) r (now (out .exit)) ⌝ }
 {
-    put_digits(PLACES, n, out, at)
+    let mut places = [b'0'; PLACES];
+    let first = fill_digits(n, &mut places);
+    put(&places[first..], out, at)
 }
 
 // A byte in hex, of two digits.
@@ -40,18 +48,49 @@ pub fn put_hex(byte: u8, out: &mut [u8], at: usize) -> usize
     put_byte(hex_digit(byte % 16), out, next)
 }
 
-// The decimal digits of a number that has at most so many places.
-fn put_digits(places: usize, n: u64, out: &mut [u8], at: usize) -> usize
-    ensures { λ r. ⌜ Puts (now (out .entry)) at (digits places n) r (now (out .exit)) ⌝ }
+// Puts the first n bytes of a text at a place.
+fn copy(text: &[u8], n: usize, out: &mut [u8], at: usize)
+    requires { ⌜ (n ≤ length (now text)) × (at + n ≤ length (now out)) ⌝ }
+    ensures { λ _. ⌜ Puts (now (out .entry)) at (take n (now (text .entry))) (at + n) (now (out .exit)) ⌝ }
 {
-    if places == 0 {
-        return at;
+    let mut i: usize = 0;
+    while i < n {
+        out[at + i] = text[i];
+        i += 1;
     }
-    if n < 10 {
-        return put_byte(b'0' + n as u8, out, at);
+}
+
+// Puts the decimal digits of a number at the end of the places, the last one first, and gives the place of the first.
+fn fill_digits(n: u64, places: &mut [u8]) -> usize
+    requires { ⌜ length (now places) ≡ 20 ⌝ }
+    ensures { λ r. ⌜ (r < 20) × (drop r (now (places .exit)) ≡ decimal n) ⌝ }
+{
+    let mut rest = n;
+    let mut left = PLACES;
+    while is_more(left, rest) {
+        left -= 1;
+        places[left] = last_digit(rest);
+        rest = rest / 10;
     }
-    let next = put_digits(places - 1, n / 10, out, at);
-    put_byte(b'0' + (n % 10) as u8, out, next)
+    left -= 1;
+    places[left] = last_digit(rest);
+    left
+}
+
+// Whether a number has more digits than one, and places left for them.
+fn is_more(left: usize, n: u64) -> bool
+    ensures { λ r. ⌜ r ≡ isMore left n ⌝ }
+{
+    if 1 < left {
+        return 10 <= n;
+    }
+    false
+}
+
+fn last_digit(n: u64) -> u8
+    ensures { λ r. ⌜ r ≡ digit (n % 10) ⌝ }
+{
+    b'0' + (n % 10) as u8
 }
 
 fn hex_digit(n: u8) -> u8
