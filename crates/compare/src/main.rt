@@ -110,7 +110,7 @@ fn between(first: &[u8], second: &[u8], output: usize) {
 // Writes the summary.
 fn say_summary(summary: Summary) {
     let mut text = [0u8; TEXT];
-    let end = summary.put(&mut text, 0);
+    let end = summary_words::put_summary(summary, &mut text, 0);
     if text.len() < end {
         return;
     }

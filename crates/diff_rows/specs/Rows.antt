@@ -9,8 +9,8 @@ use Rattle.text.specs.Put.{Puts}
 use Rattle.line_list.specs.Lines.{fullLines}
 use Rattle.difference.specs.Difference.{Difference, differences}
 use Rattle.difference.specs.Next.{nextNumber, nextDifferences, howFar}
-use Rattle.diff_summary.specs.Front.{changeOf}
-use Rattle.diff_summary.specs.Words.{changeRow}
+use Rattle.change.specs.Front.{changeOf}
+use Rattle.change_row.specs.ChangeRow.{changeRow}
 use Rattle.diff_rows.specs.declared.Piece.{Piece}
 
 -- a row for each difference

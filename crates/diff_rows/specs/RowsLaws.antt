@@ -21,9 +21,9 @@ use Rattle.difference.specs.ReadBack.{frontOf, frontSize, differencesIn}
 use Rattle.line_diff_laws.specs.Applied.{Each, done, also}
 use Rattle.line_diff_laws.specs.BytesLaws.{SizedIn, bytes-back, sized-between}
 use Rattle.line_diff_laws.specs.CompareLaws.{AllBytes}
-use Rattle.diff_summary.specs.Front.{changeOf}
-use Rattle.diff_summary.specs.FrontLaws.{differences-step}
-use Rattle.diff_summary.specs.Words.{changeRow, lineWord, kindWord, kindsWords, pairWords}
+use Rattle.change.specs.Front.{changeOf}
+use Rattle.change.specs.FrontLaws.{differences-step}
+use Rattle.change_row.specs.ChangeRow.{changeRow, lineWord, kindWord, kindsWords, pairWords}
 use Rattle.diff_rows.specs.Rows.{rowsText, allRows, passed, pieces, rowsEndToEnd}
 
 rows-append : (ds es : List Difference) → rowsText (ds ++ es) ≡ rowsText ds ++ rowsText es

@@ -1,7 +1,7 @@
 // The differences between two lists of lines as rows of text, a number after another (paper 02, A13).
 //
 // In: what is left of two lists (crate line_list), and a lent buffer. Out: the rows of the next number's differences at the buffer's front, as
-// crate diff_summary puts them; where they end; and how far each list is passed. Where neither is, no number is left. So a caller that writes
+// crate change_row puts them; where they end; and how far each list is passed. Where neither is, no number is left. So a caller that writes
 // the rows and goes on from there writes one row for each difference of the lists, in their order. Nothing is refused: a buffer of ROOM has
 // room for every number's rows; in a shorter one they are cut. Cost: linear in the line.
 ghost use Rattle.text.specs.Put.{Puts};
@@ -46,8 +46,8 @@ fn put_rows(records: &[u8], out: &mut [u8], at: usize) -> usize
     let mut i: usize = 0;
     while i < records.len() {
         let rest = &records[i..];
-        next = diff_summary::put_row(diff_summary::front(rest), out, next);
-        let size = diff_summary::front_size(rest);
+        next = change_row::put_row(change::front(rest), out, next);
+        let size = change::front_size(rest);
         if rest.len() < size {
             return next;
         }

@@ -5,10 +5,10 @@ use Prim.Native.Nat.{ℕ, _-_}
 use lib.Dec.{eqb, ltb}
 use Rattle.counts.specs.Counts.{oneMore}
 use Rattle.difference.specs.Difference.{Difference}
-use Rattle.diff_summary.specs.declared.Change.{Change}
-use Rattle.diff_summary.specs.declared.Change.the-variants.{First, Second, Kinds, Bytes}
+use Rattle.change.specs.declared.Change.{Change}
+use Rattle.change.specs.declared.Change.the-variants.{First, Second, Kinds, Bytes}
 use Rattle.diff_summary.specs.declared.Summary.{Summary}
-use Rattle.diff_summary.specs.Front.{changeOf}
+use Rattle.change.specs.Front.{changeOf}
 
 -- how far two bytes are apart
 unfoldable pub absoluteDifference : ℕ → ℕ → ℕ

@@ -14,7 +14,7 @@ use Rattle.difference.specs.Difference.{Difference, bothKinds, bothBytes, unles
 use Rattle.difference.specs.Next.{nextDifferences, howFar}
 use Rattle.difference.specs.NextLaws.{Stepped, stepped}
 use Rattle.diff_summary.specs.declared.Summary.{Summary}
-use Rattle.diff_summary.specs.Front.{changeOf}
+use Rattle.change.specs.Front.{changeOf}
 use Rattle.diff_summary.specs.Summary.{withChange, withDifferences}
 
 counted-append : (s : Summary) (ds es : List Difference) → withDifferences s (ds ++ es) ≡ withDifferences (withDifferences s ds) es

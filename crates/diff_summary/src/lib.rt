@@ -1,36 +1,21 @@
-// A summary of the differences between two lists of lines, and each difference as a row of text (paper 02, A13).
+// A summary of the differences between two lists of lines (paper 02, A13).
 //
-// In: two lists (crate line_list), or the bytes of differences (crate difference). Out: how many lines one list only holds, how many numbers
-// have two kinds, how many pixels differ, in how many lines and by how much at most; and the texts of these in ASCII, put into a lent buffer
-// as crate text puts them. Nothing is refused: any bytes are read as a difference, what is missing at the end as 0. Cost: linear.
+// In: two lists (crate line_list). Out: how many lines one list only holds, how many numbers have two kinds, how many pixels differ, in how many
+// lines and by how much at most. Nothing is refused. Cost: linear.
 ghost use mathlib.Core.Path.{_≡_};
 ghost use mathlib.Core.List.{[]};
-ghost use Prim.Native.Nat.{_+_, _≤_, _<_};
+ghost use Prim.Native.Nat.{_≤_};
 ghost use lib.Dec.{eqb};
-ghost use lib.ListN.{length, getD};
-ghost use Rattle.text.specs.Put.{Puts};
-ghost use Rattle.line_list.specs.Lines.{lineSize, fromTwo, frontLine, fullLines};
+ghost use lib.ListN.{length};
+ghost use Rattle.line_list.specs.Lines.{lineSize, frontLine, fullLines};
 ghost use Rattle.difference.specs.Difference.{bothKinds, bothBytes, unless, placesFrom, betweenLines, differences};
 ghost use Rattle.difference.specs.Next.{nextDifferences};
-ghost use Rattle.difference.specs.ReadBack.{frontOf, frontSize};
-ghost use Rattle.diff_summary.specs.Front.{changeOf};
 ghost use Rattle.diff_summary.specs.Summary.{absoluteDifference, greaterOf, fresh, withCounts, linesWith, leastWith, withPixel, withChange, withDifferences, summaryOf};
-ghost use Rattle.diff_summary.specs.Words.{changeRow, lineWord, kindWord, kindsWords, pairWords, countText, placesText, summaryText};
+use change::Change;
 use counts::one_more;
-use line_code::Kind;
 use line_list::HEAD;
 use line_list::LINE;
 use line_list::NO_LINE;
-use text::put;
-use text::put_decimal;
-
-// A difference without a body: of a line that one list only holds, its number; of a number, both kinds; of a number and a place, both bytes.
-pub enum Change {
-    First(usize),
-    Second(usize),
-    Kinds(usize, u8, u8),
-    Bytes(usize, usize, u8, u8),
-}
 
 // The lines that the first and the second list only hold, and the numbers with two kinds; the pixels that differ, the lines they are in, the
 // first and the last of these, and the most that two of them differ by.
@@ -43,65 +28,6 @@ pub struct Summary {
     pub least: usize,
     pub last: usize,
     pub most: u8,
-}
-
-// The difference that some bytes start with.
-pub fn front(records: &[u8]) -> Change
-    ensures { λ r. ⌜ r ≡ changeOf (frontOf (now (records .entry))) ⌝ }
-{
-    let tag = byte(records, 0);
-    let number = two(records, 1);
-    if tag == difference::ONLY_FIRST {
-        return Change::First(number);
-    }
-    if tag == difference::ONLY_SECOND {
-        return Change::Second(number);
-    }
-    if tag == difference::BOTH_KINDS {
-        return Change::Kinds(number, byte(records, 3), byte(records, 4));
-    }
-    Change::Bytes(number, two(records, 3), byte(records, 5), byte(records, 6))
-}
-
-// The bytes of the difference that some bytes start with.
-pub fn front_size(records: &[u8]) -> usize
-    ensures { λ r. ⌜ r ≡ frontSize (now (records .entry)) ⌝ }
-{
-    let tag = byte(records, 0);
-    if tag == difference::ONLY_FIRST {
-        return difference::WHOLE_SIZE;
-    }
-    if tag == difference::ONLY_SECOND {
-        return difference::WHOLE_SIZE;
-    }
-    if tag == difference::BOTH_KINDS {
-        return difference::KINDS_SIZE;
-    }
-    difference::BYTES_SIZE
-}
-
-// The number in two bytes at a place, high byte first.
-fn two(bytes: &[u8], i: usize) -> usize
-    requires { ⌜ i < 256 ⌝ }
-    ensures { λ r. ⌜ (r ≡ fromTwo (getD (now (bytes .entry)) i 0) (getD (now (bytes .entry)) (i + 1) 0)) × (r < 65536) ⌝ }
-{
-    256 * wide(byte(bytes, i)) + wide(byte(bytes, i + 1))
-}
-
-fn wide(x: u8) -> usize
-    ensures { λ r. ⌜ (r ≡ x) × (r < 256) ⌝ }
-{
-    x as usize
-}
-
-// The byte at a place, 0 past the end.
-fn byte(bytes: &[u8], i: usize) -> u8
-    ensures { λ r. ⌜ r ≡ getD (now (bytes .entry)) i 0 ⌝ }
-{
-    if i < bytes.len() {
-        return bytes[i];
-    }
-    0
 }
 
 // The summary of all differences between two lists of lines (crate line_list), number after number.
@@ -292,123 +218,4 @@ fn greater_of(x: u8, y: u8) -> u8
         return y;
     }
     x
-}
-
-// The texts.
-
-// Puts the row of a difference at a place, and gives the place after it; as each function below.
-pub fn put_row(change: Change, out: &mut [u8], at: usize) -> usize
-    ensures { λ r. ⌜ Puts (now (out .entry)) at (changeRow change) r (now (out .exit)) ⌝ }
-{
-    match change {
-        Change::First(number) => {
-            let at = put_line(number, out, at);
-            put(b" only in the first capture\n", out, at)
-        }
-        Change::Second(number) => {
-            let at = put_line(number, out, at);
-            put(b" only in the second capture\n", out, at)
-        }
-        Change::Kinds(number, x, y) => {
-            let at = put_line(number, out, at);
-            let at = put(b" kind", out, at);
-            put_kinds(x, y, out, at)
-        }
-        Change::Bytes(number, place, x, y) => {
-            let at = put_line(number, out, at);
-            let at = put(b" pixel ", out, at);
-            let at = put_decimal(place as u64, out, at);
-            put_pair(x, y, out, at)
-        }
-    }
-}
-
-fn put_line(number: usize, out: &mut [u8], at: usize) -> usize
-    ensures { λ r. ⌜ Puts (now (out .entry)) at (lineWord number) r (now (out .exit)) ⌝ }
-{
-    let at = put(b"line ", out, at);
-    put_decimal(number as u64, out, at)
-}
-
-// Both kinds in words.
-fn put_kinds(x: u8, y: u8, out: &mut [u8], at: usize) -> usize
-    ensures { λ r. ⌜ Puts (now (out .entry)) at (kindsWords x y) r (now (out .exit)) ⌝ }
-{
-    let at = put(b": ", out, at);
-    let at = put_kind(x, out, at);
-    let at = put(b", then ", out, at);
-    let at = put_kind(y, out, at);
-    put(b"\n", out, at)
-}
-
-// A kind in words, or any other byte as it is.
-fn put_kind(kind: u8, out: &mut [u8], at: usize) -> usize
-    ensures { λ r. ⌜ Puts (now (out .entry)) at (kindWord kind) r (now (out .exit)) ⌝ }
-{
-    if kind == Kind::BL.number() {
-        return put(b"blank", out, at);
-    }
-    if kind == Kind::BK.number() {
-        return put(b"black", out, at);
-    }
-    if kind == Kind::VL.number() {
-        return put(b"visible", out, at);
-    }
-    if kind == Kind::SOF.number() {
-        return put(b"start of frame", out, at);
-    }
-    if kind == Kind::EOF.number() {
-        return put(b"end of frame", out, at);
-    }
-    put_decimal(kind as u64, out, at)
-}
-
-fn put_pair(x: u8, y: u8, out: &mut [u8], at: usize) -> usize
-    ensures { λ r. ⌜ Puts (now (out .entry)) at (pairWords x y) r (now (out .exit)) ⌝ }
-{
-    let at = put(b": ", out, at);
-    let at = put_decimal(x as u64, out, at);
-    let at = put(b", then ", out, at);
-    let at = put_decimal(y as u64, out, at);
-    put(b"\n", out, at)
-}
-
-impl Summary {
-    // Puts the summary: a count a line, and where the pixels are.
-    pub fn put(self, out: &mut [u8], at: usize) -> usize
-        ensures { λ r. ⌜ Puts (now (out .entry)) at (summaryText self) r (now (out .exit)) ⌝ }
-    {
-        let at = put_count(b"lines only in the first capture: ", self.first, out, at);
-        let at = put_count(b"lines only in the second capture: ", self.second, out, at);
-        let at = put_count(
-            b"lines of two kinds (5 where only one capture has borders): ",
-            self.kinds,
-            out,
-            at,
-        );
-        let at = put_count(b"pixels that differ: ", self.pixels, out, at);
-        self.put_places(out, at)
-    }
-
-    // Puts where the pixels are, and by how much they differ, where there are any.
-    fn put_places(self, out: &mut [u8], at: usize) -> usize
-        ensures { λ r. ⌜ Puts (now (out .entry)) at (placesText self) r (now (out .exit)) ⌝ }
-    {
-        if self.pixels == 0 {
-            return at;
-        }
-        let at = put_count(b"lines they are in: ", self.lines, out, at);
-        let at = put_count(b"first of these lines: ", self.least as u64, out, at);
-        let at = put_count(b"last of these lines: ", self.last as u64, out, at);
-        put_count(b"greatest difference: ", self.most as u64, out, at)
-    }
-}
-
-// Puts words, a number, and a newline.
-fn put_count(words: &[u8], n: u64, out: &mut [u8], at: usize) -> usize
-    ensures { λ r. ⌜ Puts (now (out .entry)) at (countText (now (words .entry)) n) r (now (out .exit)) ⌝ }
-{
-    let at = put(words, out, at);
-    let at = put_decimal(n, out, at);
-    put(b"\n", out, at)
 }

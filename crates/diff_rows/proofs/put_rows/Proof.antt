@@ -8,8 +8,8 @@ use Rattle.line_list.specs.LinesLaws.{lentFrom}
 use Rattle.difference.specs.ReadBack.{differencesIn}
 use Rattle.difference.specs.RestLaws.{Rest, rest-all, rest-put, rest-none, puts-is}
 use Rattle.difference.specs.ReadBack.{frontSize}
-use Rattle.diff_summary.specs.FrontLaws.{size-some}
-use Rattle.diff_summary.specs.Words.{changeRow}
+use Rattle.change.specs.FrontLaws.{size-some}
+use Rattle.change_row.specs.ChangeRow.{changeRow}
 use Rattle.diff_rows.specs.Rows.{rowsText}
 use Rattle.diff_rows.specs.RowsLaws.{rows-at, rows-over}
 use Rattle.diff_rows.proofs.put_rows.Statement.{statement}
