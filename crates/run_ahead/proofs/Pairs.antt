@@ -40,7 +40,7 @@ from-dec : {l k : ℕ} → Dec (k ≤ l) → (l < k) ⊎ (k ≤ l)
 from-dec (yes a) = inr a
 from-dec (no h) = inl (lt-of-not-le h)
 
-lt-or-ge : (l k : ℕ) → (l < k) ⊎ (k ≤ l)
+pub lt-or-ge : (l k : ℕ) → (l < k) ⊎ (k ≤ l)
 lt-or-ge l k = from-dec (decLe k l)
 
 -- A loop over pairs.
@@ -168,7 +168,7 @@ stray-two w s l =
 
 -- the count
 
-bump-one : (c : ℕ) → c < countStop → bump c ≡ c + 1
+pub bump-one : (c : ℕ) → c < countStop → bump c ≡ c + 1
 unfolding bump
 bump-one c l = simp (lt-ltb c countStop l)
 
@@ -365,7 +365,7 @@ led-to s h B i h′ B′ i′ h″ B″ i″ e f = e ∙ f
 -- A part of a text.
 
 -- that does not begin here
-pub not-here : (bound : ℕ) (s : List ℕ) (h : Head) (i : ℕ) → Through bound s h i → h .count < bound → isPair (h .window) s i (length s) ≡ false
+not-here : (bound : ℕ) (s : List ℕ) (h : Head) (i : ℕ) → Through bound s h i → h .count < bound → isPair (h .window) s i (length s) ≡ false
 not-here bound s h i (inl a) l = absurd (omega (arith, a, l))
 not-here bound s h i (inr e) l = e
 
@@ -393,6 +393,11 @@ here s h B i l t = record { leads = leads-here s h B i; within = l; through = t 
 pub reaches : {bound : ℕ} {s : List ℕ} {h : Head} {B : List ℕ} {from end w i : ℕ} {h′ : Head} {B′ : List ℕ} → Leads s h B from h′ B′ i → Stands s from end w i
     → Through bound s h′ i → Reaches bound s h B from (record { head = h′; at = i }) B′
 reaches e st t = record { leads = e; within = omega (arith, st .up-to, st .within); through = t }
+
+-- where it stops before its end, no pair stands
+pub reached-end : {bound : ℕ} {s : List ℕ} {h : Head} {B : List ℕ} {from : ℕ} {r : Reached} {B′ : List ℕ} → Reaches bound s h B from r B′ → r .head .count < bound
+    → LeadsTo s h B from (r .head) B′ (r .at)
+reached-end {bound} {s} {h} {B} {from} {r} {B′} e l = leads-to-end s h B from (r .head) B′ (r .at) (e .leads) (not-here bound s (r .head) (r .at) (e .through) l)
 
 -- All of it.
 

@@ -1,2 +1,3 @@
 pub mod Ahead
+pub mod Blocks
 pub mod Parts

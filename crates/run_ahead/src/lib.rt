@@ -10,12 +10,15 @@
 ghost use mathlib.Core.Path.{_≡_};
 ghost use mathlib.Core.List.{List};
 ghost use mathlib.Core.Logic.{_⊎_};
-ghost use Prim.Native.Nat.{ℕ, _≤_, _<_, _+_, _/_, _%_};
+ghost use mathlib.Core.Bool.{true, false};
+ghost use Prim.Native.Nat.{ℕ, _≤_, _<_, _+_, _*_, _/_, _%_};
 ghost use lib.ListN.{length, getD};
 ghost use Rattle.profile.specs.Profile.{longest};
 ghost use Rattle.run_ahead.specs.Ahead.{pastBody, isNear, aheadOf, AheadGives};
-ghost use Rattle.run_ahead.specs.Parts.{LeadsTo, Through, Reaches, isPair, bytePlace, slideByte, strayAfter, strayKept, byteKept};
+ghost use Rattle.run_ahead.specs.Parts.{LeadsTo, Reaches, isPair, bytePlace, slideByte, strayAfter, strayKept, byteKept};
+ghost use Rattle.run_ahead.specs.Blocks.{AllNibbles, Apart, Far, FarOn, windowFrom, packedInto, laterCount};
 use mark_text::Kept;
+use period::Nibbles;
 use profile::Profile;
 use reader_head::Head;
 
@@ -42,16 +45,32 @@ pub fn ahead(h: Head, body: &mut [u8], s: &[u8], from: usize) -> Reached
         return Reached { head: h, at: from };
     }
     let a = before_body(h, s, from);
+    let begun = a.head;
+    if begun.count < BODY {
+        return a;
+    }
     let at = a.at;
-    let b = in_body(a.head, body, s, at);
+    let b = in_body(begun, body, s, at);
+    let past = b.head;
+    if past.count < PAST {
+        return b;
+    }
     let at = b.at;
-    past_body(b.head, s, at)
+    past_body(past, s, at)
 }
 
 // The count of a text's nibbles from which its body's bytes leave the window, and from which none is left to come.
 const BODY: u32 = 14;
 
 const PAST: u32 = BODY + 2 * Profile::LONGEST as u32;
+
+// The count at which a text's nibbles are no longer counted.
+const COUNT_STOP: u32 = Nibbles::MOST as u32 + 8;
+
+// The nibbles of a block; and how many pairs are taken before the first is tried, so that where marks are dense none is tried in vain.
+const BLOCK: usize = 32;
+
+const FEW: usize = 2;
 
 // The code of a text, and the two bytes after it.
 fn before_body(h: Head, s: &[u8], from: usize) -> Reached
@@ -84,14 +103,11 @@ fn before_body(h: Head, s: &[u8], from: usize) -> Reached
     Reached { head, at: i }
 }
 
-// The bytes of a text's body.
+// The bytes of a text's body, in pairs; and after a few, and again after each block that can't be taken, in blocks.
 fn in_body(h: Head, body: &mut [u8], s: &[u8], from: usize) -> Reached
-    requires { ⌜ (from ≤ length (now s)) × (h .count % 2 ≡ 0) × (length (now body) ≡ longest) × Through 14 (now s) h from ⌝ }
+    requires { ⌜ (from ≤ length (now s)) × (h .count % 2 ≡ 0) × (length (now body) ≡ longest) × (14 ≤ h .count) ⌝ }
     ensures { λ r. ⌜ Reaches pastBody (now (s .entry)) h (now (body .entry)) from r (now (body .exit)) ⌝ }
 {
-    if h.count < BODY {
-        return Reached { head: h, at: from };
-    }
     if PAST <= h.count {
         return Reached { head: h, at: from };
     }
@@ -104,6 +120,7 @@ fn in_body(h: Head, body: &mut [u8], s: &[u8], from: usize) -> Reached
     let mut stray = kept.stray;
     let mut j = place;
     let mut i = from;
+    let mut wait = FEW;
     while is_pair(window, s, i, end) {
         let b = top_byte(window);
         body[j] = b;
@@ -111,6 +128,17 @@ fn in_body(h: Head, body: &mut [u8], s: &[u8], from: usize) -> Reached
         window = slide_byte(window, s, i);
         j += 1;
         i += 2;
+        wait -= 1;
+        if wait == 0 {
+            wait = BLOCK / 2;
+            let n = far_pairs(window, stray, s, i, end);
+            if 0 < n {
+                pack(s, i - 8, body, j, n);
+                j += n;
+                i += 2 * n;
+                window = window_from(s, i - 8);
+            }
+        }
     }
     let kept = Kept {
         first: kept.first,
@@ -128,14 +156,11 @@ fn in_body(h: Head, body: &mut [u8], s: &[u8], from: usize) -> Reached
     Reached { head, at: i }
 }
 
-// What stands past a text's body.
+// What stands past a text's body, in the same way.
 fn past_body(h: Head, s: &[u8], from: usize) -> Reached
-    requires { ⌜ (from ≤ length (now s)) × Through pastBody (now s) h from ⌝ }
+    requires { ⌜ (from ≤ length (now s)) × (pastBody ≤ h .count) ⌝ }
     ensures { λ r. ⌜ ((body : List ℕ) → LeadsTo (now (s .entry)) h body from (r .head) body (r .at)) ⌝ }
 {
-    if h.count < PAST {
-        return Reached { head: h, at: from };
-    }
     let profile = h.profile;
     let at = h.at;
     let kept = h.kept;
@@ -144,11 +169,22 @@ fn past_body(h: Head, s: &[u8], from: usize) -> Reached
     let mut window = h.window;
     let mut stray = kept.stray;
     let mut i = from;
+    let mut wait = FEW;
     while is_pair(window, s, i, end) {
         stray = stray_after(stray, top_byte(window));
         window = slide_byte(window, s, i);
         count = reader_head::next_count(reader_head::next_count(count));
         i += 2;
+        wait -= 1;
+        if wait == 0 {
+            wait = BLOCK / 2;
+            let n = far_pairs(window, stray, s, i, end);
+            if 0 < n {
+                count = later_count(count, n);
+                i += 2 * n;
+                window = window_from(s, i - 8);
+            }
+        }
     }
     let kept = Kept {
         first: kept.first,
@@ -163,6 +199,181 @@ fn past_body(h: Head, s: &[u8], from: usize) -> Reached
         kept,
     };
     Reached { head, at: i }
+}
+
+// The count of a text's nibbles with so many pairs more, held at its stop.
+fn later_count(count: u32, pairs: usize) -> u32
+    requires { ⌜ 2 * pairs < 18446744073709551616 ⌝ }
+    ensures { λ r. ⌜ r ≡ laterCount pairs count ⌝ }
+{
+    if COUNT_STOP <= count {
+        return count;
+    }
+    if (COUNT_STOP - count) as usize <= 2 * pairs {
+        return COUNT_STOP;
+    }
+    count + 2 * pairs as u32
+}
+
+// How many pairs from a place on are taken in blocks, up to an end: none where the window does not show the eight nibbles before.
+fn far_pairs(window: u32, stray: bool, s: &[u8], from: usize, end: usize) -> usize
+    requires { ⌜ (end ≤ length (now s)) × (from ≤ end) ⌝ }
+    ensures { λ r. ⌜ (0 < r → FarOn window stray (now (s .entry)) from end r) × (r % 16 ≡ 0) ⌝ }
+{
+    if from < 8 {
+        return 0;
+    }
+    if end - from < BLOCK {
+        return 0;
+    }
+    if 15 < most_of(s, from - 8, 8) {
+        return 0;
+    }
+    if window != window_from(s, from - 8) {
+        return 0;
+    }
+    let mut n: usize = 0;
+    while BLOCK <= end - from - 2 * n {
+        if is_far(stray, s, from - 8 + 2 * n) {
+            n += BLOCK / 2;
+        } else {
+            return n;
+        }
+    }
+    n
+}
+
+// Whether a block can be taken: it has nibbles alone, no mark can end in it, and what leaves the window meanwhile, from the place k on, is nothing
+// but F, or a stray nibble is noted already. Each test is a loop that goes to its end, for those are vectorised.
+fn is_far(stray: bool, s: &[u8], k: usize) -> bool
+    requires { ⌜ (k + 40 ≤ length (now s)) × AllNibbles (now s) k 8 ⌝ }
+    ensures { λ r. ⌜ (r ≡ true → Far stray (now (s .entry)) k 32) ⌝ }
+{
+    if 15 < most_of(s, k + 8, BLOCK) {
+        return false;
+    }
+    if least_gap(s, k) == 0 {
+        return false;
+    }
+    if stray {
+        return true;
+    }
+    if 0 < most_off(s, k) {
+        return false;
+    }
+    true
+}
+
+// A number that none of so many inputs from a place on is above.
+fn most_of(s: &[u8], i: usize, n: usize) -> u8
+    requires { ⌜ i + n ≤ length (now s) ⌝ }
+    ensures { λ r. ⌜ ((x : ℕ) → i ≤ x → x < i + n → getD (now (s .entry)) x 0 ≤ r) ⌝ }
+{
+    let mut most: u8 = 0;
+    let mut k: usize = 0;
+    while k < n {
+        most = at_least(most, s[i + k]);
+        k += 1;
+    }
+    most
+}
+
+// A number that none of the nibbles of a block is farther from F.
+fn most_off(s: &[u8], i: usize) -> u8
+    requires { ⌜ (i + 32 ≤ length (now s)) × AllNibbles (now s) i 32 ⌝ }
+    ensures { λ r. ⌜ ((x : ℕ) → i ≤ x → x < i + 32 → 15 ≤ getD (now (s .entry)) x 0 + r) ⌝ }
+{
+    let mut most: u8 = 0;
+    let mut k: usize = 0;
+    while k < BLOCK {
+        most = at_least(most, 15 - s[i + k]);
+        k += 1;
+    }
+    most
+}
+
+// A number that none of the windows of a block is nearer to one before a mark.
+fn least_gap(s: &[u8], i: usize) -> u8
+    requires { ⌜ (i + 40 ≤ length (now s)) × AllNibbles (now s) i 40 ⌝ }
+    ensures { λ r. ⌜ ((x : ℕ) → i ≤ x → x < i + 32 → Apart r (now (s .entry)) x) ⌝ }
+{
+    let mut least: u8 = 255;
+    let mut k: usize = 0;
+    while k < BLOCK {
+        least = at_most(
+            least,
+            gap(s[i + k + 2], s[i + k + 3], s[i + k + 4], s[i + k + 6]),
+        );
+        k += 1;
+    }
+    least
+}
+
+// How far three nibbles and one more are from F, F, F and 0.
+fn gap(a: u8, b: u8, c: u8, d: u8) -> u8
+    requires { ⌜ (a < 16) × (b < 16) × (c < 16) × (d < 16) ⌝ }
+    ensures { λ r. ⌜ a + b + c + r ≡ 45 + d ⌝ }
+{
+    45 + d - (a + b + c)
+}
+
+fn at_least(a: u8, b: u8) -> u8
+    ensures { λ r. ⌜ (a ≤ r) × (b ≤ r) ⌝ }
+{
+    if a < b {
+        return b;
+    }
+    a
+}
+
+fn at_most(a: u8, b: u8) -> u8
+    ensures { λ r. ⌜ (r ≤ a) × (r ≤ b) ⌝ }
+{
+    if a < b {
+        return a;
+    }
+    b
+}
+
+// Puts so many bytes of the run, from a place on, into a body, from its place j on, in blocks.
+fn pack(s: &[u8], i: usize, body: &mut [u8], j: usize, n: usize)
+    requires { ⌜ (i + 2 * n ≤ length (now s)) × (j + n ≤ length (now body)) × AllNibbles (now s) i (2 * n) × (n % 16 ≡ 0) ⌝ }
+    ensures { λ r. ⌜ now (body .exit) ≡ packedInto (now (body .entry)) j (now (s .entry)) i n ⌝ }
+{
+    let mut k: usize = 0;
+    while k < n {
+        pack_block(s, i + 2 * k, body, j + k);
+        k += BLOCK / 2;
+    }
+}
+
+// One block: first into an array of its own, since a body might be the run itself, for all that the compiler knows.
+fn pack_block(s: &[u8], i: usize, body: &mut [u8], j: usize)
+    requires { ⌜ (i + 32 ≤ length (now s)) × (j + 16 ≤ length (now body)) × AllNibbles (now s) i 32 ⌝ }
+    ensures { λ r. ⌜ now (body .exit) ≡ packedInto (now (body .entry)) j (now (s .entry)) i 16 ⌝ }
+{
+    let mut to = [0u8; 16];
+    let mut k: usize = 0;
+    while k < 16 {
+        to[k] = 16 * s[i + 2 * k] + s[i + 2 * k + 1];
+        k += 1;
+    }
+    let mut m: usize = 0;
+    while m < 16 {
+        body[j + m] = to[m];
+        m += 1;
+    }
+}
+
+// The eight nibbles from a place on, as a window.
+fn window_from(s: &[u8], i: usize) -> u32
+    requires { ⌜ (i + 8 ≤ length (now s)) × AllNibbles (now s) i 8 ⌝ }
+    ensures { λ r. ⌜ r ≡ windowFrom (now (s .entry)) i ⌝ }
+{
+    let w = slide_byte(0, s, i);
+    let w = slide_byte(w, s, i + 2);
+    let w = slide_byte(w, s, i + 4);
+    slide_byte(w, s, i + 6)
 }
 
 // Whether two nibbles stand at a place, before the end, in which no mark can end.
