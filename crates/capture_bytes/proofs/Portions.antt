@@ -1,6 +1,6 @@
 -- Bytes run over portion by portion: what is left brings what the whole does, and a portion that is answered ends it.
 use mathlib.Core.Path.{_≡_, refl, _∙_, ap, ap₂, sym, subst}
-use mathlib.Core.Bool.{Bool, true, false, cond, _&&_, not, true≢false}
+use mathlib.Core.Bool.{Bool, true, false, _&&_, not, true≢false}
 use mathlib.Core.List.{List, [], _++_, append-nil}
 use Prim.Native.Nat.{ℕ, _+_, _-_, _*_, _/_, _≤_, _<_}
 use native.Mathlib.Omega.{arith}
@@ -18,6 +18,8 @@ use Rattle.run.specs.declared.RunStepped.{RunStepped}
 use Rattle.run.specs.Run.{Ran, ran, lentRunOf}
 use Rattle.run.specs.Gives.{LentRunGives}
 use Rattle.reader_laws.specs.Passing.{Byte}
+use Rattle.run_ahead.specs.declared.Reached.{Reached}
+use Rattle.capture_bytes.specs.Packed.{Skips}
 use Rattle.capture_bytes.specs.Unpacked.{portion}
 use Rattle.capture_bytes.specs.UnpackedLaws.{nibbles-small, all-nibbles-front, portion-length, portion-first}
 use Rattle.capture_bytes.specs.EndToEnd.{later, Goes, lent-stays, lent-goes, lent-within}
@@ -40,6 +42,34 @@ start h body bytes line from byte =
       profile = refl;
       as-lent = refl;
     }
+
+-- bytes that are skipped
+pub upto-on : {h₀ : Head} {body₀ bytes line₀ : List ℕ} {from at : ℕ} {h : Head} {body line : List ℕ} {r : Reached} {body′ : List ℕ} → Upto h₀ body₀ bytes line₀ from at h body line
+    → Skips h body bytes at (length line) r body′ → Upto h₀ body₀ bytes line₀ from (r .at) (r .head) body′ line
+upto-on {bytes = bytes} {from = from} {at} {line = line} {r} {body′} u k =
+    let t = lentRunOf (r .head) body′ (drop (r .at) (nibbles bytes)) (length line) in
+    let f = u .forward in
+    let g = k .from-on in
+    record {
+      forward = omega arith;
+      same =
+          u .same
+          ∙ ap (later (at - from)) (k .same)
+          ∙ ap (ran (t .reader) (t .outcome)) (let z : at - from + (r .at - at + t .taken) ≡ r .at - from + t .taken = omega arith in z);
+      byte = subst Byte (sym (k .same-mark)) (u .byte);
+      profile = k .same-profile ∙ u .profile;
+      as-lent = u .as-lent;
+    }
+
+and-more : (from at n k : ℕ) → from ≤ at → at - from ≤ n - from → k ≤ n - at → at + k - from ≤ n - from
+and-more from at n k a b c = omega arith
+
+between : (from at at′ n : ℕ) → from ≤ at → at - from ≤ n - from → at ≤ at′ → at′ - at ≤ n - at → at′ - from ≤ n - from
+between from at at′ n a b c d = omega arith
+
+-- after a portion of k nibbles and what is skipped the place is still within them
+pub still-within : (from at k at′ n : ℕ) → from ≤ at → at - from ≤ n - from → k ≤ n - at → at + k ≤ at′ → at′ - (at + k) ≤ n - (at + k) → at′ - from ≤ n - from
+still-within from at k at′ n a b c d e = between from (at + k) at′ n (omega arith) (and-more from at n k a b c) d e
 
 -- A portion.
 
@@ -158,15 +188,10 @@ module _ {h₀ : Head} {body₀ bytes line₀ : List ℕ} {from at : ℕ} {h : H
       go false false p q f =
           gives-whole u (ended-there u known end k (omega (arith, d .count, ltb-false ((at + r .taken) / 2) (length bytes) q))) d (omega (arith, d .count, u .forward))
 
-  -- the nibbles left, and one more where it goes on, fall
-  pub turn-less : (was : Bool) → was ≡ true → (at / 2 < length bytes → at < 2 * end)
-      → 2 * length bytes - (at + r .taken) + cond more 1 0 < 2 * length bytes - at + cond was 1 0
-  turn-less was w some = subst (λ (x : Bool). 2 * length bytes - (at + r .taken) + cond more 1 0 < 2 * length bytes - at + cond x 1 0) (sym w) (go more refl)
-    where
-      go : (x : Bool) → more ≡ x → 2 * length bytes - (at + r .taken) + cond x 1 0 < 2 * length bytes - at + 1
-      go true e =
-          let y = ltb-true ((at + r .taken) / 2) (length bytes) (on (isAnswer (r .answer)) _ (sym g ∙ e) .1) in
-          let all = all-taken u known end k (no-answer-yet e) (sym (ap length (d .keeps)) ∙ s) in
-          let z = some (omega arith) in
-          omega (arith, d .count, all)
-      go false e = omega arith
+  -- the nibbles left fall where it goes on
+  pub turn-less : more ≡ true → (at / 2 < length bytes → at < 2 * end) → 2 * length bytes - (at + r .taken) < 2 * length bytes - at
+  turn-less e some =
+      let y = ltb-true ((at + r .taken) / 2) (length bytes) (on (isAnswer (r .answer)) _ (sym g ∙ e) .1) in
+      let all = all-taken u known end k (no-answer-yet e) (sym (ap length (d .keeps)) ∙ s) in
+      let z = some (omega arith) in
+      omega (arith, d .count, all)

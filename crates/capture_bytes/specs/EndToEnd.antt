@@ -3,11 +3,12 @@
 use mathlib.Core.Path.{_≡_, refl, _∙_, ap, ap₂, sym, subst}
 use mathlib.Core.Bool.{Bool, true, false, cond, true≢false}
 use mathlib.Core.List.{List, [], _∷_, _++_}
-use Prim.Native.Nat.{ℕ, suc, _+_, _≤_}
+use Prim.Native.Nat.{ℕ, suc, _+_, _-_, _≤_}
 use native.Mathlib.Nat.{zero-add, add-zero}
 use native.Mathlib.Omega.{arith}
 use lib.Dec.{eqb, leb}
-use lib.ListN.{length}
+use lib.ListN.{length, drop}
+use borrow.Author.Tests.{eq-eqb, le-leb}
 use Rattle.refusal.specs.Refusal.{notANibble, badState, noRoom}
 use Rattle.profile.specs.declared.Profile.{Profile}
 use Rattle.profile.specs.Profile.{bodyLength, longest}
@@ -203,3 +204,24 @@ lent-goes h body w v room byte small quiet same = by (lentRunOf h body w room) (
           sound = good;
           profile = alike;
         }
+
+-- A run that goes on from another place, with what is read up to there.
+
+shift : (x y : Ran) (i i′ : ℕ) → later i x ≡ later i′ y → i ≤ i′ → x ≡ later (i′ - i) y
+shift x y i i′ q l =
+    let c : i + x .taken ≡ i′ + y .taken = ap (λ (t : Ran). t .taken) q in
+    ap (λ (r : Reader). ran r (x .outcome) (x .taken)) (ap (λ (t : Ran). t .reader) q)
+    ∙ ap₂ (ran (y .reader)) (ap (λ (t : Ran). t .outcome) q) (let z : x .taken ≡ i′ - i + y .taken = omega arith in z)
+
+pub lent-leads : (s : List ℕ) (h h′ : Head) (body body′ : List ℕ) (i i′ room : ℕ) → length body ≡ longest → length body′ ≡ longest → passes h ≡ true → passes h′ ≡ true
+    → bodyLength (h .profile) ≤ room → h′ .profile ≡ h .profile → i ≤ i′ → onward (readerOf h body) (drop i s) i ≡ onward (readerOf h′ body′) (drop i′ s) i′
+    → lentRunOf h body (drop i s) room ≡ later (i′ - i) (lentRunOf h′ body′ (drop i′ s) room)
+lent-leads s h h′ body body′ i i′ room e e′ p p′ r same l leads =
+    let x = onward (readerOf h body) (drop i s) 0 in
+    let y = onward (readerOf h′ body′) (drop i′ s) 0 in
+    let q : later i x ≡ later i′ y = sym (onward-later (drop i s) (readerOf h body) i) ∙ leads ∙ onward-later (drop i′ s) (readerOf h′ body′) i′ in
+    let roomy = le-leb (bodyLength (h .profile)) room r in
+    lent-is h body room (drop i s) (eq-eqb (length body) longest e) p roomy
+    ∙ shift x y i i′ q l
+    ∙ ap (later (i′ - i))
+    (sym (lent-is h′ body′ room (drop i′ s) (eq-eqb (length body′) longest e′) p′ (ap (λ (x : Profile). leb (bodyLength x) room) same ∙ roomy)))

@@ -1,3 +1,4 @@
 pub mod Unpacked
 pub mod UnpackedLaws
 pub mod EndToEnd
+pub mod Packed
