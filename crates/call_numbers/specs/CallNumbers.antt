@@ -7,8 +7,9 @@ use Rattle.line_code.specs.LineCode.{kindNumber, repairNumber}
 use Rattle.stream.specs.declared.Answer.{Answer}
 use Rattle.stream.specs.declared.Answer.the-variants as answers
 use Rattle.stream.specs.Answers.{eitherRepaired}
-use Rattle.frame_layout.specs.declared.Borders.{Borders}
-use Rattle.frame_layout.specs.declared.Borders.the-variants.{Unsettled, On, Off}
+use Rattle.frame_layout.specs.declared.Borders.the-variants.{On, Off}
+use Rattle.frame.specs.declared.KnownBorders.{KnownBorders}
+use Rattle.frame.specs.declared.KnownBorders.the-variants.{Unsettled, Settled}
 use Rattle.frame.specs.declared.Judge.{Judge}
 use Rattle.frame.specs.declared.Judge.the-variants as judge
 use Rattle.frame.specs.declared.Ruling.{Ruling}
@@ -27,11 +28,11 @@ answerNumber (answers.Refused n) = n
 abbrev pub judgeNumber : Judge → ℕ
 judgeNumber judge.Waiting = 0
 judgeNumber (judge.Due place Unsettled) = place
-judgeNumber (judge.Due place On) = 0x10000 + place
-judgeNumber (judge.Due place Off) = 0x20000 + place
+judgeNumber (judge.Due place (Settled On)) = 0x10000 + place
+judgeNumber (judge.Due place (Settled Off)) = 0x20000 + place
 
-abbrev pub bordersNumbered : ℕ → Borders
-bordersNumbered n = cond (ltb n 0x10000) Unsettled (cond (ltb n 0x20000) On Off)
+abbrev pub bordersNumbered : ℕ → KnownBorders
+bordersNumbered n = cond (ltb n 0x10000) Unsettled (Settled (cond (ltb n 0x20000) On Off))
 
 unfoldable pub judgeNumbered : ℕ → Judge
 judgeNumbered n = cond (eqb n 0) judge.Waiting (judge.Due (n % 0x10000) (bordersNumbered n))

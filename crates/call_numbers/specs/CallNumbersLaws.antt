@@ -15,7 +15,8 @@ use Rattle.stream.specs.declared.GapFacts.{GapFacts}
 use Rattle.stream.specs.declared.LineFacts.{LineFacts}
 use Rattle.stream.specs.declared.Answer.the-variants as answers
 use Rattle.stream.specs.Answers.{eitherRepaired}
-use Rattle.frame_layout.specs.declared.Borders.the-variants.{Unsettled, On, Off}
+use Rattle.frame_layout.specs.declared.Borders.the-variants.{On, Off}
+use Rattle.frame.specs.declared.KnownBorders.the-variants.{Unsettled, Settled}
 use Rattle.frame.specs.declared.Judge.{Judge}
 use Rattle.frame.specs.declared.Judge.the-variants.{Waiting, Due}
 use Rattle.frame.specs.Frame as frame
@@ -32,8 +33,8 @@ within-low from to n h = leb-true from n (and-left _ _ h)
 pub judge-small : (j : Judge) → frame.passes VV5404 j ≡ true → judgeNumber j < 0x30000
 judge-small Waiting h = omega arith
 judge-small (Due place Unsettled) h = omega (arith, within-high 1 10 place h)
-judge-small (Due place On) h = omega (arith, within-high 11 303 place h)
-judge-small (Due place Off) h = omega (arith, within-high 11 303 place h)
+judge-small (Due place (Settled On)) h = omega (arith, within-high 11 303 place h)
+judge-small (Due place (Settled Off)) h = omega (arith, within-high 11 303 place h)
 
 pub judge-back : (j : Judge) → frame.passes VV5404 j ≡ true → judgeNumbered (judgeNumber j) ≡ j
 unfolding judgeNumbered
@@ -42,14 +43,14 @@ judge-back (Due place Unsettled) h =
     let high = within-high 1 10 place h in
     let low = within-low 1 10 place h in
     simp (ne-eqb place 0 (λ e. omega arith), lt-ltb place 0x10000 (omega arith)) (ap (λ (k : ℕ). Due k Unsettled) (omega arith))
-judge-back (Due place On) h =
+judge-back (Due place (Settled On)) h =
     let high = within-high 11 303 place h in
     simp (ne-eqb (0x10000 + place) 0 (λ e. omega arith), le-ltb (0x10000 + place) 0x10000 (omega arith), lt-ltb (0x10000 + place) 0x20000 (omega arith))
-    (ap (λ (k : ℕ). Due k On) (omega arith))
-judge-back (Due place Off) h =
+    (ap (λ (k : ℕ). Due k (Settled On)) (omega arith))
+judge-back (Due place (Settled Off)) h =
     let high = within-high 11 303 place h in
     simp (ne-eqb (0x20000 + place) 0 (λ e. omega arith), le-ltb (0x20000 + place) 0x10000 (omega arith), le-ltb (0x20000 + place) 0x20000 (omega arith))
-    (ap (λ (k : ℕ). Due k Off) (omega arith))
+    (ap (λ (k : ℕ). Due k (Settled Off)) (omega arith))
 
 -- so a judge that its own call leaves as it was has the same number, whatever the number
 pub number-back : (n : ℕ) → n < 0x30000 → judgeNumber (judgeNumbered n) ≡ n
@@ -57,7 +58,7 @@ unfolding judgeNumbered
 number-back n h = go (eqb n 0) (ltb n 0x10000) (ltb n 0x20000) refl refl refl
   where
     go : (a b c : Bool) → eqb n 0 ≡ a → ltb n 0x10000 ≡ b → ltb n 0x20000 ≡ c
-        → judgeNumber (cond a Waiting (Due (n % 0x10000) (cond b Unsettled (cond c On Off)))) ≡ n
+        → judgeNumber (cond a Waiting (Due (n % 0x10000) (cond b Unsettled (Settled (cond c On Off))))) ≡ n
     go true b c e f g = sym (eqb-true n 0 e)
     go false true c e f g = let l = ltb-true n 0x10000 f in omega arith
     go false false true e f g =

@@ -5,6 +5,7 @@
 ghost use mathlib.Core.Path.{_≡_};
 ghost use Rattle.call_numbers.specs.CallNumbers.{answerNumber, judgeNumber, judgeNumbered, rulingNumber};
 use frame::Judge;
+use frame::KnownBorders;
 use frame::Ruling;
 use frame_layout::Borders;
 use lent_call::bit;
@@ -64,12 +65,12 @@ pub fn judge_numbered(n: u32) -> Judge
     }
     let place = (n % PLACES) as u16;
     if n < PLACES {
-        return Judge::Due(place, Borders::Unsettled);
+        return Judge::Due(place, KnownBorders::Unsettled);
     }
     if n < 2 * PLACES {
-        return Judge::Due(place, Borders::On);
+        return Judge::Due(place, KnownBorders::Settled(Borders::On));
     }
-    Judge::Due(place, Borders::Off)
+    Judge::Due(place, KnownBorders::Settled(Borders::Off))
 }
 
 // A judge as a number.
@@ -79,9 +80,11 @@ pub fn judge_number(judge: Judge) -> u32
     match judge {
         Judge::Waiting => 0,
         Judge::Due(place, borders) => match borders {
-            Borders::Unsettled => place as u32,
-            Borders::On => PLACES + place as u32,
-            Borders::Off => 2 * PLACES + place as u32,
+            KnownBorders::Unsettled => place as u32,
+            KnownBorders::Settled(borders) => match borders {
+                Borders::On => PLACES + place as u32,
+                Borders::Off => 2 * PLACES + place as u32,
+            },
         },
     }
 }

@@ -4,6 +4,7 @@ use crate::text::say;
 use crate::text::say_number;
 use crate::text::say_refused;
 use frame::Judge;
+use frame::KnownBorders;
 use frame::Ruling;
 use frame_layout::Borders;
 use profile::Profile;
@@ -80,12 +81,12 @@ pub fn in_state(place: u16, borders: u64) -> Hearing {
     Hearing { judge, going: 0 }
 }
 
-fn borders_numbered(n: u64) -> Borders {
+fn borders_numbered(n: u64) -> KnownBorders {
     if n == 0 {
-        return Borders::Unsettled;
+        return KnownBorders::Unsettled;
     }
     if n == 1 {
-        return Borders::On;
+        return KnownBorders::Settled(Borders::On);
     }
-    Borders::Off
+    KnownBorders::Settled(Borders::Off)
 }

@@ -15,7 +15,7 @@ use Rattle.frame.specs.declared.Judge.{Judge}
 use Rattle.frame.specs.declared.Ruling.{Ruling}
 use Rattle.frame.specs.declared.Ruling.the-variants as ruling
 use Rattle.frame.specs.declared.Judged.{Judged}
-use Rattle.frame_layout.specs.FrameLayout.{layout, kindsOf, lastPlace, standsAt, numberDue}
+use Rattle.frame_layout.specs.FrameLayout.{layout, kindsOf, lastPlace, dueAt}
 use Rattle.frame.specs.Frame.{judgeOf, breaksFrame}
 
 -- what is handed to the judge
@@ -66,9 +66,9 @@ abbrev pub accepted : Profile → Judge → List Line → List Line
 accepted p j [] = []
 accepted p j (l ∷ ls) = acceptedOne p j l ++ accepted p (called p j l .judge) ls
 
--- a line as laid out at a place: of the kind that stands there, with a number that is due there and not above 4095
+-- a line as laid out at a place: due there, with a number not above 4095
 abbrev pub fits : Profile → Borders → ℕ → Line → Bool
-fits p b place l = standsAt p b place (l .kind) && (numberDue p b place (l .number) && leb (l .number) greatest)
+fits p b place l = dueAt p b place (l .kind) (l .number) && leb (l .number) greatest
 
 -- lines as laid out from a place on
 abbrev pub laidFrom : Profile → Borders → ℕ → List Line → Bool

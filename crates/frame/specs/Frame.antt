@@ -4,13 +4,14 @@ use mathlib.Core.Bool.{Bool, true, _&&_, _||_, cond}
 use Prim.Native.Nat.{ℕ, _+_}
 use lib.Dec.{eqb, leb, ltb}
 use Rattle.refusal.specs.Refusal.{badState, badKind, numberTooLarge, notTheLineDue, brokenLine}
-use Rattle.line_code.specs.declared.Kind.the-variants.{SOF, EOF}
+use Rattle.line_code.specs.declared.Kind.the-variants.{VL, SOF, EOF}
 use Rattle.line_code.specs.LineCode.{kindNumber}
 use Rattle.line_number.specs.LineNumber.{greatest}
 use Rattle.profile.specs.declared.Profile.{Profile}
-use Rattle.frame_layout.specs.declared.Borders.{Borders}
-use Rattle.frame_layout.specs.declared.Borders.the-variants.{Unsettled, On, Off}
-use Rattle.frame_layout.specs.FrameLayout.{lastPlace, settlingPlace, lineDue, settled}
+use Rattle.frame_layout.specs.declared.Borders.the-variants.{On, Off}
+use Rattle.frame_layout.specs.FrameLayout.{lastPlace, settlingPlace, dueAt}
+use Rattle.frame.specs.declared.KnownBorders.{KnownBorders}
+use Rattle.frame.specs.declared.KnownBorders.the-variants.{Unsettled, Settled}
 use Rattle.frame.specs.declared.Judge.{Judge}
 use Rattle.frame.specs.declared.Judge.the-variants.{Waiting, Due}
 use Rattle.frame.specs.declared.Ruling.{Ruling}
@@ -24,8 +25,17 @@ within from to n = leb from n && leb n to
 abbrev pub passes : Profile → Judge → Bool
 passes p Waiting = true
 passes p (Due place Unsettled) = within 1 (settlingPlace p) place
-passes p (Due place On) = within (settlingPlace p + 1) (lastPlace p) place
-passes p (Due place Off) = within (settlingPlace p + 1) (lastPlace p) place
+passes p (Due place (Settled b)) = within (settlingPlace p + 1) (lastPlace p) place
+
+-- a line is the one due: with the borders settled, or, while they are not, with either setting
+abbrev pub lineDue : Profile → KnownBorders → ℕ → ℕ → ℕ → Bool
+lineDue p Unsettled place k n = dueAt p On place k n || dueAt p Off place k n
+lineDue p (Settled b) place k n = dueAt p b place k n
+
+-- the borders after a line that was due: at the settling place a VL settles them on, a BL off
+abbrev pub settledBy : Profile → KnownBorders → ℕ → ℕ → KnownBorders
+settledBy p Unsettled place k = cond (ltb place (settlingPlace p)) Unsettled (Settled (cond (eqb k (kindNumber VL)) On Off))
+settledBy p (Settled b) place k = Settled b
 
 -- what the judge says, in 01's words: Waiting, Going, Complete, or a refusal with its number
 pub data Said : Type 0 where
@@ -70,12 +80,12 @@ brokenKind = 0
 -- a broken line
 abbrev pub broken : Judge → Judged
 broken Waiting = gives Waiting (rulingFor still-waiting)
-broken (Due place b) = refuses Waiting brokenLine
+broken (Due place s) = refuses Waiting brokenLine
 
 -- a line that is due: Going, or Complete at the last place, then waiting
-abbrev pub onward : Profile → ℕ → Borders → ℕ → Judged
-onward p place b k =
-    cond (ltb place (lastPlace p)) (gives (Due (place + 1) (settled p b place k)) (rulingFor on-going)) (gives Waiting (rulingFor whole-frame))
+abbrev pub onward : Profile → ℕ → KnownBorders → ℕ → Judged
+onward p place s k =
+    cond (ltb place (lastPlace p)) (gives (Due (place + 1) (settledBy p s place k)) (rulingFor on-going)) (gives Waiting (rulingFor whole-frame))
 
 -- a line that is not due: 18, then waiting; but an SOF numbered 0 opens a new frame at once
 abbrev pub astray : ℕ → ℕ → Judged
@@ -88,7 +98,7 @@ first k n = cond (opens k n) (gives begun (rulingFor on-going)) (gives Waiting (
 -- a whole line of a kind and number
 abbrev pub whole : Profile → Judge → ℕ → ℕ → Judged
 whole p Waiting k n = first k n
-whole p (Due place b) k n = cond (lineDue p b place k n) (onward p place b k) (astray k n)
+whole p (Due place s) k n = cond (lineDue p s place k n) (onward p place s k) (astray k n)
 
 -- one call: 11, 13, 14, which change nothing; a broken line (kind 0), whose number isn't looked at; or a whole line
 unfoldable pub judgeOf : Profile → Judge → ℕ → ℕ → Judged

@@ -5,16 +5,22 @@
 // judge state that no calls can reach with this profile, 13 a kind above 5, 14 a number above 4095. After the EOF line a line's number is
 // not compared (paper 02, A3). Cost: constant.
 ghost use mathlib.Core.Path.{_≡_};
-ghost use Rattle.frame.specs.Frame.{within, passes, refuses, opens, broken, onward, astray, first, whole, judgeOf, JudgedAs, breaksFrame};
+ghost use Rattle.frame.specs.Frame.{within, passes, lineDue, settledBy, refuses, opens, broken, onward, astray, first, whole, judgeOf, JudgedAs, breaksFrame};
 use frame_layout::Borders;
 use frame_layout::FIRST_BLACK;
 use line_code::Kind;
 use profile::Profile;
 
-// Waiting for a frame; or within one, with the place that is due and the borders.
+// What is known so far of a frame's borders: the line at the place of the first visible line with borders on settles them.
+pub enum KnownBorders {
+    Unsettled,
+    Settled(Borders),
+}
+
+// Waiting for a frame; or within one, with the place that is due and what is known of the borders.
 pub enum Judge {
     Waiting,
-    Due(u16, Borders),
+    Due(u16, KnownBorders),
 }
 
 // What the judge answers.
@@ -72,9 +78,8 @@ impl Judge {
                 let settling = frame_layout::settling_place(profile);
                 let last = frame_layout::last_place(profile);
                 match borders {
-                    Borders::Unsettled => within(FIRST_BLACK, settling, place),
-                    Borders::On => within(settling + 1, last, place),
-                    Borders::Off => within(settling + 1, last, place),
+                    KnownBorders::Unsettled => within(FIRST_BLACK, settling, place),
+                    KnownBorders::Settled(_) => within(settling + 1, last, place),
                 }
             }
         }
@@ -107,6 +112,41 @@ impl Judge {
     }
 }
 
+impl KnownBorders {
+    // Whether this is the line due at a place.
+    fn line_due(self, profile: Profile, place: u16, kind: u8, number: u16) -> bool
+        ensures { λ r. ⌜ r ≡ lineDue profile self place kind number ⌝ }
+    {
+        match self {
+            KnownBorders::Unsettled => {
+                if Borders::On.due_at(profile, place, kind, number) {
+                    return true;
+                }
+                Borders::Off.due_at(profile, place, kind, number)
+            }
+            KnownBorders::Settled(borders) => borders.due_at(profile, place, kind, number),
+        }
+    }
+
+    // The borders after a line that was due.
+    fn settled_by(self, profile: Profile, place: u16, kind: u8) -> KnownBorders
+        ensures { λ r. ⌜ r ≡ settledBy profile self place kind ⌝ }
+    {
+        match self {
+            KnownBorders::Unsettled => {
+                if place < frame_layout::settling_place(profile) {
+                    return KnownBorders::Unsettled;
+                }
+                if kind == Kind::VL.number() {
+                    return KnownBorders::Settled(Borders::On);
+                }
+                KnownBorders::Settled(Borders::Off)
+            }
+            KnownBorders::Settled(_) => self,
+        }
+    }
+}
+
 // Whether a refusal of the judge, 18 or 19, breaks the frame.
 pub fn breaks_frame(number: u8) -> bool
     ensures { λ r. ⌜ r ≡ breaksFrame number ⌝ }
@@ -121,11 +161,11 @@ pub fn breaks_frame(number: u8) -> bool
 const FIRST_PLACE: u16 = 0;
 
 // A line that is due.
-fn onward(profile: Profile, place: u16, borders: Borders, kind: u8) -> Judged
+fn onward(profile: Profile, place: u16, borders: KnownBorders, kind: u8) -> Judged
     ensures { λ r. ⌜ r ≡ onward profile place borders kind ⌝ }
 {
     if place < frame_layout::last_place(profile) {
-        let next = borders.settled(profile, place, kind);
+        let next = borders.settled_by(profile, place, kind);
         return Judged {
             judge: Judge::Due(place + 1, next),
             ruling: Ruling::Going,
@@ -153,7 +193,7 @@ fn first(kind: u8, number: u16) -> Judged
 {
     if opens(kind, number) {
         return Judged {
-            judge: Judge::Due(FIRST_BLACK, Borders::Unsettled),
+            judge: Judge::Due(FIRST_BLACK, KnownBorders::Unsettled),
             ruling: Ruling::Going,
         };
     }
@@ -169,7 +209,7 @@ fn astray(kind: u8, number: u16) -> Judged
 {
     if opens(kind, number) {
         return refused(
-            Judge::Due(FIRST_BLACK, Borders::Unsettled),
+            Judge::Due(FIRST_BLACK, KnownBorders::Unsettled),
             refusal::NOT_THE_LINE_DUE,
         );
     }

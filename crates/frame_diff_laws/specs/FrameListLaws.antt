@@ -16,7 +16,7 @@ use Rattle.line_number.specs.LineNumber.{greatest}
 use Rattle.profile.specs.declared.Profile.the-variants.{VV5404}
 use Rattle.lent_buffer.specs.Filled.{Output, fitted, require}
 use Rattle.frame_layout.specs.declared.Borders.{Borders}
-use Rattle.frame_layout.specs.FrameLayout.{kindAt}
+use Rattle.frame_layout.specs.FrameLayout.{kindAtPlace}
 use Rattle.frame.specs.Calls.{fits, laidFrom}
 use Rattle.line_list.specs.Lines.{FullLine, lineSize, fullLines, headedLines, noneCut, asLent, risesFrom, rises, numbersSmall, kindsKnown}
 use Rattle.line_list_laws.specs.LinesBackLaws.{FullBodies, unsized, sized, heads-whole, lines-lent}
@@ -58,7 +58,7 @@ placed-known : (b : Borders) (place : ℕ) (ls : List Shown) → laidFrom VV5404
 placed-known b place [] h = refl
 placed-known b place (l ∷ ls) h =
     and-both (leb (kindNumber BL) (l .given .kind) && leb (l .given .kind) (kindNumber EOF)) _
-    (ap (λ (k : ℕ). leb (kindNumber BL) k && leb k (kindNumber EOF)) (stands b place (l .given) (and-left _ _ h)) ∙ kind-known (kindAt VV5404 b place))
+    (ap (λ (k : ℕ). leb (kindNumber BL) k && leb k (kindNumber EOF)) (stands b place (l .given) (and-left _ _ h)) ∙ kind-known (kindAtPlace VV5404 b place))
     (placed-known b (suc place) ls (and-right (fits VV5404 b place (l .given)) _ h))
 
 -- The list of a frame.

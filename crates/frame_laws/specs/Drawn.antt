@@ -6,7 +6,7 @@ use Rattle.line_code.specs.declared.Kind.the-variants.{BL, BK, VL, SOF, EOF}
 use Rattle.profile.specs.declared.Profile.the-variants.{VV5300}
 use Rattle.frame.specs.declared.Judge.the-variants.{Waiting}
 use Rattle.frame.specs.declared.Ruling.the-variants.{Going, Complete}
-use Rattle.frame_layout.specs.FrameLayout.{kindAt}
+use Rattle.frame_layout.specs.FrameLayout.{kindAtPlace}
 use Rattle.frame.specs.Frame.{judgeOf}
 use Rattle.frame.specs.Calls.{rulings, numberedFrom}
 
@@ -15,7 +15,7 @@ pub drawn-on :
     rulings VV5300 Waiting
     (numberedFrom 0 (SOF ∷ BK ∷ BK ∷ (replicate 8 BL ++ (replicate 124 VL ++ (replicate 10 BL ++ (EOF ∷ BL ∷ []))))))
     ≡ replicate 146 Going ++ (Complete ∷ [])
-unfolding kindAt judgeOf
+unfolding kindAtPlace judgeOf
 drawn-on = refl
 
 -- 10 blank, 120 visible and 12 blank lines instead
@@ -23,5 +23,5 @@ pub drawn-off :
     rulings VV5300 Waiting
     (numberedFrom 0 (SOF ∷ BK ∷ BK ∷ (replicate 10 BL ++ (replicate 120 VL ++ (replicate 12 BL ++ (EOF ∷ BL ∷ []))))))
     ≡ replicate 146 Going ++ (Complete ∷ [])
-unfolding kindAt judgeOf
+unfolding kindAtPlace judgeOf
 drawn-off = refl

@@ -1,5 +1,4 @@
 -- Laws of frames: the judge's test is true of exactly the states that calls reach, a whole frame is Complete, and nothing else is.
--- Of a frame's line at a place, any one, the judge's answer is known for every number (`Answers`).
 use mathlib.Core.Path.{_≡_, refl, sym, ap, ap₂, subst, _∙_}
 use mathlib.Core.Bool.{Bool, true, false, _&&_, _||_, cond, true≢false, or-true}
 use mathlib.Core.List.{List, [], _∷_, _++_, append-nil, append-assoc}
@@ -19,16 +18,17 @@ use Rattle.line_number.specs.LineNumber.{greatest}
 use Rattle.profile.specs.declared.Profile.{Profile}
 use Rattle.profile.specs.declared.Profile.the-variants.{VV5404, VV5300}
 use Rattle.frame_layout.specs.declared.Borders.{Borders}
-use Rattle.frame_layout.specs.declared.Borders.the-variants.{Unsettled, On, Off}
+use Rattle.frame_layout.specs.declared.Borders.the-variants.{On, Off}
+use Rattle.frame.specs.declared.KnownBorders.{KnownBorders}
+use Rattle.frame.specs.declared.KnownBorders.the-variants.{Unsettled, Settled}
 use Rattle.frame.specs.declared.Judge.{Judge}
 use Rattle.frame.specs.declared.Judge.the-variants.{Waiting, Due}
 use Rattle.frame.specs.declared.Ruling.{Ruling}
 use Rattle.frame.specs.declared.Ruling.the-variants as ruling
 use Rattle.frame.specs.declared.Judged.{Judged}
-use Rattle.frame_layout.specs.FrameLayout.{layout, kindsOf, lastPlace, endPlace, settlingPlace, kindAt, standsAt, kindDue, numberDue, lineDue, settled}
-use Rattle.frame.specs.Frame.{within, passes, gives, refuses, opens, begun, brokenKind, broken, onward, astray, whole, judgeOf}
-use Rattle.frame_layout.specs.Places.{kindWithin}
-use Rattle.frame_layout.specs.PlaceLaws.{kind-by-range, blank-after}
+use Rattle.frame_layout.specs.FrameLayout.{layout, kindsOf, lastPlace, endPlace, settlingPlace, kindAtPlace, standsAt, numberDue, dueAt}
+use Rattle.frame.specs.Frame.{within, passes, lineDue, settledBy, gives, refuses, opens, begun, brokenKind, broken, onward, whole, judgeOf}
+use Rattle.frame_layout.specs.PlaceLaws.{blank-after, sof-only-first}
 use Rattle.frame_layout.specs.FrameLength.{frame-length}
 use Rattle.frame.specs.Calls.{Line, line, called, after, rulings, isComplete, accepts, acceptedOne, accepted, fits, laidFrom, FirstLines, IsFrame, numberedFrom, frameLines}
 use Rattle.bits.specs.Agree.{agree}
@@ -45,20 +45,10 @@ pub settling-early : (p : Profile) → settlingPlace p < lastPlace p
 settling-early VV5404 = lit≤ tt
 settling-early VV5300 = lit≤ tt
 
--- the borders are settled before the EOF line, which is not after the last
-settling-before-end : (p : Profile) (b : Borders) → settlingPlace p < endPlace p b
-settling-before-end VV5404 Unsettled = lit≤ tt
-settling-before-end VV5404 On = lit≤ tt
-settling-before-end VV5404 Off = lit≤ tt
-settling-before-end VV5300 Unsettled = lit≤ tt
-settling-before-end VV5300 On = lit≤ tt
-settling-before-end VV5300 Off = lit≤ tt
-
+-- the EOF line is not after the last
 end-before : (p : Profile) (b : Borders) → endPlace p b ≤ lastPlace p
-end-before VV5404 Unsettled = lit≤ tt
 end-before VV5404 On = lit≤ tt
 end-before VV5404 Off = lit≤ tt
-end-before VV5300 Unsettled = lit≤ tt
 end-before VV5300 On = lit≤ tt
 end-before VV5300 Off = lit≤ tt
 
@@ -68,59 +58,58 @@ last-small VV5404 = lit≤ tt
 last-small VV5300 = lit≤ tt
 
 -- below the settling place the two layouts agree, and at it they are VL and BL
-pub alike : (p : Profile) → ((place : ℕ) → place < settlingPlace p → kindAt p On place ≡ kindAt p Off place) × (kindAt p On (settlingPlace p) ≡ VL) × (kindAt p Off (settlingPlace p) ≡ BL)
-unfolding kindAt
-alike VV5404 = (agree (kindAt VV5404 On) (kindAt VV5404 Off) (settlingPlace VV5404) refl, refl, refl)
-alike VV5300 = (agree (kindAt VV5300 On) (kindAt VV5300 Off) (settlingPlace VV5300) refl, refl, refl)
+pub alike : (p : Profile) → ((place : ℕ) → place < settlingPlace p → kindAtPlace p On place ≡ kindAtPlace p Off place) × (kindAtPlace p On (settlingPlace p) ≡ VL) × (kindAtPlace p Off (settlingPlace p) ≡ BL)
+unfolding kindAtPlace
+alike VV5404 = (agree (kindAtPlace VV5404 On) (kindAtPlace VV5404 Off) (settlingPlace VV5404) refl, refl, refl)
+alike VV5300 = (agree (kindAtPlace VV5300 On) (kindAtPlace VV5300 Off) (settlingPlace VV5300) refl, refl, refl)
 
--- below the settling place a line fits both layouts or none
-fits-alike : (p : Profile) (b : Borders) (place : ℕ) → place < settlingPlace p → fits p Unsettled place ≡ fits p b place
-unfolding kindAt
-fits-alike p Unsettled place h = refl
-fits-alike p On place h = refl
-fits-alike VV5404 Off place h = agree (fits VV5404 Unsettled) (fits VV5404 Off) (settlingPlace VV5404) refl place h
-fits-alike VV5300 Off place h = agree (fits VV5300 Unsettled) (fits VV5300 Off) (settlingPlace VV5300) refl place h
+-- below the settling place a line is due with either setting or with none
+due-alike : (p : Profile) (b : Borders) (place : ℕ) → place < settlingPlace p → dueAt p b place ≡ dueAt p On place
+unfolding kindAtPlace
+due-alike p On place h = refl
+due-alike VV5404 Off place h = agree (dueAt VV5404 Off) (dueAt VV5404 On) (settlingPlace VV5404) refl place h
+due-alike VV5300 Off place h = agree (dueAt VV5300 Off) (dueAt VV5300 On) (settlingPlace VV5300) refl place h
+
+-- a line that stands at the settling place shows the borders
+shows-borders : (p : Profile) (b : Borders) (k : ℕ) → standsAt p b (settlingPlace p) k ≡ true → cond (eqb k (kindNumber VL)) On Off ≡ b
+shows-borders p On k h = ap (λ (n : ℕ). cond (eqb n (kindNumber VL)) On Off) (eqb-true k _ h ∙ ap kindNumber (alike p .1))
+shows-borders p Off k h = ap (λ (n : ℕ). cond (eqb n (kindNumber VL)) On Off) (eqb-true k _ h ∙ ap kindNumber (alike p .2))
 
 -- the EOF line stands at its place
-pub end-place : (p : Profile) (b : Borders) → kindAt p b (endPlace p b) ≡ EOF
-unfolding kindAt
-end-place VV5404 Unsettled = refl
+pub end-place : (p : Profile) (b : Borders) → kindAtPlace p b (endPlace p b) ≡ EOF
+unfolding kindAtPlace
 end-place VV5404 On = refl
 end-place VV5404 Off = refl
-end-place VV5300 Unsettled = refl
 end-place VV5300 On = refl
 end-place VV5300 Off = refl
 
--- an SOF stands at no place but the first, in either layout
-abbrev isSof : Kind → Bool
-isSof k = eqb (kindNumber SOF) (kindNumber k)
-
-sof-apart : (p : Profile) (b : Borders) (place : ℕ) → isSof (kindAt p b (suc place)) ≡ false
-unfolding kindWithin
-sof-apart p b place =
-    ap isSof (kind-by-range p b (suc place))
-    ∙ simp (le-ltb (suc place) 1 (omega arith))
-    (by (ltb (suc place) 3) (ltb (suc place) (layout p b .from)) (leb (suc place) (layout p b .to)) (eqb (suc place) (layout p b .end)))
-  where
-    by : (black blank visible end : Bool) → isSof (cond black BK (cond blank BL (cond visible VL (cond end EOF BL)))) ≡ false
-    by true blank visible end = refl
-    by false true visible end = refl
-    by false false true end = refl
-    by false false false true = refl
-    by false false false false = refl
-
 -- an SOF is due at no place but the first
-pub sof-not-due : (p : Profile) (b : Borders) (place : ℕ) → place < lastPlace p → kindDue p b (suc place) (kindNumber SOF) ≡ false
-sof-not-due p Unsettled place h = ap₂ _||_ (sof-apart p On place) (sof-apart p Off place)
-sof-not-due p On place h = sof-apart p On place
-sof-not-due p Off place h = sof-apart p Off place
+sof-not-due : (p : Profile) (s : KnownBorders) (place n : ℕ) → lineDue p s (suc place) (kindNumber SOF) n ≡ false
+sof-not-due p s place n = by s
+  where
+    with-borders : (b : Borders) → dueAt p b (suc place) (kindNumber SOF) n ≡ false
+    with-borders b = ap (λ (t : Bool). t && numberDue p b (suc place) n) (sof-only-first p b place)
+
+    by : (s : KnownBorders) → lineDue p s (suc place) (kindNumber SOF) n ≡ false
+    by Unsettled = ap₂ _||_ (with-borders On) (with-borders Off)
+    by (Settled b) = with-borders b
+
+-- a line that fits at a later place opens no frame
+pub later-opens-none : (p : Profile) (b : Borders) (place : ℕ) (l : Line) → fits p b (suc place) l ≡ true → opens (l .kind) (l .number) ≡ false
+later-opens-none p b place l f = by (eqb (l .kind) (kindNumber SOF)) refl
+  where
+    by : (t : Bool) → eqb (l .kind) (kindNumber SOF) ≡ t → (t && eqb (l .number) 0) ≡ false
+    by true e =
+        absurd (true≢false
+        (sym (and-left _ _ (and-left _ _ f)) ∙ ap (standsAt p b (suc place)) (eqb-true (l .kind) (kindNumber SOF) e) ∙ sof-only-first p b place))
+    by false e = refl
 
 -- Lines as laid out.
 
 -- a line of the kind at a place, with a number that is due there
-kind-fits : (p : Profile) (b : Borders) (place : ℕ) (k : Kind) (n : ℕ) → kindAt p b place ≡ k → numberDue p b place n ≡ true → n ≤ greatest
+kind-fits : (p : Profile) (b : Borders) (place : ℕ) (k : Kind) (n : ℕ) → kindAtPlace p b place ≡ k → numberDue p b place n ≡ true → n ≤ greatest
     → fits p b place (line (kindNumber k) n) ≡ true
-kind-fits p b place k n e d h = and-both _ _ (eq-eqb _ _ (ap kindNumber (sym e))) (and-both _ _ d (le-leb n greatest h))
+kind-fits p b place k n e d h = and-both _ _ (and-both _ _ (eq-eqb _ _ (ap kindNumber (sym e))) d) (le-leb n greatest h)
 
 -- a place's own number is due there
 own-number : (p : Profile) (b : Borders) (place : ℕ) → numberDue p b place place ≡ true
@@ -128,7 +117,7 @@ own-number p b place = ap (λ (t : Bool). t || ltb (endPlace p b) place) (eq-eqb
 
 -- lines of the kinds at the places from one on, each numbered with its place
 laid-counted : (p : Profile) (b : Borders) (place : ℕ) (ks : List Kind)
-    → ((i at : ℕ) → at ≡ place + i → i < length ks → kindAt p b at ≡ getD ks i BL) → place + length ks ≤ greatest + 1 → laidFrom p b place (numberedFrom place ks) ≡ true
+    → ((i at : ℕ) → at ≡ place + i → i < length ks → kindAtPlace p b at ≡ getD ks i BL) → place + length ks ≤ greatest + 1 → laidFrom p b place (numberedFrom place ks) ≡ true
 laid-counted p b place [] e h = refl
 laid-counted p b place (k ∷ ks) e h =
     and-both _ _ (kind-fits p b place k place (e 0 place (omega arith) (omega arith)) (own-number p b place) (omega arith))
@@ -165,8 +154,8 @@ getD-take (suc n) i [] h = refl
 getD-take (suc n) zero (k ∷ ks) h = refl
 getD-take (suc n) (suc i) (k ∷ ks) h = getD-take n i ks (le-of-suc-le-suc h)
 
-kind-listed : (p : Profile) (b : Borders) (i at : ℕ) → at ≡ 0 + i → kindAt p b at ≡ getD (kindsOf (layout p b)) i BL
-unfolding kindAt
+kind-listed : (p : Profile) (b : Borders) (i at : ℕ) → at ≡ 0 + i → kindAtPlace p b at ≡ getD (kindsOf (layout p b)) i BL
+unfolding kindAtPlace
 kind-listed p b i at e =
     let q : at ≡ i = omega (arith, e) in
     ap (λ (j : ℕ). getD (kindsOf (layout p b)) j BL) q
@@ -197,10 +186,10 @@ frame-held p b =
 
 -- the line at a place, and the lines before it
 abbrev lineAt : Profile → Borders → ℕ → Line
-lineAt p b place = line (kindNumber (kindAt p b place)) place
+lineAt p b place = line (kindNumber (kindAtPlace p b place)) place
 
 own-fits : (p : Profile) (b : Borders) (place : ℕ) → place ≤ greatest → fits p b place (lineAt p b place) ≡ true
-own-fits p b place h = kind-fits p b place (kindAt p b place) place refl (own-number p b place) h
+own-fits p b place h = kind-fits p b place (kindAtPlace p b place) place refl (own-number p b place) h
 
 abbrev linesBefore : Profile → Borders → ℕ → List Line
 linesBefore p b zero = []
@@ -217,15 +206,13 @@ within-high from to n h = leb-true n to (and-right (leb from n) _ h)
 within-holds : (from to n : ℕ) → from ≤ n → n ≤ to → within from to n ≡ true
 within-holds from to n g h = and-both _ _ (le-leb from n g) (le-leb n to h)
 
-passes-low : (p : Profile) (place : ℕ) (b : Borders) → passes p (Due place b) ≡ true → 1 ≤ place
+passes-low : (p : Profile) (place : ℕ) (s : KnownBorders) → passes p (Due place s) ≡ true → 1 ≤ place
 passes-low p place Unsettled h = within-low 1 (settlingPlace p) place h
-passes-low p place On h = omega (arith, within-low (settlingPlace p + 1) (lastPlace p) place h)
-passes-low p place Off h = omega (arith, within-low (settlingPlace p + 1) (lastPlace p) place h)
+passes-low p place (Settled b) h = omega (arith, within-low (settlingPlace p + 1) (lastPlace p) place h)
 
-pub passes-high : (p : Profile) (place : ℕ) (b : Borders) → passes p (Due place b) ≡ true → place ≤ lastPlace p
+pub passes-high : (p : Profile) (place : ℕ) (s : KnownBorders) → passes p (Due place s) ≡ true → place ≤ lastPlace p
 passes-high p place Unsettled h = omega (arith, settling-early p, within-high 1 (settlingPlace p) place h)
-passes-high p place On h = within-high (settlingPlace p + 1) (lastPlace p) place h
-passes-high p place Off h = within-high (settlingPlace p + 1) (lastPlace p) place h
+passes-high p place (Settled b) h = within-high (settlingPlace p + 1) (lastPlace p) place h
 
 -- Runs of calls: one after another, and one call longer.
 
@@ -249,36 +236,30 @@ accepted-snoc p j (a ∷ ls) l =
 
 -- The judge at each place of a frame.
 
--- the borders that a frame settles
-abbrev shown : Borders → Borders
-shown Unsettled = On
-shown On = On
-shown Off = Off
-
--- the borders as the judge has them at a place: unsettled up to the settling place
-abbrev bordersAt : Profile → Borders → ℕ → Borders
-bordersAt p b place = cond (leb place (settlingPlace p)) Unsettled (shown b)
+-- the borders as the judge knows them at a place: unsettled up to the settling place
+abbrev knownAt : Profile → Borders → ℕ → KnownBorders
+knownAt p b place = cond (leb place (settlingPlace p)) Unsettled (Settled b)
 
 -- the judge at a place of a frame
 abbrev judgeAt : Profile → Borders → ℕ → Judge
 judgeAt p b zero = Waiting
-judgeAt p b (suc n) = Due (suc n) (bordersAt p b (suc n))
+judgeAt p b (suc n) = Due (suc n) (knownAt p b (suc n))
 
 judge-begun : (p : Profile) (b : Borders) → judgeAt p b 1 ≡ begun
 judge-begun VV5404 b = refl
 judge-begun VV5300 b = refl
 
 -- an SOF numbered 0 within a frame, after the EOF line too, is not due and opens a new frame
-pub sof-within : (p : Profile) (place : ℕ) (b : Borders) → passes p (Due place b) ≡ true → called p (Due place b) (line (kindNumber SOF) 0) ≡ refuses begun notTheLineDue
+pub sof-within : (p : Profile) (place : ℕ) (s : KnownBorders) → passes p (Due place s) ≡ true → called p (Due place s) (line (kindNumber SOF) 0) ≡ refuses begun notTheLineDue
 unfolding judgeOf
-sof-within p zero b h = absurd (let z = passes-low p zero b h in omega arith)
-sof-within p (suc n) b h = simp (h, sof-not-due p b n (passes-high p (suc n) b h))
+sof-within p zero s h = absurd (let z = passes-low p zero s h in omega arith)
+sof-within p (suc n) s h = simp (h, sof-not-due p s n 0)
 
 -- an SOF numbered 0 opens a frame from any judge
 opened : (p : Profile) (j : Judge) → passes p j ≡ true → called p j (line (kindNumber SOF) 0) .judge ≡ begun
 unfolding judgeOf
 opened p Waiting h = refl
-opened p (Due place b) h = ap (λ (r : Judged). r .judge) (sof-within p place b h)
+opened p (Due place s) h = ap (λ (r : Judged). r .judge) (sof-within p place s h)
 
 pub opens-is : (l : Line) → opens (l .kind) (l .number) ≡ true → l ≡ line (kindNumber SOF) 0
 opens-is l h =
@@ -290,19 +271,11 @@ either true b h f g = f refl
 either false b h f g = g h
 
 pub first-is : (p : Profile) (b : Borders) (l : Line) → fits p b 0 l ≡ true → l ≡ line (kindNumber SOF) 0
-unfolding kindAt
+unfolding kindAtPlace
 first-is p b l h =
     let sof : Bool = eqb (l .kind) (kindNumber SOF) in
-    let f : fits p Unsettled 0 l ≡ true = ap (λ (t : Line → Bool). t l) (fits-alike p b 0 (settling-late p)) ∙ h in
-    let n : (eqb (l .number) 0 || ltb (endPlace p Unsettled) 0) ≡ true = and-left _ _ (and-right sof _ f) in
-    opens-is l (and-both sof _ (and-left sof _ f) (either (eqb (l .number) 0) _ n (λ e. e) (λ e. absurd (let z = ltb-true (endPlace p Unsettled) 0 e in omega arith))))
-
--- what a line of the kind laid out at a place is answered, by its number
-abbrev byNumber : Profile → Borders → ℕ → Judged → ℕ → Judged
-byNumber p b place r n = cond (leb n greatest) (cond (numberDue p b place n) r (astray (kindNumber (kindAt p b place)) n)) (refuses (judgeAt p b place) numberTooLarge)
-
-abbrev Answers : Profile → Borders → ℕ → Judged → Type 0
-Answers p b place r = (n : ℕ) → judgeOf p (judgeAt p b place) (kindNumber (kindAt p b place)) n ≡ byNumber p b place r n
+    let d : (sof && (eqb (l .number) 0 || ltb (endPlace p b) 0)) ≡ true = and-left _ _ h in
+    opens-is l (and-both sof _ (and-left sof _ d) (either (eqb (l .number) 0) _ (and-right sof _ d) (λ e. e) (λ e. absurd (let z = ltb-true (endPlace p b) 0 e in omega arith))))
 
 kind-known : (k : Kind) → leb (kindNumber k) (kindNumber EOF) ≡ true
 kind-known BL = refl
@@ -318,106 +291,66 @@ kind-unbroken VL = refl
 kind-unbroken SOF = refl
 kind-unbroken EOF = refl
 
--- a kind stands where it is laid out; so it is due there, whatever the borders were taken for
-stands-own : (p : Profile) (b : Borders) (place : ℕ) → standsAt p b place (kindNumber (kindAt p b place)) ≡ true
-stands-own p b place = eq-eqb (kindNumber (kindAt p b place)) (kindNumber (kindAt p b place)) refl
+-- a line that is due with either setting is due while the borders are unsettled
+due-unsettled : (p : Profile) (b : Borders) (place k n : ℕ) → dueAt p b place k n ≡ true → lineDue p Unsettled place k n ≡ true
+due-unsettled p On place k n d = ap (λ (t : Bool). t || dueAt p Off place k n) d
+due-unsettled p Off place k n d = ap (λ (t : Bool). dueAt p On place k n || t) d ∙ or-true (dueAt p On place k n)
 
-own-due : (p : Profile) (b : Borders) (place : ℕ) → kindDue p Unsettled place (kindNumber (kindAt p b place)) ≡ true
-unfolding kindAt
-own-due p Unsettled place = ap (λ (t : Bool). t || standsAt p Off place (kindNumber (kindAt p On place))) (stands-own p On place)
-own-due p On place = ap (λ (t : Bool). t || standsAt p Off place (kindNumber (kindAt p On place))) (stands-own p On place)
-own-due p Off place = ap (λ (t : Bool). standsAt p On place (kindNumber (kindAt p Off place)) || t) (stands-own p Off place) ∙ or-true (standsAt p On place (kindNumber (kindAt p Off place)))
+-- and a line that is due is due with some setting
+pub due-with : (p : Profile) (s : KnownBorders) (place k n : ℕ) → lineDue p s place k n ≡ true → (b : Borders) × (dueAt p b place k n ≡ true)
+due-with p Unsettled place k n d = either (dueAt p On place k n) (dueAt p Off place k n) d (λ e. (On, e)) (λ e. (Off, e))
+due-with p (Settled b) place k n d = (b, d)
 
-shown-due : (p : Profile) (b : Borders) (place : ℕ) → kindDue p (shown b) place (kindNumber (kindAt p b place)) ≡ true
-unfolding kindAt
-shown-due p Unsettled place = stands-own p On place
-shown-due p On place = stands-own p On place
-shown-due p Off place = stands-own p Off place
-
-shown-end : (p : Profile) (b : Borders) → endPlace p (shown b) ≡ endPlace p b
-shown-end p Unsettled = refl
-shown-end p On = refl
-shown-end p Off = refl
-
--- the line laid out at a place is due there, and passes the judge's own test, while the borders are unsettled and after
-due-at : (p : Profile) (b : Borders) (place : ℕ) → 1 ≤ place → place ≤ lastPlace p
-    → (passes p (Due place (bordersAt p b place)) ≡ true)
-    × ((n : ℕ) → lineDue p (bordersAt p b place) place (kindNumber (kindAt p b place)) n ≡ numberDue p b place n)
-due-at p b place g h = by (leb place (settlingPlace p)) refl
+-- a line that fits is due, and the judge passes its own test, while the borders are unsettled and after
+fits-due : (p : Profile) (b : Borders) (place : ℕ) (l : Line) → 1 ≤ place → place ≤ lastPlace p → fits p b place l ≡ true
+    → (passes p (Due place (knownAt p b place)) ≡ true) × (lineDue p (knownAt p b place) place (l .kind) (l .number) ≡ true)
+fits-due p b place l g h f = by (leb place (settlingPlace p)) refl
   where
-    by-number : (c : Borders) → kindDue p c place (kindNumber (kindAt p b place)) ≡ true → ltb (endPlace p c) place ≡ ltb (endPlace p b) place
-        → (n : ℕ) → lineDue p c place (kindNumber (kindAt p b place)) n ≡ numberDue p b place n
-    by-number c k e n = ap₂ (λ (s t : Bool). s && (eqb n place || t)) k e
-
-    passes-shown : (c : Borders) → settlingPlace p < place → passes p (Due place (shown c)) ≡ true
-    passes-shown Unsettled l = within-holds (settlingPlace p + 1) (lastPlace p) place (omega arith) h
-    passes-shown On l = within-holds (settlingPlace p + 1) (lastPlace p) place (omega arith) h
-    passes-shown Off l = within-holds (settlingPlace p + 1) (lastPlace p) place (omega arith) h
+    due : dueAt p b place (l .kind) (l .number) ≡ true
+    due = and-left _ _ f
 
     by : (t : Bool) → leb place (settlingPlace p) ≡ t
-        → (passes p (Due place (cond t Unsettled (shown b))) ≡ true)
-        × ((n : ℕ) → lineDue p (cond t Unsettled (shown b)) place (kindNumber (kindAt p b place)) n ≡ numberDue p b place n)
-    by true e =
-        let l : place ≤ settlingPlace p = leb-true place (settlingPlace p) e in (
-          within-holds 1 (settlingPlace p) place g l,
-          by-number Unsettled (own-due p b place)
-              (le-ltb (endPlace p Unsettled) place (omega (arith, settling-before-end p Unsettled)) ∙ sym (le-ltb (endPlace p b) place (omega (arith, settling-before-end p b)))),
-        )
-    by false e =
-        (passes-shown b (leb-false place (settlingPlace p) e), by-number (shown b) (shown-due p b place) (ap (λ (i : ℕ). ltb i place) (shown-end p b)))
+        → (passes p (Due place (cond t Unsettled (Settled b))) ≡ true) × (lineDue p (cond t Unsettled (Settled b)) place (l .kind) (l .number) ≡ true)
+    by true e = (within-holds 1 (settlingPlace p) place g (leb-true place (settlingPlace p) e), due-unsettled p b place (l .kind) (l .number) due)
+    by false e = (within-holds (settlingPlace p + 1) (lastPlace p) place (omega (arith, leb-false place (settlingPlace p) e)) h, due)
 
-answers : (p : Profile) (b : Borders) (n : ℕ) → suc n ≤ lastPlace p
-    → Answers p b (suc n) (onward p (suc n) (bordersAt p b (suc n)) (kindNumber (kindAt p b (suc n))))
-unfolding judgeOf
-answers p b n h m =
-    let d = due-at p b (suc n) (omega arith) h in
-    simp (d .0, kind-known (kindAt p b (suc n)), kind-unbroken (kindAt p b (suc n)), d .1 m)
-
--- the line laid out at the settling place shows the borders
-at-settling : (p : Profile) (b : Borders) → cond (eqb (kindNumber (kindAt p b (settlingPlace p))) (kindNumber VL)) On Off ≡ shown b
-unfolding kindAt
-at-settling p Unsettled = ap (λ (k : Kind). cond (eqb (kindNumber k) (kindNumber VL)) On Off) (alike p .1)
-at-settling p On = ap (λ (k : Kind). cond (eqb (kindNumber k) (kindNumber VL)) On Off) (alike p .1)
-at-settling p Off = ap (λ (k : Kind). cond (eqb (kindNumber k) (kindNumber VL)) On Off) (alike p .2)
-
--- the line laid out at a place leaves the borders as the judge has them at the next
-settled-at : (p : Profile) (b : Borders) (place : ℕ) → settled p (bordersAt p b place) place (kindNumber (kindAt p b place)) ≡ bordersAt p b (suc place)
-settled-at p b place = by (leb place (settlingPlace p)) (ltb place (settlingPlace p)) refl refl
+-- and it leaves the borders as the judge knows them at the next place
+settled-at : (p : Profile) (b : Borders) (place : ℕ) (l : Line) → fits p b place l ≡ true → settledBy p (knownAt p b place) place (l .kind) ≡ knownAt p b (suc place)
+settled-at p b place l h = by (leb place (settlingPlace p)) (ltb place (settlingPlace p)) refl refl
   where
-    shown-stays : (c : Borders) (k : ℕ) → settled p (shown c) place k ≡ shown c
-    shown-stays Unsettled k = refl
-    shown-stays On k = refl
-    shown-stays Off k = refl
-
-    by : (t s : Bool) → leb place (settlingPlace p) ≡ t → ltb place (settlingPlace p) ≡ s
-        → settled p (cond t Unsettled (shown b)) place (kindNumber (kindAt p b place)) ≡ cond s Unsettled (shown b)
+    by : (t u : Bool) → leb place (settlingPlace p) ≡ t → ltb place (settlingPlace p) ≡ u
+        → settledBy p (cond t Unsettled (Settled b)) place (l .kind) ≡ cond u Unsettled (Settled b)
     by true true e f = simp f
     by true false e f =
         let q : place ≡ settlingPlace p = omega (arith, leb-true place (settlingPlace p) e, ltb-false place (settlingPlace p) f) in
-        simp f (subst (λ (i : ℕ). cond (eqb (kindNumber (kindAt p b i)) (kindNumber VL)) On Off ≡ shown b) (sym q) (at-settling p b))
+        simp f (ap Settled (shows-borders p b (l .kind) (subst (λ (i : ℕ). standsAt p b i (l .kind) ≡ true) q (and-left _ _ (and-left _ _ h)))))
     by false true e f = absurd (omega (arith, leb-false place (settlingPlace p) e, ltb-true place (settlingPlace p) f))
-    by false false e f = shown-stays b (kindNumber (kindAt p b place))
+    by false false e f = refl
 
+fitting : (p : Profile) (b : Borders) (n : ℕ) (l : Line) → suc n ≤ lastPlace p → fits p b (suc n) l ≡ true
+    → called p (judgeAt p b (suc n)) l ≡ onward p (suc n) (knownAt p b (suc n)) (l .kind)
+unfolding judgeOf
+fitting p b n l h f =
+    let d = fits-due p b (suc n) l (omega arith) h f in
+    let k : Kind = kindAtPlace p b (suc n) in
+    let e : kindNumber k ≡ l .kind = sym (eqb-true (l .kind) _ (and-left _ _ (and-left _ _ f))) in
+    simp (
+      d .0,
+      subst (λ (m : ℕ). leb m (kindNumber EOF) ≡ true) e (kind-known k),
+      subst (λ (m : ℕ). eqb m brokenKind ≡ false) e (kind-unbroken k),
+      and-right (dueAt p b (suc n) (l .kind) (l .number)) _ f,
+      d .1,
+    )
+
+-- a line that fits, before the last place and at it
 abbrev goesOn : Profile → Borders → ℕ → Judged
 goesOn p b place = gives (judgeAt p b (suc place)) ruling.Going
 
-answers-going : (p : Profile) (b : Borders) (n : ℕ) → n < lastPlace p - 1 → Answers p b (suc n) (goesOn p b (suc n))
-answers-going p b n h m =
-    answers p b n (omega arith) m
-    ∙ ap (λ (r : Judged). byNumber p b (suc n) r m) (simp (lt-ltb (suc n) (lastPlace p) (omega arith), settled-at p b (suc n), add-one (suc n)))
+fitting-going : (p : Profile) (b : Borders) (n : ℕ) (l : Line) → n < lastPlace p - 1 → fits p b (suc n) l ≡ true → called p (judgeAt p b (suc n)) l ≡ goesOn p b (suc n)
+fitting-going p b n l h f = fitting p b n l (omega arith) f ∙ simp (lt-ltb (suc n) (lastPlace p) (omega arith), settled-at p b (suc n) l f, add-one (suc n))
 
-answers-last : (p : Profile) (b : Borders) (n : ℕ) → suc n ≡ lastPlace p → Answers p b (suc n) (gives Waiting ruling.Complete)
-answers-last p b n e m =
-    answers p b n (omega (arith, e)) m ∙ ap (λ (r : Judged). byNumber p b (suc n) r m) (simp (le-ltb (suc n) (lastPlace p) (omega (arith, e))))
-
--- a line that fits is answered so
-fitting : (p : Profile) (b : Borders) (place : ℕ) (l : Line) (r : Judged) → fits p b place l ≡ true → Answers p b place r → called p (judgeAt p b place) l ≡ r
-fitting p b place l r h a =
-    let n : numberDue p b place (l .number) ≡ true = and-left _ _ (and-right (standsAt p b place (l .kind)) _ h) in
-    let g : leb (l .number) greatest ≡ true = and-right (numberDue p b place (l .number)) _ (and-right (standsAt p b place (l .kind)) _ h) in
-    ap (λ (k : ℕ). judgeOf p (judgeAt p b place) k (l .number)) (eqb-true (l .kind) _ (and-left _ _ h))
-    ∙ a (l .number)
-    ∙ ap₂ (λ (s t : Bool). cond s (cond t r (astray (kindNumber (kindAt p b place)) (l .number))) (refuses (judgeAt p b place) numberTooLarge)) g n
+fitting-last : (p : Profile) (b : Borders) (n : ℕ) (l : Line) → suc n ≡ lastPlace p → fits p b (suc n) l ≡ true → called p (judgeAt p b (suc n)) l ≡ gives Waiting ruling.Complete
+fitting-last p b n l e f = fitting p b n l (omega (arith, e)) f ∙ simp (le-ltb (suc n) (lastPlace p) (omega (arith, e)))
 
 -- The states that calls reach.
 
@@ -425,7 +358,7 @@ going : (p : Profile) (b : Borders) (place : ℕ) → place < lastPlace p → ca
 unfolding judgeOf
 going p b zero h = subst (λ (l : Line). called p Waiting l .judge ≡ judgeAt p b 1) (sym (first-is p b (lineAt p b 0) (own-fits p b 0 (omega arith)))) (sym (judge-begun p b))
 going p b (suc n) h =
-    ap (λ (r : Judged). r .judge) (fitting p b (suc n) (lineAt p b (suc n)) (goesOn p b (suc n)) (own-fits p b (suc n) (omega (arith, last-small p))) (answers-going p b n (omega arith)))
+    ap (λ (r : Judged). r .judge) (fitting-going p b n (lineAt p b (suc n)) (omega arith) (own-fits p b (suc n) (omega (arith, last-small p))))
 
 reach : (p : Profile) (b : Borders) (place : ℕ) → place ≤ lastPlace p → after p Waiting (linesBefore p b place) ≡ judgeAt p b place
 reach p b zero h = refl
@@ -437,13 +370,11 @@ reach p b (suc n) h =
 -- a judge that passes is reached by the first lines of a frame
 pub passes-reached : (p : Profile) (j : Judge) → passes p j ≡ true → (ls : List Line) × (after p Waiting ls ≡ j)
 passes-reached p Waiting h = ([], refl)
-passes-reached p (Due zero b) h = absurd (let z = passes-low p zero b h in omega arith)
+passes-reached p (Due zero s) h = absurd (let z = passes-low p zero s h in omega arith)
 passes-reached p (Due (suc n) Unsettled) h =
     (linesBefore p On (suc n), reach p On (suc n) (passes-high p (suc n) Unsettled h) ∙ simp (le-leb (suc n) (settlingPlace p) (within-high 1 (settlingPlace p) (suc n) h)))
-passes-reached p (Due (suc n) On) h =
-    (linesBefore p On (suc n), reach p On (suc n) (passes-high p (suc n) On h) ∙ simp (lt-leb (suc n) (settlingPlace p) (omega (arith, within-low (settlingPlace p + 1) (lastPlace p) (suc n) h))))
-passes-reached p (Due (suc n) Off) h =
-    (linesBefore p Off (suc n), reach p Off (suc n) (passes-high p (suc n) Off h) ∙ simp (lt-leb (suc n) (settlingPlace p) (omega (arith, within-low (settlingPlace p + 1) (lastPlace p) (suc n) h))))
+passes-reached p (Due (suc n) (Settled b)) h =
+    (linesBefore p b (suc n), reach p b (suc n) (passes-high p (suc n) (Settled b) h) ∙ simp (lt-leb (suc n) (settlingPlace p) (omega (arith, within-low (settlingPlace p + 1) (lastPlace p) (suc n) h))))
 
 -- A whole frame.
 
@@ -454,9 +385,9 @@ from-call p j l r ls e = (ap (λ (x : Judged). x .ruling ∷ rulings p (x .judge
 rest-complete : (p : Profile) (b : Borders) (n : ℕ) (l : Line) (ls : List Line) → suc n + length ls ≡ lastPlace p → laidFrom p b (suc n) (l ∷ ls) ≡ true
     → (rulings p (judgeAt p b (suc n)) (l ∷ ls) ≡ toComplete (length ls)) × (after p (judgeAt p b (suc n)) (l ∷ ls) ≡ Waiting)
 rest-complete p b n l [] e h =
-    from-call p (judgeAt p b (suc n)) l (gives Waiting ruling.Complete) [] (fitting p b (suc n) l (gives Waiting ruling.Complete) (and-left _ _ h) (answers-last p b n (omega arith)))
+    from-call p (judgeAt p b (suc n)) l (gives Waiting ruling.Complete) [] (fitting-last p b n l (omega arith) (and-left _ _ h))
 rest-complete p b n l (m ∷ ls) e h =
-    let f = from-call p (judgeAt p b (suc n)) l (goesOn p b (suc n)) (m ∷ ls) (fitting p b (suc n) l (goesOn p b (suc n)) (and-left _ _ h) (answers-going p b n (omega arith))) in
+    let f = from-call p (judgeAt p b (suc n)) l (goesOn p b (suc n)) (m ∷ ls) (fitting-going p b n l (omega arith) (and-left _ _ h)) in
     let r = rest-complete p b (suc n) m ls (omega arith) (and-right (fits p b (suc n) l) _ h) in
     (f .0 ∙ ap (λ (vs : List Ruling). ruling.Going ∷ vs) (r .0), f .1 ∙ r .1)
 
@@ -483,8 +414,8 @@ frame-complete VV5300 b ls f = frame-complete-anywhere VV5300 Waiting refl b ls 
 -- What one call does.
 
 -- the line is due at the place, and its number is not too large
-abbrev pub IsDue : Profile → Borders → ℕ → Line → Type 0
-IsDue p b place l = (lineDue p b place (l .kind) (l .number) ≡ true) × (leb (l .number) greatest ≡ true)
+abbrev pub IsDue : Profile → KnownBorders → ℕ → Line → Type 0
+IsDue p s place l = (lineDue p s place (l .kind) (l .number) ≡ true) × (leb (l .number) greatest ≡ true)
 
 -- a call changes nothing (13, 14); or the judge waits; or the line breaks the frame (19, 18); or it opens one, or another one; or it is due,
 -- and not the last; or the last
@@ -496,9 +427,9 @@ pub data Effect (p : Profile) (j : Judge) (l : Line) : Judged → Type 0 where
   strays : Effect p j l (refuses Waiting notTheLineDue)
   starts : j ≡ Waiting → opens (l .kind) (l .number) ≡ true → Effect p j l (gives begun ruling.Going)
   restarts : opens (l .kind) (l .number) ≡ true → Effect p j l (refuses begun notTheLineDue)
-  goes : (place : ℕ) (b : Borders) → j ≡ Due place b → IsDue p b place l → place < lastPlace p
-      → Effect p j l (gives (Due (place + 1) (settled p b place (l .kind))) ruling.Going)
-  ends : (place : ℕ) (b : Borders) → j ≡ Due place b → IsDue p b place l → lastPlace p ≤ place → Effect p j l (gives Waiting ruling.Complete)
+  goes : (place : ℕ) (s : KnownBorders) → j ≡ Due place s → IsDue p s place l → place < lastPlace p
+      → Effect p j l (gives (Due (place + 1) (settledBy p s place (l .kind))) ruling.Going)
+  ends : (place : ℕ) (s : KnownBorders) → j ≡ Due place s → IsDue p s place l → lastPlace p ≤ place → Effect p j l (gives Waiting ruling.Complete)
 
 pick : {p : Profile} {j : Judge} {l : Line} {x y : Judged} (t : Bool) → (t ≡ true → Effect p j l x) → (t ≡ false → Effect p j l y) → Effect p j l (cond t x y)
 pick true f g = f refl
@@ -506,13 +437,13 @@ pick false f g = g refl
 
 effect-broken : (p : Profile) (j : Judge) (l : Line) → Effect p j l (broken j)
 effect-broken p Waiting l = waits
-effect-broken p (Due place b) l = breaks
+effect-broken p (Due place s) l = breaks
 
 effect-whole : (p : Profile) (j : Judge) (l : Line) → leb (l .number) greatest ≡ true → Effect p j l (whole p j (l .kind) (l .number))
 effect-whole p Waiting l n = pick (opens (l .kind) (l .number)) (λ o. starts refl o) (λ o. waits)
-effect-whole p (Due place b) l n =
-    pick (lineDue p b place (l .kind) (l .number))
-    (λ d. pick (ltb place (lastPlace p)) (λ t. goes place b refl (d, n) (ltb-true place (lastPlace p) t)) (λ t. ends place b refl (d, n) (ltb-false place (lastPlace p) t)))
+effect-whole p (Due place s) l n =
+    pick (lineDue p s place (l .kind) (l .number))
+    (λ d. pick (ltb place (lastPlace p)) (λ t. goes place s refl (d, n) (ltb-true place (lastPlace p) t)) (λ t. ends place s refl (d, n) (ltb-false place (lastPlace p) t)))
     (λ d. pick (opens (l .kind) (l .number)) (λ o. restarts o) (λ o. strays))
 
 pub effect : (p : Profile) (j : Judge) (l : Line) → passes p j ≡ true → Effect p j l (called p j l)
@@ -537,22 +468,16 @@ unaccepted p j l h = by (called p j l) (effect p j l h)
     by _ strays e = absurd (true≢false e)
     by _ (starts q o) e = absurd (true≢false e)
     by _ (restarts o) e = absurd (true≢false e)
-    by _ (goes place b q d g) e = absurd (true≢false e)
-    by _ (ends place b q d g) e = absurd (true≢false e)
+    by _ (goes place s q d g) e = absurd (true≢false e)
+    by _ (ends place s q d g) e = absurd (true≢false e)
 
-passes-next : (p : Profile) (place : ℕ) (b : Borders) (k : ℕ) → passes p (Due place b) ≡ true → place < lastPlace p → passes p (Due (place + 1) (settled p b place k)) ≡ true
-passes-next p place Unsettled k h g = by-line (ltb place (settlingPlace p)) (eqb k (kindNumber VL)) refl
+passes-next : (p : Profile) (place : ℕ) (s : KnownBorders) (k : ℕ) → passes p (Due place s) ≡ true → place < lastPlace p → passes p (Due (place + 1) (settledBy p s place k)) ≡ true
+passes-next p place Unsettled k h g = by (ltb place (settlingPlace p)) refl
   where
-    late : ltb place (settlingPlace p) ≡ false → within (settlingPlace p + 1) (lastPlace p) (place + 1) ≡ true
-    late e = within-holds (settlingPlace p + 1) (lastPlace p) (place + 1) (omega (arith, ltb-false place (settlingPlace p) e)) (omega arith)
-
-    by-line : (early visible : Bool) → ltb place (settlingPlace p) ≡ early → passes p (Due (place + 1) (cond early Unsettled (cond visible On Off))) ≡ true
-    by-line true visible e = within-holds 1 (settlingPlace p) (place + 1) (omega arith) (omega (arith, ltb-true place (settlingPlace p) e))
-    by-line false true e = late e
-    by-line false false e = late e
-passes-next p place On k h g =
-    within-holds (settlingPlace p + 1) (lastPlace p) (place + 1) (omega (arith, within-low (settlingPlace p + 1) (lastPlace p) place h)) (omega arith)
-passes-next p place Off k h g =
+    by : (early : Bool) → ltb place (settlingPlace p) ≡ early → passes p (Due (place + 1) (cond early Unsettled (Settled (cond (eqb k (kindNumber VL)) On Off)))) ≡ true
+    by true e = within-holds 1 (settlingPlace p) (place + 1) (omega arith) (omega (arith, ltb-true place (settlingPlace p) e))
+    by false e = within-holds (settlingPlace p + 1) (lastPlace p) (place + 1) (omega (arith, ltb-false place (settlingPlace p) e)) (omega arith)
+passes-next p place (Settled b) k h g =
     within-holds (settlingPlace p + 1) (lastPlace p) (place + 1) (omega (arith, within-low (settlingPlace p + 1) (lastPlace p) place h)) (omega arith)
 
 passes-begun : (p : Profile) → passes p begun ≡ true
@@ -567,8 +492,8 @@ passes-effect p j l _ breaks h = refl
 passes-effect p j l _ strays h = refl
 passes-effect p j l _ (starts q o) h = passes-begun p
 passes-effect p j l _ (restarts o) h = passes-begun p
-passes-effect p j l _ (goes place b e d g) h = passes-next p place b (l .kind) (subst (λ (s : Judge). passes p s ≡ true) e h) g
-passes-effect p j l _ (ends place b e d g) h = refl
+passes-effect p j l _ (goes place s e d g) h = passes-next p place s (l .kind) (subst (λ (i : Judge). passes p i ≡ true) e h) g
+passes-effect p j l _ (ends place s e d g) h = refl
 
 pub passes-after : (p : Profile) (j : Judge) (ls : List Line) → passes p j ≡ true → passes p (after p j ls) ≡ true
 passes-after p j [] h = h
@@ -580,74 +505,59 @@ reached-passes p ls = passes-after p Waiting ls refl
 
 -- Which lines came before.
 
--- a line of a layout's kind, while the borders are not settled: it fits the layout that it leaves open or settles
-abbrev settling : Profile → Borders → ℕ → ℕ → Bool
-settling p c place n = fits p (settled p Unsettled place (kindNumber (kindAt p c place))) place (line (kindNumber (kindAt p c place)) n)
+-- the borders may still be these
+abbrev MayBe : KnownBorders → Borders → Type 0
+MayBe Unsettled b = Unit {0}
+MayBe (Settled c) b = c ≡ b
 
-abbrev numbered : Profile → ℕ → ℕ → Bool
-numbered p place n = numberDue p Unsettled place n && leb n greatest
+-- what may still be so after a line might have been before it
+may-before : (p : Profile) (place : ℕ) (s : KnownBorders) (k : ℕ) (b : Borders) → MayBe (settledBy p s place k) b → MayBe s b
+may-before p place Unsettled k b o = tt
+may-before p place (Settled c) k b o = o
 
-fits-settling : (p : Profile) (c : Borders) (place : ℕ) → place < settlingPlace p + 1 → settling p c place ≡ numbered p place
-unfolding kindAt
-fits-settling VV5404 Unsettled = agree (settling VV5404 Unsettled) (numbered VV5404) (settlingPlace VV5404 + 1) refl
-fits-settling VV5404 On = agree (settling VV5404 On) (numbered VV5404) (settlingPlace VV5404 + 1) refl
-fits-settling VV5404 Off = agree (settling VV5404 Off) (numbered VV5404) (settlingPlace VV5404 + 1) refl
-fits-settling VV5300 Unsettled = agree (settling VV5300 Unsettled) (numbered VV5300) (settlingPlace VV5300 + 1) refl
-fits-settling VV5300 On = agree (settling VV5300 On) (numbered VV5300) (settlingPlace VV5300 + 1) refl
-fits-settling VV5300 Off = agree (settling VV5300 Off) (numbered VV5300) (settlingPlace VV5300 + 1) refl
-
--- a line that is due fits
-due-fits : (p : Profile) (place : ℕ) (b : Borders) (l : Line) → passes p (Due place b) ≡ true → IsDue p b place l → fits p (settled p b place (l .kind)) place l ≡ true
-due-fits p place b l h d = by b h (and-left _ _ (d .0)) (and-both _ _ (and-right (kindDue p b place (l .kind)) _ (d .0)) (d .1))
+-- a line that is due fits with each setting that it leaves open
+due-fits : (p : Profile) (place : ℕ) (s : KnownBorders) (l : Line) (b : Borders) → passes p (Due place s) ≡ true → IsDue p s place l
+    → MayBe (settledBy p s place (l .kind)) b → fits p b place l ≡ true
+due-fits p place (Settled c) l b h d o = subst (λ (x : Borders). fits p x place l ≡ true) o (and-both _ _ (d .0) (d .1))
+due-fits p place Unsettled l b h d o = and-both _ _ (by (ltb place (settlingPlace p)) refl o (due-with p Unsettled place (l .kind) (l .number) (d .0))) (d .1)
   where
-    unsettled : (c : Borders) → place ≤ settlingPlace p → numbered p place (l .number) ≡ true → standsAt p c place (l .kind) ≡ true
-        → fits p (settled p Unsettled place (l .kind)) place l ≡ true
-    unsettled c u n s =
-        ap (λ (k : ℕ). fits p (settled p Unsettled place k) place (line k (l .number))) (eqb-true (l .kind) _ s)
-        ∙ ap (λ (f : ℕ → Bool). f (l .number)) (fits-settling p c place (omega arith))
-        ∙ n
+    due : Borders → Bool
+    due c = dueAt p c place (l .kind) (l .number)
 
-    by : (b : Borders) → passes p (Due place b) ≡ true → kindDue p b place (l .kind) ≡ true
-        → (numberDue p b place (l .number) && leb (l .number) greatest) ≡ true → fits p (settled p b place (l .kind)) place l ≡ true
-    by Unsettled t k n =
-        let q = within-high 1 (settlingPlace p) place t in
-        either (standsAt p On place (l .kind)) (standsAt p Off place (l .kind)) k (unsettled On q n) (unsettled Off q n)
-    by On t k n = and-both _ _ k n
-    by Off t k n = and-both _ _ k n
+    by : (t : Bool) → ltb place (settlingPlace p) ≡ t → MayBe (cond t Unsettled (Settled (cond (eqb (l .kind) (kindNumber VL)) On Off))) b
+        → (c : Borders) × (due c ≡ true) → due b ≡ true
+    by true e o (c, f) =
+        let early = ltb-true place (settlingPlace p) e in
+        ap (λ (g : ℕ → ℕ → Bool). g (l .kind) (l .number)) (due-alike p b place early ∙ sym (due-alike p c place early)) ∙ f
+    by false e o (c, f) =
+        let q : place ≡ settlingPlace p = omega (arith, ltb-false place (settlingPlace p) e, within-high 1 (settlingPlace p) place h) in
+        let same : c ≡ b = sym (shows-borders p c (l .kind) (subst (λ (i : ℕ). standsAt p c i (l .kind) ≡ true) q (and-left _ _ f))) ∙ o in
+        subst (λ (x : Borders). due x ≡ true) same f
 
-laid-alike : (p : Profile) (c : Borders) (place : ℕ) (ls : List Line) → place + length ls ≤ settlingPlace p → laidFrom p Unsettled place ls ≡ laidFrom p c place ls
-laid-alike p c place [] h = refl
-laid-alike p c place (l ∷ ls) h = ap₂ _&&_ (ap (λ (f : Line → Bool). f l) (fits-alike p c place (omega arith))) (laid-alike p c (suc place) ls (omega arith))
-
-laid-settled : (p : Profile) (place : ℕ) (b : Borders) (k : ℕ) (ls : List Line) → passes p (Due place b) ≡ true → FirstLines p b place ls → laidFrom p (settled p b place k) 0 ls ≡ true
-laid-settled p place Unsettled k ls h f =
-    sym (laid-alike p (settled p Unsettled place k) 0 ls (omega (arith, f .0, within-high 1 (settlingPlace p) place h))) ∙ f .1
-laid-settled p place On k ls h f = f .1
-laid-settled p place Off k ls h f = f .1
-
--- the first lines of a frame, one line longer
-first-longer : (p : Profile) (place : ℕ) (b : Borders) (ls : List Line) (l : Line) → passes p (Due place b) ≡ true → IsDue p b place l → FirstLines p b place ls
-    → FirstLines p (settled p b place (l .kind)) (suc place) (ls ++ (l ∷ []))
-first-longer p place b ls l h d f = (
-  simp length-append (omega (arith, f .0)),
-  laid-append p (settled p b place (l .kind)) 0 place ls (l ∷ []) (omega (arith, f .0)) (laid-settled p place b (l .kind) ls h f) (and-both _ _ (due-fits p place b l h d) refl),
-)
-
--- the lines accepted so far end in those of the frame that the judge is in
+-- the lines accepted so far end in those of the frame that the judge is in: its first lines, with each setting that is still open
 abbrev Traced : Profile → List Line → Judge → Type 0
 Traced p past Waiting = Unit {0}
-Traced p past (Due place b) = (earlier : List Line) × (ls : List Line) × (past ≡ earlier ++ ls) × FirstLines p b place ls
+Traced p past (Due place s) = (earlier : List Line) × (ls : List Line) × (past ≡ earlier ++ ls) × ((b : Borders) → MayBe s b → FirstLines p b place ls)
+
+-- the first lines of a frame, one line longer
+first-longer : (p : Profile) (b : Borders) (place : ℕ) (ls : List Line) (l : Line) → fits p b place l ≡ true → FirstLines p b place ls → FirstLines p b (suc place) (ls ++ (l ∷ []))
+first-longer p b place ls l h f =
+    (simp length-append (omega (arith, f .0)), laid-append p b 0 place ls (l ∷ []) (omega (arith, f .0)) (f .1) (and-both _ _ h refl))
 
 -- the lines accepted so far, one line longer
-longer : (p : Profile) (past : List Line) (place : ℕ) (b : Borders) (l : Line) → passes p (Due place b) ≡ true → IsDue p b place l
-    → Traced p past (Due place b) → Traced p (past ++ (l ∷ [])) (Due (suc place) (settled p b place (l .kind)))
-longer p past place b l h d (earlier, ls, e, f) =
-    (earlier, ls ++ (l ∷ []), ap (λ (x : List Line). x ++ (l ∷ [])) e ∙ append-assoc earlier ls (l ∷ []), first-longer p place b ls l h d f)
+longer : (p : Profile) (past : List Line) (place : ℕ) (s : KnownBorders) (l : Line) → passes p (Due place s) ≡ true → IsDue p s place l
+    → Traced p past (Due place s) → Traced p (past ++ (l ∷ [])) (Due (suc place) (settledBy p s place (l .kind)))
+longer p past place s l h d (earlier, ls, e, f) = (
+  earlier,
+  ls ++ (l ∷ []),
+  ap (λ (x : List Line). x ++ (l ∷ [])) e ∙ append-assoc earlier ls (l ∷ []),
+  λ b o. first-longer p b place ls l (due-fits p place s l b h d o) (f b (may-before p place s (l .kind) b o)),
+)
 
 -- a line that opens a frame is its first
 traced-first : (p : Profile) (past : List Line) (l : Line) → opens (l .kind) (l .number) ≡ true → Traced p (past ++ (l ∷ [])) begun
-unfolding kindAt
-traced-first p past l o = (past, l ∷ [], refl, (refl, subst (λ (x : Line). laidFrom p Unsettled 0 (x ∷ []) ≡ true) (sym (opens-is l o)) refl))
+unfolding kindAtPlace
+traced-first p past l o = (past, l ∷ [], refl, λ b _. (refl, subst (λ (x : Line). laidFrom p b 0 (x ∷ []) ≡ true) (sym (opens-is l o)) refl))
 
 traced-effect : (p : Profile) (past : List Line) (j : Judge) (l : Line) (r : Judged) → Effect p j l r → passes p j ≡ true → Traced p past j → Traced p (past ++ cond (accepts (r .ruling)) (l ∷ []) []) (r .judge)
 traced-effect p past j l _ wrongKind h t = simp append-nil t
@@ -657,9 +567,9 @@ traced-effect p past j l _ breaks h t = tt
 traced-effect p past j l _ strays h t = tt
 traced-effect p past j l _ (starts q o) h t = traced-first p past l o
 traced-effect p past j l _ (restarts o) h t = traced-first p past l o
-traced-effect p past j l _ (goes place b e d g) h t =
-    simp add-one (longer p past place b l (subst (λ (s : Judge). passes p s ≡ true) e h) d (subst (λ (s : Judge). Traced p past s) e t))
-traced-effect p past j l _ (ends place b e d g) h t = tt
+traced-effect p past j l _ (goes place s e d g) h t =
+    simp add-one (longer p past place s l (subst (λ (i : Judge). passes p i ≡ true) e h) d (subst (λ (i : Judge). Traced p past i) e t))
+traced-effect p past j l _ (ends place s e d g) h t = tt
 
 traced : (p : Profile) (past : List Line) (j : Judge) (ls : List Line) → passes p j ≡ true → Traced p past j → Traced p (past ++ accepted p j ls) (after p j ls)
 traced p past j [] h t = simp append-nil t
@@ -670,7 +580,7 @@ traced p past j (l ∷ ls) h t =
 
 -- only a line that is due at the last place is answered Complete
 ends-only : (p : Profile) (j : Judge) (l : Line) (r : Judged) → Effect p j l r → r .ruling ≡ ruling.Complete
-    → (place : ℕ) × (b : Borders) × (j ≡ Due place b) × (IsDue p b place l) × (lastPlace p ≤ place)
+    → (place : ℕ) × (s : KnownBorders) × (j ≡ Due place s) × (IsDue p s place l) × (lastPlace p ≤ place)
 ends-only p j l _ wrongKind e = absurd (true≢false (sym (ap isComplete e)))
 ends-only p j l _ wrongNumber e = absurd (true≢false (sym (ap isComplete e)))
 ends-only p j l _ waits e = absurd (true≢false (sym (ap isComplete e)))
@@ -678,16 +588,21 @@ ends-only p j l _ breaks e = absurd (true≢false (sym (ap isComplete e)))
 ends-only p j l _ strays e = absurd (true≢false (sym (ap isComplete e)))
 ends-only p j l _ (starts q o) e = absurd (true≢false (sym (ap isComplete e)))
 ends-only p j l _ (restarts o) e = absurd (true≢false (sym (ap isComplete e)))
-ends-only p j l _ (goes place b q d g) e = absurd (true≢false (sym (ap isComplete e)))
-ends-only p j l _ (ends place b q d g) e = (place, b, q, d, g)
+ends-only p j l _ (goes place s q d g) e = absurd (true≢false (sym (ap isComplete e)))
+ends-only p j l _ (ends place s q d g) e = (place, s, q, d, g)
 
--- the lines of a judge past the last place end in a whole frame
-traced-whole : (p : Profile) (ls past : List Line) (place : ℕ) (b : Borders) → ls ≡ past → place ≡ lastPlace p → Traced p past (Due (suc place) b)
-    → (c : Borders) × (earlier : List Line) × (frame : List Line) × (ls ≡ earlier ++ frame) × IsFrame p c frame
-traced-whole p ls past place b a e (earlier, frame, t, f) = (b, earlier, frame, a ∙ t, subst (λ (n : ℕ). FirstLines p b n frame) (omega (arith, e)) f)
+-- a line that is due at the last place, where the borders are settled, ends a whole frame
+last-ends-frame : (p : Profile) (past : List Line) (place : ℕ) (s : KnownBorders) (l : Line) → passes p (Due place s) ≡ true → IsDue p s place l → lastPlace p ≤ place
+    → Traced p past (Due place s) → (b : Borders) × (earlier : List Line) × (frame : List Line) × (past ++ (l ∷ []) ≡ earlier ++ frame) × IsFrame p b frame
+last-ends-frame p past place Unsettled l h d g t = absurd (omega (arith, settling-early p, within-high 1 (settlingPlace p) place h))
+last-ends-frame p past place (Settled b) l h d g t = by (longer p past place (Settled b) l h d t)
+  where
+    by : Traced p (past ++ (l ∷ [])) (Due (suc place) (Settled b))
+        → (b : Borders) × (earlier : List Line) × (frame : List Line) × (past ++ (l ∷ []) ≡ earlier ++ frame) × IsFrame p b frame
+    by (earlier, frame, e, f) =
+        (b, earlier, frame, e, subst (λ (n : ℕ). FirstLines p b n frame) (omega (arith, passes-high p place (Settled b) h)) (f b refl))
 
--- if a call is answered Complete, the accepted lines up to it end in exactly the lines of a frame, borders on (Unsettled has the same) or
--- off: no damaged frame is Complete
+-- if a call is answered Complete, the accepted lines up to it end in exactly the lines of a frame, borders on or off: no damaged frame is Complete
 pub complete-frame : (p : Profile) (ls : List Line) (l : Line) → called p (after p Waiting ls) l .ruling ≡ ruling.Complete
     → (b : Borders) × (earlier : List Line) × (frame : List Line) × (accepted p Waiting (ls ++ (l ∷ [])) ≡ earlier ++ frame) × IsFrame p b frame
 complete-frame p ls l v =
@@ -695,7 +610,7 @@ complete-frame p ls l v =
     let past : List Line = accepted p Waiting ls in
     let t : passes p j ≡ true = reached-passes p ls in
     let f = ends-only p j l (called p j l) (effect p j l t) v in
-    let q : passes p (Due (f .0) (f .1)) ≡ true = subst (λ (s : Judge). passes p s ≡ true) (f .2) t in
-    let x = longer p past (f .0) (f .1) l q (f .3) (subst (λ (s : Judge). Traced p past s) (f .2) (traced p [] Waiting ls refl tt)) in
-    traced-whole p (accepted p Waiting (ls ++ (l ∷ []))) (past ++ (l ∷ [])) (f .0) (settled p (f .1) (f .0) (l .kind))
-    (accepted-snoc p Waiting ls l ∙ ap (λ (a : Ruling). past ++ cond (accepts a) (l ∷ []) []) v) (omega (arith, passes-high p (f .0) (f .1) q)) x
+    let all : accepted p Waiting (ls ++ (l ∷ [])) ≡ past ++ (l ∷ []) = accepted-snoc p Waiting ls l ∙ ap (λ (a : Ruling). past ++ cond (accepts a) (l ∷ []) []) v in
+    subst (λ (x : List Line). (b : Borders) × (earlier : List Line) × (frame : List Line) × (x ≡ earlier ++ frame) × IsFrame p b frame) (sym all)
+    (last-ends-frame p past (f .0) (f .1) l (subst (λ (i : Judge). passes p i ≡ true) (f .2) t) (f .3) (f .4)
+    (subst (λ (i : Judge). Traced p past i) (f .2) (traced p [] Waiting ls refl tt)))

@@ -1,16 +1,15 @@
 // The layout of a frame: of profile 0 (paper 01, 'Frames of profile 0') and of the VV5300 (paper 000, 'Frame Level Formatting').
 //
-// In: the profile, the borders as far as they are settled, and a place, counted from 0. Out: whether a line is the one due there, and the
-// borders after it; the place that settles the borders, and the last one. Nothing is refused. Cost: constant.
+// In: the profile, whether borders are on, and a place, counted from 0. Out: whether a line is due there; the place that settles the borders,
+// and the last one. Nothing is refused. Cost: constant.
 ghost use mathlib.Core.Path.{_≡_};
-ghost use Rattle.frame_layout.specs.FrameLayout.{laidOut, bordersOn, bordersOff, layout, lastPlace, settlingPlace, kindAt, standsAt, kindDue, numberDue, lineDue, settled};
+ghost use Rattle.frame_layout.specs.FrameLayout.{bordersOn, bordersOff, layout, lastPlace, settlingPlace, kindAtPlace, standsAt, numberDue, dueAt};
 ghost use Rattle.frame_layout.specs.Places.{kindWithin};
 use line_code::Kind;
 use profile::Profile;
 
-// Whether a frame shows its borders: settled by the line at the place of the first visible line with borders on.
+// Whether a frame shows its borders.
 pub enum Borders {
-    Unsettled,
     On,
     Off,
 }
@@ -49,8 +48,18 @@ fn borders_on(profile: Profile) -> Layout
     ensures { λ r. ⌜ r ≡ bordersOn profile ⌝ }
 {
     match profile {
-        Profile::VV5404 => laid_out(10, 301, 302, 303),
-        Profile::VV5300 => laid_out(11, 134, 145, 146),
+        Profile::VV5404 => Layout {
+            from: 10,
+            to: 301,
+            end: 302,
+            last: 303,
+        },
+        Profile::VV5300 => Layout {
+            from: 11,
+            to: 134,
+            end: 145,
+            last: 146,
+        },
     }
 }
 
@@ -58,19 +67,18 @@ fn borders_off(profile: Profile) -> Layout
     ensures { λ r. ⌜ r ≡ bordersOff profile ⌝ }
 {
     match profile {
-        Profile::VV5404 => laid_out(12, 299, 300, 303),
-        Profile::VV5300 => laid_out(13, 132, 145, 146),
-    }
-}
-
-fn laid_out(from: u16, to: u16, end: u16, last: u16) -> Layout
-    ensures { λ r. ⌜ r ≡ laidOut from to end last ⌝ }
-{
-    Layout {
-        from,
-        to,
-        end,
-        last,
+        Profile::VV5404 => Layout {
+            from: 12,
+            to: 299,
+            end: 300,
+            last: 303,
+        },
+        Profile::VV5300 => Layout {
+            from: 13,
+            to: 132,
+            end: 145,
+            last: 146,
+        },
     }
 }
 
@@ -99,12 +107,11 @@ impl Layout {
 }
 
 impl Borders {
-    // The layout of a frame; until the borders are settled, that with borders on.
+    // The layout of a frame.
     fn layout(self, profile: Profile) -> Layout
         ensures { λ r. ⌜ r ≡ layout profile self ⌝ }
     {
         match self {
-            Borders::Unsettled => borders_on(profile),
             Borders::On => borders_on(profile),
             Borders::Off => borders_off(profile),
         }
@@ -114,30 +121,14 @@ impl Borders {
     fn stands_at(self, profile: Profile, place: u16, kind: u8) -> bool
         ensures { λ r. ⌜ r ≡ standsAt profile self place kind ⌝ }
     {
-        kind == self.kind_at(profile, place).number()
+        kind == self.kind_at_place(profile, place).number()
     }
 
     // The kind of the line at a place.
-    fn kind_at(self, profile: Profile, place: u16) -> Kind
-        ensures { λ r. ⌜ r ≡ kindAt profile self place ⌝ }
+    fn kind_at_place(self, profile: Profile, place: u16) -> Kind
+        ensures { λ r. ⌜ r ≡ kindAtPlace profile self place ⌝ }
     {
         self.layout(profile).kind_within(place)
-    }
-
-    // Whether a line of this kind is due at a place.
-    fn kind_due(self, profile: Profile, place: u16, kind: u8) -> bool
-        ensures { λ r. ⌜ r ≡ kindDue profile self place kind ⌝ }
-    {
-        match self {
-            Borders::Unsettled => {
-                if Borders::On.stands_at(profile, place, kind) {
-                    return true;
-                }
-                Borders::Off.stands_at(profile, place, kind)
-            }
-            Borders::On => self.stands_at(profile, place, kind),
-            Borders::Off => self.stands_at(profile, place, kind),
-        }
     }
 
     // Whether this number is due at a place: the place's own, or, after the EOF line, any.
@@ -151,33 +142,13 @@ impl Borders {
         place > layout.end
     }
 
-    // Whether this is the line due at a place.
-    pub fn line_due(self, profile: Profile, place: u16, kind: u8, number: u16) -> bool
-        ensures { λ r. ⌜ r ≡ lineDue profile self place kind number ⌝ }
+    // Whether a line of this kind and number is due at a place.
+    pub fn due_at(self, profile: Profile, place: u16, kind: u8, number: u16) -> bool
+        ensures { λ r. ⌜ r ≡ dueAt profile self place kind number ⌝ }
     {
-        if self.kind_due(profile, place, kind) {
+        if self.stands_at(profile, place, kind) {
             return self.number_due(profile, place, number);
         }
         false
-    }
-
-    // The borders after a line that was due.
-    pub fn settled(self, profile: Profile, place: u16, kind: u8) -> Borders
-        ensures { λ r. ⌜ r ≡ settled profile self place kind ⌝ }
-    {
-        match self {
-            Borders::Unsettled => {
-                let on = borders_on(profile);
-                if place < on.from {
-                    return Borders::Unsettled;
-                }
-                if kind == Kind::VL.number() {
-                    return Borders::On;
-                }
-                Borders::Off
-            }
-            Borders::On => Borders::On,
-            Borders::Off => Borders::Off,
-        }
     }
 }

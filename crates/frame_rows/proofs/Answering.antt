@@ -2,7 +2,7 @@
 use mathlib.Core.Path.{_≡_, sym, ap, _∙_}
 use mathlib.Core.List.{List}
 use Prim.Native.Nat.{ℕ}
-use Rattle.frame_layout.specs.declared.Borders.{Borders}
+use Rattle.frame.specs.declared.KnownBorders.{KnownBorders}
 use Rattle.frame.specs.declared.Judge.{Judge}
 use Rattle.frame.specs.declared.Judge.the-variants.{Due}
 use Rattle.frame_rows.specs.declared.Gatherer.{Gatherer}
@@ -25,7 +25,7 @@ pub quietly : {moved s : Gatherer} {answer : Gathered} → answer ≡ saying mov
 quietly e f = e ∙ ap (λ (x : Gatherer). saying x progress.Nothing) f
 
 -- a line that breaks a frame and leaves the judge in one has opened it
-pub opens-anew : {j : Judge} {place : ℕ} {b : Borders} → j ≡ Due place b → (s : Gatherer) (kind : ℕ) (body buffer : List ℕ)
+pub opens-anew : {j : Judge} {place : ℕ} {b : KnownBorders} → j ≡ Due place b → (s : Gatherer) (kind : ℕ) (body buffer : List ℕ)
     → afterBreak s j kind body buffer ≡ onward s j 0 0 kind body buffer
 unfolding afterBreak
 opens-anew e s kind body buffer = ap (λ (j : Judge). afterBreak s j kind body buffer) e ∙ ap (λ (j : Judge). onward s j 0 0 kind body buffer) (sym e)

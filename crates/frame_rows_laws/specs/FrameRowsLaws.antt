@@ -2,7 +2,7 @@
 -- While the judge is in a frame, the rows kept are those of the lines since the last SOF numbered 0 (`HoldsRows`); `complete-frame` says which lines
 -- those are when the judge says Complete.
 use mathlib.Core.Path.{_≡_, refl, sym, ap, subst, _∙_}
-use mathlib.Core.Bool.{Bool, true, false, _&&_, _||_, cond, true≢false}
+use mathlib.Core.Bool.{Bool, true, false, cond, true≢false}
 use mathlib.Core.List.{List, [], _∷_, _++_, append-nil, append-assoc}
 use Prim.Native.Nat.{ℕ, suc, _+_, _*_, _≤_, _<_}
 use native.Mathlib.Omega.{arith}
@@ -13,25 +13,26 @@ use lib.Seq.{length-take-le, take-at, drop-cons}
 use Rattle.refusal.specs.Refusal.{noRoom, badKind, numberTooLarge, notTheLineDue}
 use Rattle.bits.specs.Every.{and-left, and-right}
 use Rattle.line_code.specs.declared.Kind.{Kind}
-use Rattle.line_code.specs.declared.Kind.the-variants.{BL, SOF}
+use Rattle.line_code.specs.declared.Kind.the-variants.{BL}
 use Rattle.line_code.specs.LineCode.{kindNumber}
 use Rattle.profile.specs.declared.Profile.the-variants.{VV5404}
 use Rattle.profile.specs.Profile.{width}
 use Rattle.frame_layout.specs.declared.Borders.{Borders}
-use Rattle.frame_layout.specs.declared.Borders.the-variants.{Unsettled, On, Off}
+use Rattle.frame_layout.specs.declared.Borders.the-variants.{On, Off}
 use Rattle.frame_handing.specs.declared.Handed.{Handed}
 use Rattle.frame_handing.specs.declared.Handed.the-variants as hand
+use Rattle.frame.specs.declared.KnownBorders.{KnownBorders}
+use Rattle.frame.specs.declared.KnownBorders.the-variants.{Unsettled}
 use Rattle.frame.specs.declared.Judge.{Judge}
 use Rattle.frame.specs.declared.Judge.the-variants.{Waiting, Due}
 use Rattle.frame.specs.declared.Judged.{Judged}
 use Rattle.frame.specs.declared.Ruling.{Ruling}
 use Rattle.frame.specs.declared.Ruling.the-variants as ruling
-use Rattle.frame_layout.specs.FrameLayout.{layout, kindsOf, lastPlace, kindAt, standsAt, kindDue}
+use Rattle.frame_layout.specs.FrameLayout.{layout, kindsOf, lastPlace, kindAtPlace, standsAt}
 use Rattle.frame.specs.Frame.{opens, begun, passes, gives}
 use Rattle.frame.specs.Calls.{Line, called, after, isBreak, accepts, accepted, fits, laidFrom, IsFrame}
-use Rattle.bits.specs.Agree.{agree}
 use Rattle.frame_layout.specs.FrameLength.{frame-length}
-use Rattle.frame_laws.specs.FrameLaws.{passes-high, after-snoc, accepted-snoc, opens-is, first-is, sof-within, IsDue, Effect, wrongKind, wrongNumber, waits, breaks, strays, starts, restarts, goes, ends, effect, reached-passes, complete-frame}
+use Rattle.frame_laws.specs.FrameLaws.{passes-high, after-snoc, accepted-snoc, opens-is, first-is, later-opens-none, due-with, sof-within, IsDue, Effect, wrongKind, wrongNumber, waits, breaks, strays, starts, restarts, goes, ends, effect, reached-passes, complete-frame}
 use Rattle.frame_handing.specs.Handing.{handedOver, asLines, handedLines}
 use Rattle.pixel_order.specs.declared.Way.the-variants.{ToPixels}
 use Rattle.pixel_order.specs.PixelOrderLaws.{reordered-length}
@@ -99,28 +100,14 @@ since-append own (l ∷ a) b = since-append (cond (isFirst l) [] own ++ (l ∷ [
 latest-snoc : (ls : List Shown) (l : Shown) (t : Bool) → isFirst l ≡ t → latest (ls ++ (l ∷ [])) ≡ cond t [] (latest ls) ++ (l ∷ [])
 latest-snoc ls l t e = since-append [] ls (l ∷ []) ∙ ap (λ (x : Bool). cond x [] (latest ls) ++ (l ∷ [])) e
 
--- an SOF stands at no place of a frame but the first
-abbrev sofAt : Borders → ℕ → Bool
-sofAt b place = eqb (kindNumber (kindAt VV5404 b place)) (kindNumber SOF)
+pub stands : (b : Borders) (place : ℕ) (l : Line) → fits VV5404 b place l ≡ true → l .kind ≡ kindNumber (kindAtPlace VV5404 b place)
+stands b place l h = eqb-true (l .kind) _ (and-left _ _ (and-left _ _ h))
 
-sof-once : (b : Borders) (n : ℕ) → n < lastPlace VV5404 → sofAt b (suc n) ≡ false
-unfolding kindAt
-sof-once Unsettled = agree (λ (n : ℕ). sofAt Unsettled (suc n)) (λ (n : ℕ). false) (lastPlace VV5404) refl
-sof-once On = agree (λ (n : ℕ). sofAt On (suc n)) (λ (n : ℕ). false) (lastPlace VV5404) refl
-sof-once Off = agree (λ (n : ℕ). sofAt Off (suc n)) (λ (n : ℕ). false) (lastPlace VV5404) refl
-
-pub stands : (b : Borders) (place : ℕ) (l : Line) → fits VV5404 b place l ≡ true → l .kind ≡ kindNumber (kindAt VV5404 b place)
-stands b place l h = eqb-true (l .kind) _ (and-left _ _ h)
-
-not-first : (b : Borders) (n : ℕ) (l : Shown) → n < lastPlace VV5404 → fits VV5404 b (suc n) (l .given) ≡ true → isFirst l ≡ false
-not-first b n l g h =
-    ap (λ (k : ℕ). opens k (l .given .number)) (stands b (suc n) (l .given) h) ∙ ap (λ (t : Bool). t && eqb (l .given .number) 0) (sof-once b n g)
-
-since-laid : (b : Borders) (n : ℕ) (own ls : List Shown) → suc n + length (linesOf ls) ≤ lastPlace VV5404 + 1 → laidFrom VV5404 b (suc n) (linesOf ls) ≡ true → since own ls ≡ own ++ ls
-since-laid b n own [] g h = sym (append-nil own)
-since-laid b n own (l ∷ ls) g h =
-    ap (λ (t : Bool). since (cond t [] own ++ (l ∷ [])) ls) (not-first b n l (omega arith) (and-left _ _ h))
-    ∙ since-laid b (suc n) (own ++ (l ∷ [])) ls (omega arith) (and-right (fits VV5404 b (suc n) (l .given)) _ h)
+since-laid : (b : Borders) (n : ℕ) (own ls : List Shown) → laidFrom VV5404 b (suc n) (linesOf ls) ≡ true → since own ls ≡ own ++ ls
+since-laid b n own [] h = sym (append-nil own)
+since-laid b n own (l ∷ ls) h =
+    ap (λ (t : Bool). since (cond t [] own ++ (l ∷ [])) ls) (later-opens-none VV5404 b n (l .given) (and-left _ _ h))
+    ∙ since-laid b (suc n) (own ++ (l ∷ [])) ls (and-right (fits VV5404 b (suc n) (l .given)) _ h)
     ∙ append-assoc own (l ∷ []) ls
 
 -- where lines end in a whole frame, that is the latest
@@ -129,16 +116,11 @@ frame-latest b earlier [] f = absurd (let e = f .0 in omega arith)
 frame-latest b earlier (l ∷ ls) f =
     since-append [] earlier (l ∷ ls)
     ∙ ap (λ (t : Bool). since (cond t [] (latest earlier) ++ (l ∷ [])) ls) (ap (λ (x : Line). opens (x .kind) (x .number)) (first-is VV5404 b (l .given) (and-left _ _ (f .1))))
-    ∙ since-laid b 0 (l ∷ []) ls (let e = f .0 in omega arith) (and-right (fits VV5404 b 0 (l .given)) _ (f .1))
+    ∙ since-laid b 0 (l ∷ []) ls (and-right (fits VV5404 b 0 (l .given)) _ (f .1))
 
 -- the last line of a frame is blank
-last-blank : (b : Borders) (k : ℕ) → kindDue VV5404 b (lastPlace VV5404) k ≡ true → k ≡ kindNumber BL
-unfolding kindAt
-last-blank Unsettled k h = by (standsAt VV5404 On (lastPlace VV5404) k) (standsAt VV5404 Off (lastPlace VV5404) k) refl refl h
-  where
-    by : (s t : Bool) → standsAt VV5404 On (lastPlace VV5404) k ≡ s → standsAt VV5404 Off (lastPlace VV5404) k ≡ t → (s || t) ≡ true → k ≡ kindNumber BL
-    by true t e f g = eqb-true k _ e
-    by false t e f g = eqb-true k _ (f ∙ g)
+last-blank : (b : Borders) (k : ℕ) → standsAt VV5404 b (lastPlace VV5404) k ≡ true → k ≡ kindNumber BL
+unfolding kindAtPlace
 last-blank On k h = eqb-true k _ h
 last-blank Off k h = eqb-true k _ h
 
@@ -193,16 +175,15 @@ visibleKinds [] = 0
 visibleKinds (k ∷ ks) = counted (isVisible (kindNumber k)) + visibleKinds ks
 
 laid-visibles : (b : Borders) (place : ℕ) (ls : List Line) → place + length ls ≡ lastPlace VV5404 + 1 → laidFrom VV5404 b place ls ≡ true → visibles ls ≡ visibleKinds (drop place (kindsOf (layout VV5404 b)))
-unfolding kindAt
+unfolding kindAtPlace
 laid-visibles b place [] e h = sym (ap visibleKinds (drop-of-length-le (kindsOf (layout VV5404 b)) {i = place} (omega (arith, frame-length VV5404 b))))
 laid-visibles b place (l ∷ ls) e h =
     let g : place < length (kindsOf (layout VV5404 b)) = omega (arith, frame-length VV5404 b) in
     ap (λ (k : ℕ). counted (isVisible k) + visibles ls) (stands b place l (and-left _ _ h))
-    ∙ ap (λ (m : ℕ). counted (isVisible (kindNumber (kindAt VV5404 b place))) + m) (laid-visibles b (suc place) ls (omega arith) (and-right (fits VV5404 b place l) _ h))
+    ∙ ap (λ (m : ℕ). counted (isVisible (kindNumber (kindAtPlace VV5404 b place))) + m) (laid-visibles b (suc place) ls (omega arith) (and-right (fits VV5404 b place l) _ h))
     ∙ sym (ap visibleKinds (drop-cons (kindsOf (layout VV5404 b)) place BL g))
 
 frame-visibles : (b : Borders) → visibleKinds (kindsOf (layout VV5404 b)) * width ≡ size (pictureOf b)
-frame-visibles Unsettled = refl
 frame-visibles On = refl
 frame-visibles Off = refl
 
@@ -333,23 +314,23 @@ module _ (k : Keeping) (ls : List Shown) (x : AfterCall) (h : HoldsRows k ls x) 
 
   -- The rows, with this line's.
 
-  first-rows : isFirst l ≡ true → (b : Borders) (place kept : ℕ) (buffer : List ℕ) → KeptRows k (l ∷ []) place kept buffer → Rows k (ls ++ (l ∷ [])) (Due place b) kept buffer
-  first-rows e b place kept buffer r = subst (λ (own : List Shown). KeptRows k own place kept buffer) (sym (latest-snoc ls l true e)) r
+  first-rows : isFirst l ≡ true → (s : KnownBorders) (place kept : ℕ) (buffer : List ℕ) → KeptRows k (l ∷ []) place kept buffer → Rows k (ls ++ (l ∷ [])) (Due place s) kept buffer
+  first-rows e s place kept buffer r = subst (λ (own : List Shown). KeptRows k own place kept buffer) (sym (latest-snoc ls l true e)) r
 
-  later-rows : isFirst l ≡ false → (b : Borders) (place kept : ℕ) (buffer : List ℕ) → KeptRows k (latest ls ++ (l ∷ [])) place kept buffer
-      → Rows k (ls ++ (l ∷ [])) (Due place b) kept buffer
-  later-rows e b place kept buffer r = subst (λ (own : List Shown). KeptRows k own place kept buffer) (sym (latest-snoc ls l false e)) r
+  later-rows : isFirst l ≡ false → (s : KnownBorders) (place kept : ℕ) (buffer : List ℕ) → KeptRows k (latest ls ++ (l ∷ [])) place kept buffer
+      → Rows k (ls ++ (l ∷ [])) (Due place s) kept buffer
+  later-rows e s place kept buffer r = subst (λ (own : List Shown). KeptRows k own place kept buffer) (sym (latest-snoc ls l false e)) r
 
   -- A line while the judge is in a frame.
 
   passing : passes VV5404 (x .gatherer .judge) ≡ true
   passing = sym (ap (passes VV5404) (h .judge)) ∙ reached-passes VV5404 (linesOf ls)
 
-  kept-rows : (place : ℕ) (b : Borders) → x .gatherer .judge ≡ Due place b → Rows k ls (Due place b) (x .gatherer .kept) (x .buffer)
+  kept-rows : (place : ℕ) (b : KnownBorders) → x .gatherer .judge ≡ Due place b → Rows k ls (Due place b) (x .gatherer .kept) (x .buffer)
   kept-rows place b q = subst (λ (j : Judge). Rows k ls j (x .gatherer .kept) (x .buffer)) q (h .rows)
 
   -- a line that breaks no frame is no SOF numbered 0
-  not-first-within : (place : ℕ) (b : Borders) (r : Judged) → x .gatherer .judge ≡ Due place b → called VV5404 (x .gatherer .judge) (l .given) ≡ r → isBreak (r .ruling) ≡ false → isFirst l ≡ false
+  not-first-within : (place : ℕ) (b : KnownBorders) (r : Judged) → x .gatherer .judge ≡ Due place b → called VV5404 (x .gatherer .judge) (l .given) ≡ r → isBreak (r .ruling) ≡ false → isFirst l ≡ false
   not-first-within place b r q c e = by (isFirst l) refl
     where
       by : (t : Bool) → isFirst l ≡ t → isFirst l ≡ false
@@ -389,7 +370,7 @@ module _ (k : Keeping) (ls : List Shown) (x : AfterCall) (h : HoldsRows k ls x) 
       (λ n buffer r. first-rows f Unsettled 1 n buffer (subst (λ (m : Keeping). KeptRows m (l ∷ []) 1 n buffer) (h .keeping) r))
 
   -- and a line within one
-  mid-frame : (place : ℕ) (b c : Borders) → x .gatherer .judge ≡ Due place b → called VV5404 (x .gatherer .judge) (l .given) ≡ gives (Due (place + 1) c) ruling.Going
+  mid-frame : (place : ℕ) (b c : KnownBorders) → x .gatherer .judge ≡ Due place b → called VV5404 (x .gatherer .judge) (l .given) ≡ gives (Due (place + 1) c) ruling.Going
       → HoldsNext k ls l (onward (x .gatherer) (Due (place + 1) c) (x .gatherer .kept) (placeDue (x .gatherer .judge)) (l .given .kind) (l .body) (x .buffer))
   mid-frame place b c q e =
       let s : Gatherer = x .gatherer in
@@ -400,7 +381,7 @@ module _ (k : Keeping) (ls : List Shown) (x : AfterCall) (h : HoldsRows k ls x) 
       (λ n buffer r. later-rows later c (place + 1) n buffer (subst (λ (m : Keeping). KeptRows m (latest ls ++ (l ∷ [])) (place + 1) n buffer) (h .keeping) r)))
 
   -- a frame's last line
-  ending : (place : ℕ) (b : Borders) → x .gatherer .judge ≡ Due place b → IsDue VV5404 b place (l .given) → lastPlace VV5404 ≤ place
+  ending : (place : ℕ) (b : KnownBorders) → x .gatherer .judge ≡ Due place b → IsDue VV5404 b place (l .given) → lastPlace VV5404 ≤ place
       → called VV5404 (x .gatherer .judge) (l .given) ≡ gives Waiting ruling.Complete
       → HoldsNext k ls l (completed (x .gatherer) Waiting (placeDue (x .gatherer .judge)) (l .given .kind) (l .body) (x .buffer))
   unfolding completed
@@ -420,8 +401,9 @@ module _ (k : Keeping) (ls : List Shown) (x : AfterCall) (h : HoldsRows k ls x) 
 
       blank : l .given .kind ≡ kindNumber BL
       blank =
-          last-blank b (l .given .kind)
-          (subst (λ (n : ℕ). kindDue VV5404 b n (l .given .kind) ≡ true) (omega (arith, passes-high VV5404 place b (sym (ap (passes VV5404) q) ∙ passing))) (and-left _ _ (d .0)))
+          let (c, e) = due-with VV5404 b place (l .given .kind) (l .given .number) (d .0) in
+          last-blank c (l .given .kind)
+          (subst (λ (n : ℕ). standsAt VV5404 c n (l .given .kind) ≡ true) (omega (arith, passes-high VV5404 place b (sym (ap (passes VV5404) q) ∙ passing))) (and-left _ _ e))
 
       later : isFirst l ≡ false
       later = ap (λ (k : ℕ). opens k (l .given .number)) blank

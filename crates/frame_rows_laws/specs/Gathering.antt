@@ -10,7 +10,7 @@ use Rattle.profile.specs.Profile.{width}
 use Rattle.profile.specs.Layout.{rules, fits}
 use Rattle.stream.specs.declared.Answer.{Answer}
 use Rattle.frame_layout.specs.declared.Borders.{Borders}
-use Rattle.frame_layout.specs.declared.Borders.the-variants.{Unsettled, On, Off}
+use Rattle.frame_layout.specs.declared.Borders.the-variants.{On, Off}
 use Rattle.frame_layout.specs.FrameLayout.{lastPlace}
 use Rattle.frame.specs.Calls.{Line, IsFrame}
 use Rattle.frame_handing.specs.Handing.{handedLines}
@@ -80,9 +80,8 @@ abbrev pub linesOf : List Shown → List Line
 linesOf [] = []
 linesOf (l ∷ ls) = l .given ∷ linesOf ls
 
--- the picture of a frame: borders on (Unsettled has the same) or off
+-- the picture of a frame
 abbrev pub pictureOf : Borders → Format
-pictureOf Unsettled = Bordered
 pictureOf On = Bordered
 pictureOf Off = Plain
 

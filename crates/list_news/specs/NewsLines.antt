@@ -5,25 +5,26 @@ use Prim.Native.Nat.{ℕ}
 use lib.Dec.{eqb, ltb}
 use Rattle.refusal.specs.Refusal.{notTheLineDue, brokenLine}
 use Rattle.text.specs.Text.{ascii, newline, decimal}
-use Rattle.frame_layout.specs.declared.Borders.{Borders}
-use Rattle.frame_layout.specs.declared.Borders.the-variants.{Unsettled, On, Off}
+use Rattle.frame_layout.specs.declared.Borders.the-variants.{On, Off}
+use Rattle.frame.specs.declared.KnownBorders.{KnownBorders}
+use Rattle.frame.specs.declared.KnownBorders.the-variants.{Unsettled, Settled}
 use Rattle.tally.specs.declared.News.{News}
 use Rattle.tally.specs.declared.News.the-variants.{Nothing, Complete, Broken, Cut}
 
 -- Words.
 
 -- on, off, or unsettled, which no complete frame is
-abbrev pub bordersWord : Borders → List ℕ
+abbrev pub bordersWord : KnownBorders → List ℕ
 bordersWord Unsettled = ascii "unsettled"
-bordersWord On = ascii "on"
-bordersWord Off = ascii "off"
+bordersWord (Settled On) = ascii "on"
+bordersWord (Settled Off) = ascii "off"
 
 abbrev pub frameWords : ℕ → List ℕ
 frameWords frame = ascii "frame " ++ decimal frame
 
 -- Lines.
 
-unfoldable pub completeLine : ℕ → Borders → ℕ → List ℕ
+unfoldable pub completeLine : ℕ → KnownBorders → ℕ → List ℕ
 completeLine frame b mark = frameWords frame ++ (ascii " complete, borders " ++ (bordersWord b ++ (ascii ", last line at mark " ++ decimal mark)))
 
 -- a broken line, with the mark's own answer

@@ -8,16 +8,17 @@ use lib.ListN.{length, length-append}
 use Rattle.refusal.specs.Refusal.{notTheLineDue, brokenLine}
 use Rattle.text.specs.Text.{ascii}
 use Rattle.text.specs.TextLaws.{decimal-short}
-use Rattle.frame_layout.specs.declared.Borders.{Borders}
-use Rattle.frame_layout.specs.declared.Borders.the-variants.{Unsettled, On, Off}
+use Rattle.frame_layout.specs.declared.Borders.the-variants.{On, Off}
+use Rattle.frame.specs.declared.KnownBorders.{KnownBorders}
+use Rattle.frame.specs.declared.KnownBorders.the-variants.{Unsettled, Settled}
 use Rattle.tally.specs.declared.News.{News}
 use Rattle.tally.specs.declared.News.the-variants.{Nothing, Complete, Broken, Cut}
 use Rattle.list_news.specs.NewsLines.{bordersWord, brokenLineWords, reasonWords, completeLine, brokenLineOf, newsLine, newsRoom}
 
-borders-short : (b : Borders) → length (bordersWord b) ≤ 9
+borders-short : (b : KnownBorders) → length (bordersWord b) ≤ 9
 borders-short Unsettled = omega arith
-borders-short On = omega arith
-borders-short Off = omega arith
+borders-short (Settled On) = omega arith
+borders-short (Settled Off) = omega arith
 
 reason-short : (refusal own : ℕ) → length (reasonWords refusal own) ≤ 50
 unfolding reasonWords
@@ -28,7 +29,7 @@ reason-short refusal own = either (eqb refusal notTheLineDue) (eqb refusal broke
     either false true = simp length-append (omega (arith, decimal-short own))
     either false false = omega arith
 
-complete-short : (frame : ℕ) (b : Borders) (mark : ℕ) → length (completeLine frame b mark) ≤ 94
+complete-short : (frame : ℕ) (b : KnownBorders) (mark : ℕ) → length (completeLine frame b mark) ≤ 94
 unfolding completeLine
 complete-short frame b mark = simp length-append (omega (arith, decimal-short frame, borders-short b, decimal-short mark))
 

@@ -5,6 +5,7 @@
 ghost use lib.ListN.{length};
 ghost use Rattle.text.specs.Put.{Puts, AtFront};
 ghost use Rattle.list_news.specs.NewsLines.{frameWords, bordersWord, brokenLineWords, reasonWords, completeLine, brokenLineOf, newsLine, newsIfRoom};
+use frame::KnownBorders;
 use frame_layout::Borders;
 use tally::News;
 use text::put;
@@ -37,7 +38,7 @@ pub fn news(news: News, out: &mut [u8]) -> usize
     }
 }
 
-fn put_complete(frame: u64, borders: Borders, mark: u64, out: &mut [u8]) -> usize
+fn put_complete(frame: u64, borders: KnownBorders, mark: u64, out: &mut [u8]) -> usize
     ensures { λ r. ⌜ Puts (now (out .entry)) 0 (completeLine frame borders mark) r (now (out .exit)) ⌝ }
 {
     let at = put_frame(frame, out);
@@ -65,13 +66,15 @@ fn put_frame(frame: u64, out: &mut [u8]) -> usize
     put_decimal(frame, out, at)
 }
 
-fn put_borders(borders: Borders, out: &mut [u8], at: usize) -> usize
+fn put_borders(borders: KnownBorders, out: &mut [u8], at: usize) -> usize
     ensures { λ r. ⌜ Puts (now (out .entry)) at (bordersWord borders) r (now (out .exit)) ⌝ }
 {
     match borders {
-        Borders::Unsettled => put(b"unsettled", out, at),
-        Borders::On => put(b"on", out, at),
-        Borders::Off => put(b"off", out, at),
+        KnownBorders::Unsettled => put(b"unsettled", out, at),
+        KnownBorders::Settled(borders) => match borders {
+            Borders::On => put(b"on", out, at),
+            Borders::Off => put(b"off", out, at),
+        },
     }
 }
 

@@ -3,7 +3,7 @@
 use mathlib.Core.Path.{_≡_, refl, _∙_, ap, ap₂, sym, subst}
 use mathlib.Core.Bool.{Bool, true, false, true≢false, _||_}
 use mathlib.Core.List.{List, [], _∷_, _++_, append-assoc, map}
-use Prim.Native.Nat.{ℕ, zero, suc, _+_, _≤_, _<_}
+use Prim.Native.Nat.{ℕ, zero, suc, _+_, _≤_}
 use native.Mathlib.Nat.{not-suc-le-zero, le-of-suc-le-suc}
 use native.Mathlib.Omega.{arith}
 use lib.Dec.{leb}
@@ -19,17 +19,17 @@ use Rattle.line_number.specs.LineNumber.{greatest}
 use Rattle.profile.specs.declared.Profile.the-variants.{VV5404}
 use Rattle.stream.specs.Written.{Sent}
 use Rattle.frame_layout.specs.declared.Borders.{Borders}
-use Rattle.frame_layout.specs.declared.Borders.the-variants.{Unsettled, On, Off}
 use Rattle.frame.specs.declared.Judge.{Judge}
 use Rattle.frame.specs.declared.Judge.the-variants.{Waiting, Due}
 use Rattle.frame.specs.declared.Ruling.{Ruling}
 use Rattle.frame.specs.declared.Ruling.the-variants as ruling
 use Rattle.frame.specs.declared.Judged.{Judged}
-use Rattle.frame_layout.specs.FrameLayout.{lastPlace, kindAt, standsAt, numberDue}
+use Rattle.frame_layout.specs.FrameLayout.{lastPlace, standsAt, dueAt}
+use Rattle.frame_layout.specs.PlaceLaws.{sof-only-first}
 use Rattle.frame.specs.Frame.{passes, gives, refuses, judgeOf}
 use Rattle.frame.specs.Calls.{Line, line, called, after, rulings, isComplete, fits, laidFrom, IsFrame}
 use Rattle.frame_laws.specs.CompleteFrames.{toComplete}
-use Rattle.frame_laws.specs.FrameLaws.{after-append, rulings-append, sof-not-due, frame-complete, Effect, wrongKind, wrongNumber, waits, breaks, strays, starts, restarts, goes, ends, effect, passes-after}
+use Rattle.frame_laws.specs.FrameLaws.{after-append, rulings-append, frame-complete, Effect, wrongKind, wrongNumber, waits, breaks, strays, starts, restarts, goes, ends, effect, passes-after}
 use Rattle.frame_laws.specs.SentFrames.{judgedLine, allLines, AllFrames, no-frames, and-frame}
 use Rattle.slip.specs.SlipFrames.{allComplete, atSlip, lost}
 use Rattle.slip.specs.LeftHanded.{brokenOne}
@@ -130,32 +130,25 @@ still-waiting (suc n) = judging-then (judging-one broken-waiting) (still-waiting
 
 -- The lines after the slip: none opens a frame.
 
-no-sof : (b : Borders) (n : ℕ) → n < lastPlace VV5404 → standsAt VV5404 b (suc n) (kindNumber SOF) ≡ false
-unfolding kindAt
-no-sof Unsettled n h = sof-not-due VV5404 On n h
-no-sof On n h = sof-not-due VV5404 On n h
-no-sof Off n h = sof-not-due VV5404 Off n h
-
-waits-on : (b : Borders) (n : ℕ) → n < lastPlace VV5404 → (k : Kind) (number : ℕ) → fits VV5404 b (suc n) (line (kindNumber k) number) ≡ true
+waits-on : (b : Borders) (n : ℕ) (k : Kind) (number : ℕ) → fits VV5404 b (suc n) (line (kindNumber k) number) ≡ true
     → called VV5404 Waiting (line (kindNumber k) number) ≡ gives Waiting ruling.Waiting
 unfolding judgeOf
-waits-on b n l k number f =
-    go k (and-left _ _ f) (and-right (numberDue VV5404 b (suc n) number) _ (and-right (standsAt VV5404 b (suc n) (kindNumber k)) _ f))
+waits-on b n k number f = go k (and-left _ _ (and-left _ _ f)) (and-right (dueAt VV5404 b (suc n) (kindNumber k) number) _ f)
   where
     go : (k : Kind) → standsAt VV5404 b (suc n) (kindNumber k) ≡ true → leb number greatest ≡ true
         → judgeOf VV5404 Waiting (kindNumber k) number ≡ gives Waiting ruling.Waiting
     go BL s h = simp h
     go BK s h = simp h
     go VL s h = simp h
-    go SOF s h = absurd (true≢false (sym s ∙ no-sof b n l))
+    go SOF s h = absurd (true≢false (sym s ∙ sof-only-first VV5404 b n))
     go EOF s h = simp h
 
-rest-waits : (b : Borders) (n : ℕ) (ss : List Sent) → n + length ss ≤ lastPlace VV5404 → laidFrom VV5404 b (suc n) (map judgedLine ss) ≡ true
+rest-waits : (b : Borders) (n : ℕ) (ss : List Sent) → laidFrom VV5404 b (suc n) (map judgedLine ss) ≡ true
     → Judging Waiting (map judgedLine ss) (replicate (length ss) ruling.Waiting) Waiting
-rest-waits b n [] h f = record { told = refl; leads = refl }
-rest-waits b n (s ∷ ss) h f =
-    judging-then (judging-one (waits-on b n (omega arith) (s .kind) (s .number) (and-left _ _ f)))
-    (rest-waits b (suc n) ss (omega arith) (and-right (fits VV5404 b (suc n) (judgedLine s)) _ f))
+rest-waits b n [] f = record { told = refl; leads = refl }
+rest-waits b n (s ∷ ss) f =
+    judging-then (judging-one (waits-on b n (s .kind) (s .number) (and-left _ _ f)))
+    (rest-waits b (suc n) ss (and-right (fits VV5404 b (suc n) (judgedLine s)) _ f))
 
 laid-drop : (b : Borders) (place n : ℕ) (ls ms : List Line) → n ≡ place + length ls → laidFrom VV5404 b place (ls ++ ms) ≡ true → laidFrom VV5404 b n ms ≡ true
 laid-drop b place n [] ms e f = subst (λ (m : ℕ). laidFrom VV5404 b m ms ≡ true) (omega arith) f
@@ -171,10 +164,9 @@ frame-lost b front s back f more =
     let fr : IsFrame VV5404 b (ls ++ (judgedLine s ∷ ms)) = subst (IsFrame VV5404 b) (handed-append front (s ∷ back)) f in
     let g = first-going b ls (judgedLine s) ms fr in
     let e : length ls ≡ length front = length-map front judgedLine in
-    let long : length ls + suc (length ms) ≡ lastPlace VV5404 + 1 = omega (arith, fr .0, length-append ls (judgedLine s ∷ ms)) in
     let first : Judging Waiting ls (replicate (length front) ruling.Going) (after VV5404 Waiting ls)
     = record { told = g ∙ ap (λ (n : ℕ). replicate n ruling.Going) e; leads = refl } in
-    let rest = rest-waits b (length front) back (omega (arith, length-map back judgedLine))
+    let rest = rest-waits b (length front) back
     (and-right (fits VV5404 b (length front) (judgedLine s)) _ (laid-drop b 0 (length front) ls (judgedLine s ∷ ms) (omega arith) (fr .1))) in
     let says = judging-then first (judging-then (judging-one (at-slip front g)) (judging-then (still-waiting more) rest)) in
     record {

@@ -6,10 +6,10 @@ use Rattle.refusal.specs.Refusal.{unfinishedLine}
 use Rattle.profile.specs.declared.Profile.{Profile}
 use Rattle.stream.specs.declared.Answer.{Answer}
 use Rattle.stream.specs.declared.Answer.the-variants as answer
-use Rattle.frame_layout.specs.declared.Borders.{Borders}
-use Rattle.frame_layout.specs.declared.Borders.the-variants.{Unsettled}
 use Rattle.frame_handing.specs.declared.Handed.{Handed}
 use Rattle.frame_handing.specs.declared.Handed.the-variants as hand
+use Rattle.frame.specs.declared.KnownBorders.{KnownBorders}
+use Rattle.frame.specs.declared.KnownBorders.the-variants.{Unsettled}
 use Rattle.frame.specs.declared.Judge.{Judge}
 use Rattle.frame.specs.declared.Judge.the-variants.{Waiting, Due}
 use Rattle.frame.specs.declared.Ruling.{Ruling}
@@ -47,9 +47,9 @@ abbrev pub quiet : Tally → Told
 quiet t = record { tally = t; news = Nothing }
 
 -- the borders of the frame that a judge is in
-abbrev pub bordersOf : Judge → Borders
+abbrev pub bordersOf : Judge → KnownBorders
 bordersOf Waiting = Unsettled
-bordersOf (Due place b) = b
+bordersOf (Due place s) = s
 
 -- the frame is complete: its borders, and the mark of its last line
 abbrev pub completed : Tally → Judge → Told

@@ -7,9 +7,9 @@ ghost use mathlib.Core.Path.{_≡_};
 ghost use Rattle.tally.specs.Tally.{freshTally, quiet, marked, markedBy, ownAnswer, bordersOf, opening, moved, completed, brokenBy, refusedBy, handed, takeOf, isUnfinished, cutOf, closeOf};
 use counts::one_more;
 use frame::Judge;
+use frame::KnownBorders;
 use frame::Ruling;
 use frame_handing::Handed;
-use frame_layout::Borders;
 use profile::Profile;
 use stream::Answer;
 
@@ -27,7 +27,7 @@ pub struct Tally {
 pub enum News {
     Nothing,
     // A frame, its borders, and the mark of its last line.
-    Complete(u64, Borders, u64),
+    Complete(u64, KnownBorders, u64),
     // A frame; the mark that broke it; 18 or 19; and for 19 that mark's own answer, for 18 a 0.
     Broken(u64, u64, u8, u8),
     // A frame that the capture's end cuts off.
@@ -250,11 +250,11 @@ fn is_unfinished(last: Answer) -> bool
 }
 
 // The borders of the frame that a judge is in.
-fn borders(judge: Judge) -> Borders
+fn borders(judge: Judge) -> KnownBorders
     ensures { λ r. ⌜ r ≡ bordersOf judge ⌝ }
 {
     match judge {
-        Judge::Waiting => Borders::Unsettled,
+        Judge::Waiting => KnownBorders::Unsettled,
         Judge::Due(_, borders) => borders,
     }
 }

@@ -21,14 +21,15 @@ use Rattle.stream.specs.declared.Answer.the-variants as answer
 use Rattle.signal.specs.Signal.{refusals, isCut}
 use Rattle.signal.specs.Seen.{fromStart}
 use Rattle.frame_layout.specs.declared.Borders.{Borders}
+use Rattle.frame.specs.declared.KnownBorders.{KnownBorders}
 use Rattle.frame.specs.declared.Judge.{Judge}
 use Rattle.frame.specs.declared.Judge.the-variants.{Waiting, Due}
 use Rattle.frame_handing.specs.declared.Handed.the-variants as hand
 use Rattle.frame.specs.declared.Ruling.{Ruling}
 use Rattle.frame.specs.declared.Ruling.the-variants as ruling
 use Rattle.frame.specs.declared.Judged.{Judged}
-use Rattle.frame_layout.specs.FrameLayout.{lastPlace, lineDue, settled}
-use Rattle.frame.specs.Frame.{passes, gives, refuses, opens, begun, brokenKind, judgeOf}
+use Rattle.frame_layout.specs.FrameLayout.{lastPlace}
+use Rattle.frame.specs.Frame.{passes, lineDue, settledBy, gives, refuses, opens, begun, brokenKind, judgeOf}
 use Rattle.frame.specs.Calls.{Line, line, called, after, rulings, isBreak, accepts, accepted, IsFrame}
 use Rattle.frame_handing.specs.Handing.{isBrokenLine, asLines, allHanded}
 use Rattle.frame_laws.specs.FrameLaws.{passes-high, rulings-append, after-snoc, accepted-snoc, Effect, wrongKind, wrongNumber, waits, breaks, strays, starts, restarts, goes, ends, effect, reached-passes, complete-frame}
@@ -45,11 +46,11 @@ use Rattle.verdict_laws.specs.GoodCapture.{isGoing, allGoing, FrameByFra
 -- how many lines of its frame the judge has had
 abbrev placeOf : Judge → ℕ
 placeOf Waiting = 0
-placeOf (Due place b) = place
+placeOf (Due place s) = place
 
 place-high : (p : Profile) (j : Judge) → passes p j ≡ true → placeOf j ≤ lastPlace p
 place-high p Waiting h = omega arith
-place-high p (Due place b) h = passes-high p place b h
+place-high p (Due place s) h = passes-high p place s h
 
 abbrev isStill : Ruling → Bool
 isStill ruling.Waiting = true
@@ -58,11 +59,11 @@ isStill ruling.Complete = false
 isStill (ruling.Refused refusal) = false
 
 -- within a frame no line is answered Waiting
-due-ruled : (p : Profile) (place : ℕ) (b : Borders) (l : Line) → isStill (called p (Due place b) l .ruling) ≡ false
+due-ruled : (p : Profile) (place : ℕ) (s : KnownBorders) (l : Line) → isStill (called p (Due place s) l .ruling) ≡ false
 unfolding judgeOf
-due-ruled p place b l =
-    go (passes p (Due place b)) (leb (l .kind) (kindNumber EOF)) (eqb (l .kind) brokenKind) (leb (l .number) greatest)
-    (lineDue p b place (l .kind) (l .number)) (ltb place (lastPlace p)) (opens (l .kind) (l .number))
+due-ruled p place s l =
+    go (passes p (Due place s)) (leb (l .kind) (kindNumber EOF)) (eqb (l .kind) brokenKind) (leb (l .number) greatest)
+    (lineDue p s place (l .kind) (l .number)) (ltb place (lastPlace p)) (opens (l .kind) (l .number))
   where
     r : Bool → Bool → Bool → Bool → Bool → Bool → Bool → Judged
     r a k z n d t o =
@@ -70,11 +71,11 @@ due-ruled p place b l =
         (cond k
         (cond z (refuses Waiting brokenLine)
         (cond n
-        (cond d (cond t (gives (Due (place + 1) (settled p b place (l .kind))) ruling.Going) (gives Waiting ruling.Complete))
+        (cond d (cond t (gives (Due (place + 1) (settledBy p s place (l .kind))) ruling.Going) (gives Waiting ruling.Complete))
         (cond o (refuses begun notTheLineDue) (refuses Waiting notTheLineDue)))
-        (refuses (Due place b) numberTooLarge)))
-        (refuses (Due place b) badKind))
-        (refuses (Due place b) badState)
+        (refuses (Due place s) numberTooLarge)))
+        (refuses (Due place s) badKind))
+        (refuses (Due place s) badState)
 
     go : (a k z n d t o : Bool) → isStill (r a k z n d t o .ruling) ≡ false
     go false k z n d t o = refl
@@ -90,7 +91,7 @@ due-ruled p place b l =
 data Moves (p : Profile) (j : Judge) : Judged → Type 0 where
   kept-kind : Moves p j (refuses j badKind)
   kept-number : Moves p j (refuses j numberTooLarge)
-  going : (place : ℕ) (b : Borders) → placeOf j + 1 ≡ place → Moves p j (gives (Due place b) ruling.Going)
+  going : (place : ℕ) (s : KnownBorders) → placeOf j + 1 ≡ place → Moves p j (gives (Due place s) ruling.Going)
   ending : lastPlace p ≤ placeOf j → Moves p j (gives Waiting ruling.Complete)
 
 moves : (p : Profile) (j : Judge) (l : Line) (r : Judged) → Effect p j l r → isBreak (r .ruling) ≡ false → (isWaiting j && isWaiting (r .judge)) ≡ false

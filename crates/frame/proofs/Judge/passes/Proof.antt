@@ -10,19 +10,11 @@ add-within c =
     let args = c .before .before .before .before .before .before .before .args in
     simp (c .before .before .before .settling-place .ensures) (omega (arith, settling-small (args .profile)))
 
-add-within-2 : tie.Need-add-within-2
-add-within-2 c =
-    let args = c .before .before .before .before .before .before .before .args in
-    simp (c .before .before .before .settling-place .ensures) (omega (arith, settling-small (args .profile)))
-
 returns-2 : tie.Need-returns-2
 returns-2 c = simp (c .before .before .before .before .before .before .self .given .1, c .before .enum-told2 .given .1, ← c .before .before .before .before .settling-place .ensures, c .within .ensures)
 
 returns-3 : tie.Need-returns-3
 returns-3 c = simp (c .before .before .before .before .before .before .self .given .1, c .before .enum-told3 .given .1, ← c .before .before .before .before .settling-place .ensures, ← c .before .before .before .last-place .ensures, c .within2 .ensures)
-
-returns-4 : tie.Need-returns-4
-returns-4 c = simp (c .before .before .before .before .before .before .self .given .1, c .before .enum-told4 .given .1, ← c .before .before .before .before .settling-place .ensures, ← c .before .before .before .last-place .ensures, c .within3 .ensures)
 
 pub passes-spec : {M : Type 1} → statement M
 passes-spec =
@@ -38,9 +30,5 @@ passes-spec =
     add-within
     (λ c κs. search needs)
     (λ c. search needs)
-    add-within-2
-    (λ c κs. search needs)
-    (λ c. search needs)
     returns-2
-    returns-3
-    returns-4)
+    returns-3)
