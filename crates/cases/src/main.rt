@@ -3,7 +3,6 @@
 mod buffer;
 mod bus;
 mod frames;
-mod table;
 mod text;
 mod written;
 
@@ -11,15 +10,14 @@ use bus::Bus;
 use frames::Hearing;
 use libc::STDERR_FILENO;
 use libc::STDIN_FILENO;
-use text::Numbers;
-use text::byte;
+use text::byte_at;
 use text::end_line;
-use text::numbers_in;
+use text::long_at;
+use text::number_at;
 use text::say;
 use text::say_front;
-use text::short;
+use text::short_at;
 use text::until;
-use text::word;
 
 // The longest body that is written: one byte more than the longest that may be.
 const LONGEST: usize = 357;
@@ -70,20 +68,19 @@ impl Bench {
             return self;
         }
         let command = line[0];
-        let n = numbers_in(line);
         match command {
-            b'n' | b's' | b'f' | b'i' | b'l' | b'e' => self.with_bus(command, line, n),
-            b'b' => self.with_body(n.n0, byte(n.n1)),
-            b'p' => self.with_byte(n.n0, byte(n.n1)),
-            b'j' | b'd' | b'g' | b'o' => self.with_hearing(command, n),
-            _ => self.unchanged(command, line, n),
+            b'n' | b's' | b'f' | b'i' | b'l' | b'e' => self.with_bus(command, line),
+            b'b' => self.with_body(number_at(line, 1), byte_at(line, 2)),
+            b'p' => self.with_byte(number_at(line, 1), byte_at(line, 2)),
+            b'j' | b'd' | b'g' | b'o' => self.with_hearing(command, line),
+            _ => self.unchanged(command, line),
         }
     }
 
     // Lines that work on the reader.
-    fn with_bus(self, command: u8, line: &[u8], n: Numbers) -> Bench {
+    fn with_bus(self, command: u8, line: &[u8]) -> Bench {
         let bus = self.bus;
-        let bus = read(bus, command, line, n);
+        let bus = read(bus, command, line);
         let hearing = self.hearing;
         let body = self.body;
         Bench {
@@ -95,10 +92,10 @@ impl Bench {
     }
 
     // Lines that work on the judge.
-    fn with_hearing(self, command: u8, n: Numbers) -> Bench {
+    fn with_hearing(self, command: u8, line: &[u8]) -> Bench {
         let bus = self.bus;
         let hearing = self.hearing;
-        let hearing = judge(hearing, command, n);
+        let hearing = judge(hearing, command, line);
         let body = self.body;
         Bench {
             bus,
@@ -141,14 +138,13 @@ impl Bench {
     }
 
     // Lines that only write.
-    fn unchanged(self, command: u8, line: &[u8], n: Numbers) -> Bench {
+    fn unchanged(self, command: u8, line: &[u8]) -> Bench {
         let body = self.body;
         match command {
             b'#' => title(line),
-            b'w' => written::write(&body, self.length, n),
-            b'r' => written::read_back(&body, self.length, n),
+            b'w' => written::write(&body, self.length, line),
+            b'r' => written::read_back(&body, self.length, line),
             b'h' => header(),
-            b't' => table::calls(line),
             _ => {}
         }
         self
@@ -156,23 +152,23 @@ impl Bench {
 }
 
 // new, state, feed, input, lend, end.
-fn read(bus: Bus, command: u8, line: &[u8], n: Numbers) -> Bus {
+fn read(bus: Bus, command: u8, line: &[u8]) -> Bus {
     match command {
-        b'n' => Bus::new(byte(n.n0)),
-        b's' => bus::in_state(word(n.n0), word(n.n1)),
+        b'n' => Bus::new(byte_at(line, 1)),
+        b's' => bus::in_state(long_at(line, 1), long_at(line, 2)),
         b'f' => bus.feed(line),
-        b'i' => bus.input(byte(n.n0)),
-        b'l' => bus.lend(n.n0, byte(n.n1)),
+        b'i' => bus.input(byte_at(line, 1)),
+        b'l' => bus.lend(number_at(line, 1), byte_at(line, 2)),
         _ => bus.finish(),
     }
 }
 
 // judge, due, give, over.
-fn judge(hearing: Hearing, command: u8, n: Numbers) -> Hearing {
+fn judge(hearing: Hearing, command: u8, line: &[u8]) -> Hearing {
     match command {
         b'j' => Hearing::new(),
-        b'd' => frames::in_state(short(n.n0), n.n1),
-        b'g' => hearing.lines(byte(n.n0), short(n.n1), short(n.n2)),
+        b'd' => frames::in_state(short_at(line, 1), number_at(line, 2)),
+        b'g' => hearing.lines(byte_at(line, 1), short_at(line, 2), short_at(line, 3)),
         _ => hearing.end(),
     }
 }

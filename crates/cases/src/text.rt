@@ -58,39 +58,29 @@ pub fn until(text: &[u8], from: usize, sign: u8) -> usize
     i
 }
 
-// The numbers that the words of a line are, after its first: up to seven; 0 where there are fewer.
-pub struct Numbers {
-    pub n0: u64,
-    pub n1: u64,
-    pub n2: u64,
-    pub n3: u64,
-    pub n4: u64,
-    pub n5: u64,
-    pub n6: u64,
+// The number that is a line's word with this number, the first being 0; where there is none, 0.
+pub fn number_at(line: &[u8], word: usize) -> u64 {
+    let mut n: u64 = 0;
+    let mut words: usize = 0;
+    let mut i: usize = 0;
+    while i < line.len() {
+        if words == word {
+            n = digit_onto(n, line[i]);
+        }
+        words += ends_word(line[i]);
+        i += 1;
+    }
+    n
 }
 
-pub fn numbers_in(line: &[u8]) -> Numbers {
-    let mut found = [0u64; 7];
-    let mut count: usize = 0;
-    let mut i = until(line, 0, b' ');
-    while i < line.len() {
-        let start = i + 1;
-        let end = until(line, start, b' ');
-        if count < 7 {
-            found[count] = number(&line[start..end]);
-            count += 1;
-        }
-        i = end;
+// 1 where a sign ends a word.
+fn ends_word(sign: u8) -> usize
+    ensures { λ r. ⌜ r ≤ 1 ⌝ }
+{
+    if sign == b' ' {
+        return 1;
     }
-    Numbers {
-        n0: found[0],
-        n1: found[1],
-        n2: found[2],
-        n3: found[3],
-        n4: found[4],
-        n5: found[5],
-        n6: found[6],
-    }
+    0
 }
 
 // The number of a word, in decimal.
@@ -133,15 +123,15 @@ pub fn nibble_of(sign: u8) -> u8 {
     16
 }
 
-// Numbers of a line, as the calls take them.
-pub fn byte(n: u64) -> u8 {
-    (n % 256) as u8
+// Such a number, as the calls take it.
+pub fn byte_at(line: &[u8], word: usize) -> u8 {
+    (number_at(line, word) % 256) as u8
 }
 
-pub fn short(n: u64) -> u16 {
-    (n % 65536) as u16
+pub fn short_at(line: &[u8], word: usize) -> u16 {
+    (number_at(line, word) % 65536) as u16
 }
 
-pub fn word(n: u64) -> u32 {
-    (n % 4294967296) as u32
+pub fn long_at(line: &[u8], word: usize) -> u32 {
+    (number_at(line, word) % 4294967296) as u32
 }

@@ -3,51 +3,54 @@ use crate::buffer::UNTOUCHED;
 use crate::buffer::say_changed;
 use crate::buffer::say_differing;
 use crate::bus::Bus;
-use crate::text::Numbers;
-use crate::text::byte;
+use crate::text::byte_at;
 use crate::text::end_line;
+use crate::text::long_at;
+use crate::text::number_at;
 use crate::text::say_counted;
 use crate::text::say_number;
 use crate::text::say_refused;
-use crate::text::short;
-use crate::text::word;
+use crate::text::short_at;
 use lent_buffer::Filled;
 use profile::Profile;
 
-// Writes a line, whose body is the front of a text, into a buffer of a size, and tells what came of it. The numbers: profile, kind, number,
-// two gap bytes, nulls, size.
-pub fn write(text: &[u8], length: usize, n: Numbers) {
+// Writes a line, whose body is the front of a text, into a buffer of a size, and tells what came of it. The numbers of the case's line: profile,
+// kind, number, two gap bytes, nulls, size.
+pub fn write(text: &[u8], length: usize, case: &[u8]) {
     if length <= text.len() {
         let mut room = [UNTOUCHED; 1300];
-        tell(put_line(&text[0..length], n, &mut room));
+        tell(put_line(&text[0..length], case, &mut room));
         say_changed(&room);
     }
 }
 
 // Writes a line, reads what was written, and compares the bodies.
-pub fn read_back(text: &[u8], length: usize, n: Numbers) {
+pub fn read_back(text: &[u8], length: usize, case: &[u8]) {
     if length <= text.len() {
         let mut room = [UNTOUCHED; 1300];
         let mut line = [UNTOUCHED; Profile::LONGEST];
-        put_line(&text[0..length], n, &mut room);
-        Bus::new(byte(n.n0)).written(&room, &mut line).finish();
+        put_line(&text[0..length], case, &mut room);
+        Bus::new(byte_at(case, 1))
+            .written(&room, &mut line)
+            .finish();
         say_differing(&text[0..length], &line);
     }
 }
 
-fn put_line(body: &[u8], n: Numbers, room: &mut [u8]) -> Filled {
-    if (room.len() as u64) < n.n6 {
+fn put_line(body: &[u8], case: &[u8], room: &mut [u8]) -> Filled {
+    let size = number_at(case, 7);
+    if (room.len() as u64) < size {
         return Filled::Refused(0);
     }
     writer::write(
-        byte(n.n0),
-        byte(n.n1),
-        short(n.n2),
+        byte_at(case, 1),
+        byte_at(case, 2),
+        short_at(case, 3),
         body,
-        byte(n.n3),
-        byte(n.n4),
-        word(n.n5),
-        &mut room[0..n.n6 as usize],
+        byte_at(case, 4),
+        byte_at(case, 5),
+        long_at(case, 6),
+        &mut room[0..size as usize],
     )
 }
 

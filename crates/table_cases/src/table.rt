@@ -1,11 +1,10 @@
-// A table of readers: each word of a line is one call of it, by one of the technicians.
+// A call of a table of readers, by one of the technicians.
 ghost use Prim.Native.Nat.{_≤_};
 ghost use lib.ListN.{length};
 use crate::text::end_line;
 use crate::text::nibble_of;
 use crate::text::number;
 use crate::text::say;
-use crate::text::say_counted;
 use crate::text::say_number;
 use crate::text::say_refused;
 use crate::text::until;
@@ -19,37 +18,29 @@ use stream::Answer;
 // The most nibbles of a run here: a profile 0 line with its marks and gap fits.
 const MOST: usize = 800;
 
-// The words of a line after its first, from an empty table on.
-pub fn calls(line: &[u8]) {
-    let mut table = ReaderTable::empty();
-    let mut i = until(line, 0, b' ');
-    while i < line.len() {
-        let start = i + 1;
-        let end = until(line, start, b' ');
-        table = call(table, &line[start..end]);
-        i = end;
-    }
-}
-
 // A call: the technician, a letter, a profile or a place, and what is fed.
-fn call(table: ReaderTable, word: &[u8]) -> ReaderTable {
-    if word.len() < 3 {
+pub fn call(table: ReaderTable, line: &[u8]) -> ReaderTable {
+    if line.len() < 3 {
         return table;
     }
-    say(word);
+    say(line);
     say(b": ");
-    let technician = nibble_of(word[0]);
-    let letter = word[1];
-    let n = nibble_of(word[2]);
-    let after = match letter {
-        b'o' => opened(table.open_reader(technician, n)),
-        b'f' => feed(table, technician, n as usize, &word[3..]),
-        b'r' => run(table, technician, n as usize, &word[3..]),
-        b'e' => told(table.finish(technician, n as usize)),
-        _ => told(table.close(technician, n as usize)),
-    };
+    let technician = nibble_of(line[0]);
+    let n = nibble_of(line[2]);
+    let after = asked(table, technician, line[1], n, &line[3..]);
     end_line();
     after
+}
+
+fn asked(table: ReaderTable, technician: u8, letter: u8, n: u8, text: &[u8]) -> ReaderTable {
+    let place = n as usize;
+    match letter {
+        b'o' => opened(table.open_reader(technician, n)),
+        b'f' => feed(table, technician, place, text),
+        b'r' => run(table, technician, place, text),
+        b'e' => told(table.finish(technician, place)),
+        _ => told(table.close(technician, place)),
+    }
 }
 
 fn opened(o: TableOpened) -> ReaderTable {
@@ -91,7 +82,9 @@ fn run_lent(
 ) -> ReaderTable {
     let used = fill(nibbles, text);
     let ran = table.run(technician, place, &nibbles[0..used], line);
-    say_counted(b"takes ", ran.taken as u64, b", ");
+    say(b"takes ");
+    say_number(ran.taken as u64);
+    say(b", ");
     let table = ran.table;
     let answer = ran.answer;
     told(TableFed { table, answer })

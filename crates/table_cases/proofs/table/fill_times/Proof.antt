@@ -3,8 +3,8 @@ use mathlib.Core.Path.{_≡_}
 use borrow.Author.Needs.{needs}
 use Prim.Native.Nat.{_≤_, _-_}
 use lib.ListN.{length}
-use Rattle.cases.proofs.table.fill_times.Statement.{statement}
-use Rattle.cases.proofs.table.fill_times.Tie as tie
+use Rattle.table_cases.proofs.table.fill_times.Statement.{statement}
+use Rattle.table_cases.proofs.table.fill_times.Tie as tie
 
 abbrev Inv-loop : tie.InvT-loop
 Inv-loop nibbles₀ unit times used₀ i₀ nibbles used i = (used ≤ length nibbles) × (length nibbles ≡ length nibbles₀)

@@ -4,8 +4,8 @@ use borrow.Author.Needs.{needs}
 use Prim.Native.Nat.{_≤_, _-_}
 use native.Mathlib.Omega.{arith}
 use lib.ListN.{length, length-set}
-use Rattle.cases.proofs.table.put.Statement.{statement}
-use Rattle.cases.proofs.table.put.Tie as tie
+use Rattle.table_cases.proofs.table.put.Statement.{statement}
+use Rattle.table_cases.proofs.table.put.Tie as tie
 
 abbrev Inv-loop : tie.InvT-loop
 Inv-loop nibbles₀ from unit used₀ i₀ nibbles used i = (i ≤ length unit) × (used ≤ length nibbles) × (length nibbles ≡ length nibbles₀)
