@@ -16,6 +16,7 @@ afterKind VL n = awaits.Gap n
 afterKind SOF n = awaits.Line
 afterKind EOF n = awaits.Line
 
+-- what is awaited after a line that is handed out
 abbrev pub afterLine : LineFacts → Awaits
 afterLine f = afterKind (f .kind) (f .number)
 

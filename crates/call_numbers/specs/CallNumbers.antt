@@ -31,12 +31,15 @@ judgeNumber (judge.Due place Unsettled) = place
 judgeNumber (judge.Due place (Settled On)) = 0x10000 + place
 judgeNumber (judge.Due place (Settled Off)) = 0x20000 + place
 
+-- the border setting in a judge's number: above its low sixteen bits
 abbrev pub bordersNumbered : ℕ → KnownBorders
 bordersNumbered n = cond (ltb n 0x10000) Unsettled (Settled (cond (ltb n 0x20000) On Off))
 
+-- the judge that a number tells: 0 waits, any other has the place due in its low sixteen bits
 unfoldable pub judgeNumbered : ℕ → Judge
 judgeNumbered n = cond (eqb n 0) judge.Waiting (judge.Due (n % 0x10000) (bordersNumbered n))
 
+-- a ruling as the number of an answer
 abbrev pub rulingNumber : Ruling → ℕ
 rulingNumber ruling.Waiting = 0
 rulingNumber ruling.Going = 1

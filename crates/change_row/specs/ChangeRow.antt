@@ -9,9 +9,11 @@ use Rattle.line_code.specs.LineCode.{kindNumber}
 use Rattle.change.specs.declared.Change.{Change}
 use Rattle.change.specs.declared.Change.the-variants.{First, Second, Kinds, Bytes}
 
+-- a line's number, in words
 unfoldable pub lineWord : ℕ → List ℕ
 lineWord n = ascii "line " ++ decimal n
 
+-- the two numbers of a line, in the first capture and in the second
 unfoldable pub pairWords : ℕ → ℕ → List ℕ
 pairWords x y = ascii ": " ++ (decimal x ++ (ascii ", then " ++ (decimal y ++ ascii "\n")))
 
@@ -23,6 +25,7 @@ kindWord k =
     (cond (eqb k (kindNumber VL)) (ascii "visible")
     (cond (eqb k (kindNumber SOF)) (ascii "start of frame") (cond (eqb k (kindNumber EOF)) (ascii "end of frame") (decimal k)))))
 
+-- the two kinds of a line, in the first capture and in the second
 unfoldable pub kindsWords : ℕ → ℕ → List ℕ
 kindsWords x y = ascii ": " ++ (kindWord x ++ (ascii ", then " ++ (kindWord y ++ ascii "\n")))
 

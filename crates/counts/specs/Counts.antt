@@ -9,6 +9,7 @@ use lib.ListN.{length, getD, set}
 abbrev pub greatestCount : ℕ
 greatestCount = 18446744073709551615
 
+-- a count with one more, which stays at the greatest
 unfoldable pub oneMore : ℕ → ℕ
 oneMore n = cond (ltb n greatestCount) (n + 1) n
 

@@ -193,6 +193,7 @@ runs-recovered p =
 
 -- Calls that take any nibbles, for the other examples: runs that a 10 stops, with a 12 before each, and finish.
 
+-- a list of calls that takes these nibbles
 abbrev pub callsOn : Profile → List ℕ → List RunCall
 callsOn p w = runs p (blank p) (room p) w
 

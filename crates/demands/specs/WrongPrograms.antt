@@ -34,6 +34,7 @@ module _ {R : Type 0} (on : R → Call → CallResult R) (p : Profile) where
 
 -- Writers, by what they answer for a line and a lent buffer, and what they leave in it.
 
+-- what a call of a writer answers, and the buffer that it leaves
 pub record WriteCall : Type 0 where
   pub answer : Filled
   pub buffer : List ℕ

@@ -42,6 +42,7 @@ pieces zero a b = []
 pieces (suc turns) a b =
     cond (eqb (passed a b + passed b a) 0) [] (rowsText (nextDifferences a b) ∷ pieces turns (drop (passed a b) a) (drop (passed b a) b))
 
+-- rows one straight after another
 abbrev pub rowsEndToEnd : List (List ℕ) → List ℕ
 rowsEndToEnd [] = []
 rowsEndToEnd (p ∷ ps) = p ++ rowsEndToEnd ps

@@ -14,6 +14,7 @@ use Rattle.change.specs.Front.{changeOf}
 unfoldable pub absoluteDifference : ℕ → ℕ → ℕ
 absoluteDifference x y = cond (ltb x y) (y - x) (x - y)
 
+-- the greater of two numbers
 unfoldable pub greaterOf : ℕ → ℕ → ℕ
 greaterOf x y = cond (ltb x y) y x
 
@@ -21,6 +22,7 @@ greaterOf x y = cond (ltb x y) y x
 abbrev pub fresh : Summary
 fresh = record { first = 0; second = 0; kinds = 0; pixels = 0; lines = 0; least = 0; last = 0; most = 0 }
 
+-- a summary with these counts of lines
 abbrev pub withCounts : Summary → ℕ → ℕ → ℕ → Summary
 withCounts s first second kinds =
     record {
@@ -42,6 +44,7 @@ linesWith s n = cond (eqb (s .pixels) 0) 1 (cond (eqb n (s .last)) (s .lines) (o
 unfoldable pub leastWith : Summary → ℕ → ℕ
 leastWith s n = cond (eqb (s .pixels) 0) n (s .least)
 
+-- a summary with one more pixel of a line, which differs by so much
 abbrev pub withPixel : Summary → ℕ → ℕ → Summary
 withPixel s n by =
     record {

@@ -5,6 +5,7 @@ use Prim.Native.Nat.{ℕ, suc}
 use lib.Dec.{eqb, ltb}
 use Rattle.line_list.specs.Lines.{FullLine, inTwo}
 
+-- one difference of two lists
 pub data Difference : Type 0 where
   -- a line whose number the first list only holds, or the second
   onlyFirst : FullLine → Difference
@@ -48,12 +49,14 @@ differences (a ∷ ls) ms = startingWith a (differences ls) ms
 abbrev pub wholeLine : FullLine → List ℕ
 wholeLine l = inTwo (l .number) ++ (l .kind ∷ l .body)
 
+-- a difference as bytes: its kind, then its values
 unfoldable pub encoded : Difference → List ℕ
 encoded (onlyFirst l) = 1 ∷ wholeLine l
 encoded (onlySecond l) = 2 ∷ wholeLine l
 encoded (bothKinds n k m) = 3 ∷ (inTwo n ++ (k ∷ m ∷ []))
 encoded (bothBytes n p x y) = 4 ∷ (inTwo n ++ (inTwo p ++ (x ∷ y ∷ [])))
 
+-- differences as bytes, one straight after another
 abbrev pub encodedAll : List Difference → List ℕ
 encodedAll [] = []
 encodedAll (d ∷ ds) = encoded d ++ encodedAll ds

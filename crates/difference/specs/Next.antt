@@ -15,6 +15,7 @@ nextNumber list = cond (leb lineSize (length list)) (frontLine list .number) noL
 unfoldable pub ofLeast : ℕ → ℕ → FullLine → FullLine → List Difference
 ofLeast n m a b = cond (ltb n m) (onlyFirst a ∷ []) (cond (ltb m n) (onlySecond b ∷ []) (cond (ltb n noLine) (betweenLines a b) []))
 
+-- the differences of the least number that stands at the front of either list
 abbrev pub nextDifferences : List ℕ → List ℕ → List Difference
 nextDifferences x y = ofLeast (nextNumber x) (nextNumber y) (frontLine x) (frontLine y)
 

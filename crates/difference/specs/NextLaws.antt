@@ -73,6 +73,7 @@ none-far n m g h = simp (le-leb n m g, le-ltb n noLine h)
 abbrev after : List ℕ → List ℕ → ℕ → ℕ → List Difference
 after x y i j = differences (fullLines (drop i x)) (fullLines (drop j y))
 
+-- what one step past the least number leaves to do
 pub record Stepped (x y : List ℕ) (n m : ℕ) : Type 0 where
   pub gives : differences (fullLines x) (fullLines y) ≡ nextDifferences x y ++ after x y (howFar n m) (howFar m n)
   pub ends : howFar n m + howFar m n ≡ 0 → differences (fullLines x) (fullLines y) ≡ []

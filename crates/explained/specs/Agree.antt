@@ -267,6 +267,7 @@ pub data AgreeOnto (z : ℕ) (base : List ℕ) : ℕ → List ℕ → List ℕ �
   onto-F : {f : ℕ} {t t₂ : List ℕ} → AgreeOnto z base f t t₂ → AgreeOnto z base (suc f) (15 ∷ t) (15 ∷ t₂)
   onto-free : (f a b : ℕ) {t t₂ : List ℕ} → 4 ≤ f → a < 15 → b < 15 → AgreeOnto z base f t t₂ → AgreeOnto z base 0 (a ∷ t) (b ∷ t₂)
 
+-- two texts that agree in their newest two nibbles, and what is behind those
 pub record Tails (z x y : ℕ) (u u₂ : List ℕ) : Type 0 where
   pub one : List ℕ
   pub two : List ℕ

@@ -68,6 +68,7 @@ abbrev pub baseOf : Mark → List ℕ
 baseOf NoMark = []
 baseOf (Open before c) = c % 16 ∷ c / 16 ∷ []
 
+-- how many F the code of the open mark ends with
 abbrev pub trailingFAt : Mark → ℕ
 trailingFAt NoMark = 0
 trailingFAt (Open before c) = trailingF c
@@ -171,6 +172,7 @@ rests-F (suc k) (onto-free f a b g ha hb m) = rests-other a b _ _ ha hb
 
 -- Equivalent states.
 
+-- two states of the meaning that no later nibble tells apart
 pub data Equivalent : State → State → Type 0 where
   the-same : (s : State) → Equivalent s s
   texts-agree : (m : Mark) (t t₂ : List ℕ) → Byte m → AgreeBelow (trailingFAt m) (baseOf m) 4 t t₂
@@ -212,6 +214,7 @@ same-finish p s s₂ (the-same s₃) = record { state = the-same _; outcome = re
 same-finish p s s₂ (texts-agree m t t₂ g u) =
     let q = all-agree u in record { state = the-same _; outcome = answer-agrees p m none g (q .1) }
 
+-- two calls give the same, and leave states alike
 pub record SameCall (c d : CallResult State) : Type 0 where
   pub state : Equivalent (c .reader) (d .reader)
   pub answer : c .answer ≡ d .answer

@@ -21,6 +21,7 @@ pub record Out : Type 0 where
   pub answer : Answer
   pub buffer : List ℕ
 
+-- what each call of a list gives: its answer, and its buffer
 abbrev pub outs : {R : Type 0} → (R → Call → CallResult R) → R → List Call → List Out
 outs on r [] = []
 outs on r (c ∷ cs) = record { answer = on r c .answer; buffer = on r c .buffer } ∷ outs on (on r c .reader) cs

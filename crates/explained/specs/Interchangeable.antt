@@ -31,9 +31,11 @@ use Rattle.explained.specs.Used.{endsLine, SameUsed, no-nibbles, used-fe
 
 -- Readers.
 
+-- a head from its parts
 abbrev pub headWith : Profile → Mark → ℕ → ℕ → Kept → Head
 headWith p m c w t = record { profile = p; at = m; count = c; window = w; kept = t }
 
+-- a reader from its parts
 abbrev pub readerWith : Profile → Mark → ℕ → ℕ → Store → Reader
 readerWith p m c w s = record { head = headWith p m c w (s .kept); body = s .body }
 
@@ -196,11 +198,13 @@ fresh-same p =
 
 -- The calls, of readers that pass their own test.
 
+-- two interchangeable readers that both pass their own test
 pub record BothPass (p : Profile) (r r₂ : Reader) : Type 0 where
   pub alike : Interchangeable p r r₂
   pub ok : Ok (r .head)
   pub ok-two : Ok (r₂ .head)
 
+-- two calls give the same, and leave states alike
 pub record SameCall (p : Profile) (f g : Took) : Type 0 where
   pub both : BothPass p (f .reader) (g .reader)
   pub outcome : f .outcome ≡ g .outcome

@@ -7,6 +7,7 @@ use lib.Dec.{eqb}
 abbrev pub rate25 : ℕ
 rate25 = 25
 
+-- the faster of the two frame rates, in frames a second
 abbrev pub rate30 : ℕ
 rate30 = 30
 
@@ -14,15 +15,19 @@ rate30 = 30
 abbrev pub fineLimit25 : ℕ
 fineLimit25 = 438
 
+-- the greatest fine exposure at 30 frames a second
 abbrev pub fineLimit30 : ℕ
 fineLimit30 = 360
 
+-- the greatest fine exposure at a frame rate
 unfoldable pub fineLimit : ℕ → ℕ
 fineLimit rate = cond (eqb rate rate30) fineLimit30 fineLimit25
 
+-- the greatest coarse exposure
 abbrev pub coarseLimit : ℕ
 coarseLimit = 302
 
+-- the greatest clock divisor
 abbrev pub divisorLimit : ℕ
 divisorLimit = 3
 

@@ -36,11 +36,13 @@ abbrev pub oneOutside : Outside → ℕ → Outside
 oneOutside o frames =
     cond (eqb frames 0) (record { early = oneMore (o .early); later = o .later }) (record { early = o .early; later = oneMore (o .later) })
 
+-- with an answer, by the tally before and after it
 unfoldable pub withLine : Outside → Tally → Tally → Answer → Outside
 withLine o before after a = cond (isOutside (before .judge) (after .judge) a) (oneOutside o (before .frames)) o
 
 -- Answers.
 
+-- after an answer, by what the tally tells
 abbrev pub finding : Findings → Answer → Told → Found
 finding f a told =
     record {
@@ -48,6 +50,7 @@ finding f a told =
       news = told .news;
     }
 
+-- an answer taken
 unfoldable pub takeOf : Findings → Answer → Found
 takeOf f a = finding f a (tally.takeOf (f .tally) a)
 
@@ -60,6 +63,7 @@ withCut n (Complete frame b mark) = n
 withCut n (Broken frame mark refusal own) = n
 withCut n (Cut frame) = oneMore n
 
+-- at the end, by what the tally tells
 abbrev pub closing : Findings → Answer → Told → Found
 closing f last told =
     record {
@@ -67,5 +71,6 @@ closing f last told =
       news = told .news;
     }
 
+-- the capture's end
 unfoldable pub closeOf : Findings → Answer → Found
 closeOf f last = closing f last (tally.closeOf (f .tally) last)

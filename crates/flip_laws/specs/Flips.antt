@@ -92,6 +92,7 @@ gapBy s (some r) (some q) n = gapRead s n
 abbrev pub startAnswer : Arrived → Outcome
 startAnswer a = lineBy (a .sent) (repairBy (a .start)) (repairBy (a .end))
 
+-- the answer of a line's end mark, as the line arrived
 abbrev pub endAnswer : Arrived → ℕ → Outcome
 endAnswer a n = gapBy (a .sent) (repairBy (a .start)) (repairBy (a .end)) n
 

@@ -34,6 +34,7 @@ use Rattle.fluturenc.specs.Calls.{FeedCalled, openCall, feedCall, feedRa
 
 -- Readers that calls reach: the code is a byte, the test passes, and the body has its length.
 
+-- a reader as calls leave one
 pub record WholeState (r : Reader) : Type 0 where
   pub ok : Ok (r .head)
   pub full : length (r .body) ≡ longest

@@ -19,6 +19,7 @@ use Rattle.reader_state.specs.State.{stateLength, stored, holdsReader, readerIn
 
 -- A call on a reader's state.
 
+-- opening, by the profile that the number names: 11 for none, 12 for too few bytes
 abbrev pub openFor : Numbered → List ℕ → Called
 openFor numbered.NoProfile s = record { answer = badState; state = s }
 openFor (numbered.Profile p) s =
@@ -37,6 +38,7 @@ finishCall s =
 
 -- Feeding.
 
+-- what a feeding call gives: answer, nibbles taken, state and line buffer
 pub record FeedCalled : Type 0 where
   pub answer : ℕ
   pub taken : ℕ
@@ -47,6 +49,7 @@ pub record FeedCalled : Type 0 where
 abbrev pub stateAfter : Ran → List ℕ → List ℕ
 stateAfter t s = cond (eqb (t .taken) 0) s (stored (t .reader) s)
 
+-- what a run gives, in numbers and bytes
 abbrev pub feedRan : Ran → List ℕ → List ℕ → FeedCalled
 feedRan t s line =
     record { answer = answerNumber (answerFor (t .outcome)); taken = t .taken; state = stateAfter t s; line = bufferAfter (t .outcome) line }
@@ -57,6 +60,7 @@ feedCall s w line = feedRan (cond (holdsReader s) (runOf (readerIn s) w (length 
 
 -- Judging.
 
+-- what a call of the judge gives, in numbers
 pub record JudgeCalled : Type 0 where
   pub answer : ℕ
   pub judge : ℕ

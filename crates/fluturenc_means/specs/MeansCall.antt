@@ -12,6 +12,7 @@ pub record MeanPlaces : Type 0 where
   pub beside1 : ℤ
   pub beside2 : ℤ
 
+-- the four places of the caller's with these values
 abbrev pub inPlaces : Float → Float → ℤ → ℤ → MeanPlaces
 inPlaces m n a b = record { mean1 = m; mean2 = n; beside1 = a; beside2 = b }
 
@@ -25,6 +26,7 @@ abbrev pub placesAfter : HalfValues → MeanPlaces → MeanPlaces
 placesAfter (means x y s t a b) before = inPlaces x y a b
 placesAfter (refused n) before = before
 
+-- what a call gives: its answer, and the places as it leaves them
 pub record MeansGives (v : HalfValues) (answer : ℕ) (before after : MeanPlaces) : Type 0 where
   pub says : answer ≡ meansNumber v
   pub leaves : after ≡ placesAfter v before

@@ -22,19 +22,22 @@ use Rattle.fluturenc_settings.specs.declared.FourPlaces.{FourPlaces}
 abbrev pub placeSize : ℕ
 placeSize = 8
 
+-- how many bytes a list has
 abbrev pub listSize : ℕ
 listSize = settingPlaces * placeSize
 
--- ---- settings as bytes
+-- Settings as bytes.
 
+-- the bytes of one place: version, fine, coarse, gain, divisor
 abbrev pub placeBytes : SavedSetting → List ℕ
 placeBytes s = inTwo (s .version) ++ (inTwo (s .fine) ++ (inTwo (s .coarse) ++ (s .gain ∷ s .divisor ∷ [])))
 
+-- the bytes of a list
 abbrev pub listBytes : List SavedSetting → List ℕ
 listBytes [] = []
 listBytes (s ∷ list) = placeBytes s ++ listBytes list
 
--- ---- bytes as settings
+-- Bytes as settings.
 
 -- the setting that some bytes start with
 unfoldable pub frontSetting : List ℕ → SavedSetting
@@ -60,7 +63,7 @@ listIn b = cond (eqb (length b) listSize) (firstSettings settingPlaces b) []
 abbrev pub fourOf : FourPlaces → List SavedSetting
 fourOf p = p .a ∷ p .b ∷ p .c ∷ p .d ∷ []
 
--- ---- the calls
+-- The calls.
 
 -- a wanted setting of a call's numbers
 abbrev pub wantedOf : ℕ → ℕ → ℕ → ℕ → ℕ → Wanted
@@ -68,10 +71,12 @@ wantedOf fine coarse gain divisor rate = record { fine = fine; coarse = coarse; 
 
 -- Saving, and going back: 0 or the refusal; the new version, 0 where nothing is saved; the list.
 
+-- the answer's number: 0, or the refusal
 abbrev pub savedNumber : Reply ℕ → ℕ
 savedNumber (reply.yields v) = 0
 savedNumber (reply.refused n) = n
 
+-- the version that was saved, 0 with a refusal
 abbrev pub savedVersion : Reply ℕ → ℕ
 savedVersion (reply.yields v) = v
 savedVersion (reply.refused n) = 0
@@ -81,6 +86,7 @@ abbrev pub bytesAfter : Reply ℕ → List SavedSetting → List ℕ → List �
 bytesAfter (reply.yields v) list before = listBytes list
 bytesAfter (reply.refused n) list before = before
 
+-- what a saving call gives: answer, version, and the list's bytes as it leaves them
 pub record SaveGives (said : ListReply) (answer version : ℕ) (before after : List ℕ) : Type 0 where
   pub says : answer ≡ savedNumber (said .reply)
   pub gives : version ≡ savedVersion (said .reply)

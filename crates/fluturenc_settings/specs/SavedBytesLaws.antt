@@ -19,7 +19,7 @@ use Rattle.saved_settings_laws.specs.OrderLaws.{sides}
 use Rattle.saved_settings_laws.specs.HistoryLaws.{refusal-keeps, stays-ordered}
 use Rattle.fluturenc_settings.specs.SavedBytes.{placeSize, listSize, placeBytes, listBytes, frontSetting, firstSettings, listIn, bytesAfter}
 
--- ---- settings and bytes
+-- Settings and bytes.
 
 pub held-list : (b : List ℕ) → length b ≡ listSize → firstSettings settingPlaces b ≡ listIn b
 unfolding listIn
@@ -92,12 +92,13 @@ pub fresh-list : (isSavedList (listIn (replicate listSize 0)) ≡ true) × (used
 unfolding listIn frontSetting versionsInOrder mayFollow usedOf
 fresh-list = (refl, refl)
 
--- ---- calls, one after another
+-- Calls, one after another.
 
 -- the bytes after a call, and after some
 abbrev pub bytesCalled : List ℕ → SettingCall → List ℕ
 bytesCalled b c = bytesAfter (calledOn (listIn b) c .reply) (calledOn (listIn b) c .list) b
 
+-- a list's bytes after calls one after another
 abbrev pub bytesAfterCalls : List ℕ → List SettingCall → List ℕ
 bytesAfterCalls b [] = b
 bytesAfterCalls b (c ∷ calls) = bytesAfterCalls (bytesCalled b c) calls

@@ -13,6 +13,7 @@ use Rattle.reader_state.specs.State.{stateLength}
 abbrev pub placeLength : ℕ
 placeLength = 1 + stateLength
 
+-- how many bytes a table has
 abbrev pub tableLength : ℕ
 tableLength = placeCount * placeLength
 
@@ -20,6 +21,7 @@ tableLength = placeCount * placeLength
 unfoldable pub placeStart : ℕ → ℕ
 placeStart i = placeLength * i
 
+-- where a place's reader begins among the bytes
 abbrev pub stateStart : ℕ → ℕ
 stateStart i = placeStart i + 1
 

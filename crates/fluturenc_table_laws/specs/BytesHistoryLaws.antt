@@ -137,6 +137,7 @@ openings-same (callReply a n buffer ∷ ts) = openings-same ts
 
 -- An opening's number says all of its answer.
 
+-- an opening's answer tells a place and a refusal apart by its number
 pub data Legal : Placing → Type 0 where
   a-place : {i : ℕ} → i < placeCount → Legal (at-place i)
   a-refusal : {n : ℕ} → placeCount ≤ n → Legal (not-placed n)

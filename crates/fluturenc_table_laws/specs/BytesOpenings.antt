@@ -47,6 +47,7 @@ bytesToldBy i (askFeed j w b) x later = cond (eqb j i) (x ∷ later) later
 bytesToldBy i (askFinish j) x later = cond (eqb j i) (x ∷ []) later
 bytesToldBy i (askClose j) x later = cond (eqb j i) [] later
 
+-- what one technician's calls of one place are told, of the bytes
 abbrev pub bytesToldOf : ℕ → ℕ → List ℕ → Buffers → List BytesCall → List BytesReply
 bytesToldOf who i s lines [] = []
 bytesToldOf who i s lines (c ∷ h) =
@@ -62,6 +63,7 @@ bytesTakenBy i (askFeed j w b) (callNumber a n line) later = cond (eqb j i) (tak
 bytesTakenBy i (askFinish j) x later = cond (eqb j i) [] later
 bytesTakenBy i (askClose j) x later = cond (eqb j i) [] later
 
+-- the nibbles that one technician's calls of one place take, of the bytes
 abbrev pub bytesTakenOf : ℕ → ℕ → List ℕ → Buffers → List BytesCall → List ℕ
 bytesTakenOf who i s lines [] = []
 bytesTakenOf who i s lines (c ∷ h) =

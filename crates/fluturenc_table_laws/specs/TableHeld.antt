@@ -49,10 +49,12 @@ abbrev pub placingNumber : Placing → ℕ
 placingNumber (at-place i) = i
 placingNumber (not-placed n) = n
 
+-- an exported opening is the table's own
 pub record OpensAs (c : Called) (o : PlaceOpened) : Type 0 where
   pub says : c .answer ≡ placingNumber (o .placing)
   pub keeps : HoldsTable (c .state) (o .table)
 
+-- an exported run is the table's own
 pub record FeedsAs (f : FeedCalled) (c : PlaceCalled) : Type 0 where
   pub says : f .answer ≡ answerNumber (c .answer)
   pub count : f .taken ≡ c .taken

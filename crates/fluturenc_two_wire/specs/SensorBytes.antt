@@ -15,9 +15,11 @@ use Rattle.two_wire.specs.Messages.{fresh, Acceptance, accepted, refused, messa
 abbrev pub indexPlace : ℕ
 indexPlace = registerCount
 
+-- where the flag of increment stands
 abbrev pub flagPlace : ℕ
 flagPlace = indexPlace + 1
 
+-- how many bytes a sensor's state has
 abbrev pub sensorLength : ℕ
 sensorLength = flagPlace + 1
 

@@ -27,6 +27,7 @@ holds-length b h = leb-true sensorLength (length b) (and-left _ _ h)
 
 -- A sensor that calls reach: 128 registers, and the index of one.
 
+-- a sensor as calls leave one
 pub record WholeSensor (s : Sensor) : Type 0 where
   pub full : length (s .registers) ≡ registerCount
   pub index : s .index ≤ lastIndex
@@ -69,6 +70,7 @@ module _ (s : Sensor) (b : List ℕ) (whole : WholeSensor s) where
 
 -- Calls on bytes that hold a sensor.
 
+-- bytes that hold a sensor
 pub record HoldsSensor (b : List ℕ) (s : Sensor) : Type 0 where
   pub whole : WholeSensor s
   pub room : sensorLength ≤ length b

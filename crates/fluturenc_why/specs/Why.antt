@@ -9,6 +9,7 @@ use Rattle.reason.specs.Valued.{Values, no-values, one-value, two-values, byte-
 abbrev pub goodLineNumber : ℕ
 goodLineNumber = 128
 
+-- the number of a good gap, above every refusal
 abbrev pub goodGapNumber : ℕ
 goodGapNumber = 129
 
@@ -34,18 +35,21 @@ firstValue (one-value v) = v
 firstValue (two-values v w) = v
 firstValue (byte-and-sums byte sums) = byte
 
+-- the second value of a reason, where there is one
 abbrev pub secondValue : Values → ℕ
 secondValue no-values = noValue
 secondValue (one-value v) = noValue
 secondValue (two-values v w) = w
 secondValue (byte-and-sums byte sums) = sumBits sums
 
+-- the first number beside the answer
 abbrev pub valuedFirst : Valued → ℕ
 valuedFirst good-line = noValue
 valuedFirst good-gap = noValue
 valuedFirst (numbered n values) = firstValue values
 valuedFirst (refused n) = noValue
 
+-- the second number beside the answer
 abbrev pub valuedSecond : Valued → ℕ
 valuedSecond good-line = noValue
 valuedSecond good-gap = noValue

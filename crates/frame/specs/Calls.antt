@@ -23,6 +23,7 @@ pub record Line : Type 0 where
   pub kind : ℕ
   pub number : ℕ
 
+-- a line from its kind's number and its own
 abbrev pub line : ℕ → ℕ → Line
 line k n = record { kind = k; number = n }
 
@@ -35,6 +36,7 @@ abbrev pub after : Profile → Judge → List Line → Judge
 after p j [] = j
 after p j (l ∷ ls) = after p (called p j l .judge) ls
 
+-- the rulings on lines one after another
 abbrev pub rulings : Profile → Judge → List Line → List Ruling
 rulings p j [] = []
 rulings p j (l ∷ ls) = called p j l .ruling ∷ rulings p (called p j l .judge) ls
@@ -46,6 +48,7 @@ isComplete ruling.Going = false
 isComplete ruling.Complete = true
 isComplete (ruling.Refused refusal) = false
 
+-- a ruling that breaks a frame
 abbrev pub isBreak : Ruling → Bool
 isBreak ruling.Waiting = false
 isBreak ruling.Going = false
@@ -59,9 +62,11 @@ accepts ruling.Going = true
 accepts ruling.Complete = true
 accepts (ruling.Refused r) = not (eqb r badKind || eqb r numberTooLarge)
 
+-- a line, where the judge takes it into a frame
 abbrev pub acceptedOne : Profile → Judge → Line → List Line
 acceptedOne p j l = cond (accepts (called p j l .ruling)) (l ∷ []) []
 
+-- the lines that the judge takes into frames
 abbrev pub accepted : Profile → Judge → List Line → List Line
 accepted p j [] = []
 accepted p j (l ∷ ls) = acceptedOne p j l ++ accepted p (called p j l .judge) ls

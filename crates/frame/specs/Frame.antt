@@ -22,6 +22,7 @@ use Rattle.frame.specs.declared.Judged.{Judged}
 abbrev pub within : ℕ → ℕ → ℕ → Bool
 within from to n = leb from n && leb n to
 
+-- the judge's own test: a state that calls can reach
 abbrev pub passes : Profile → Judge → Bool
 passes p Waiting = true
 passes p (Due place Unsettled) = within 1 (settlingPlace p) place
@@ -62,6 +63,7 @@ rulingFor (refused n) = ruling.Refused n
 abbrev pub gives : Judge → Ruling → Judged
 gives j v = record { judge = j; ruling = v }
 
+-- a refusal, and the judge after it
 abbrev pub refuses : Judge → ℕ → Judged
 refuses j n = gives j (rulingFor (refused n))
 

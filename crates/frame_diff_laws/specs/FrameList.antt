@@ -5,9 +5,11 @@ use Prim.Native.Nat.{ℕ, suc}
 use Rattle.line_list.specs.Lines.{FullLine}
 use Rattle.frame_rows.specs.FrameRows.{Shown}
 
+-- lines numbered by their places, from one on
 abbrev pub placedFrom : ℕ → List Shown → List FullLine
 placedFrom place [] = []
 placedFrom place (l ∷ ls) = record { kind = l .given .kind; number = place; body = l .body } ∷ placedFrom (suc place) ls
 
+-- a frame's lines numbered by their places
 abbrev pub placedLines : List Shown → List FullLine
 placedLines = placedFrom 0

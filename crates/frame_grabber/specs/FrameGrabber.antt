@@ -46,6 +46,7 @@ pub record Sought : Type 0 where
   pub outcome : AfterCall
   pub left : List ℕ
 
+-- where a search stands
 abbrev pub sought : Reader → AfterCall → List ℕ → Sought
 sought r x w = record { reader = r; outcome = x; left = w }
 
@@ -74,6 +75,7 @@ leaving n s =
       buffer = s .outcome .buffer;
     }
 
+-- a grabber whose reader fails its own test takes nothing
 abbrev pub failing : Grabber → List ℕ → After
 failing s rows = record { grabber = s; taken = 0; output = refused badState; buffer = rows }
 

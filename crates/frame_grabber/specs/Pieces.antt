@@ -25,6 +25,7 @@ abbrev pub joined : List (List ℕ) → List ℕ
 joined [] = []
 joined (p ∷ ps) = p ++ joined ps
 
+-- after so many nibbles more
 abbrev pub withMore : ℕ → After → After
 withMore n a = record { grabber = a .grabber; taken = n + a .taken; output = a .output; buffer = a .buffer }
 

@@ -124,6 +124,7 @@ left-few r g held w = let k = seeks w r g held in omega (arith, ap length (k .sp
 
 -- What complete says is the length of its rows.
 
+-- a complete frame's rows are as long as is said
 abbrev pub Sized : Output → Type 0
 Sized nothing = Unit {0}
 Sized (complete n w) = length w ≡ n

@@ -27,6 +27,7 @@ abbrev pub asLines : Handed → List Line
 asLines hand.Nothing = []
 asLines (hand.Line k n) = line k n ∷ []
 
+-- the line that an answer hands to the judge, if any
 abbrev pub handedLines : Answer → List Line
 handedLines a = asLines (handedOver a)
 

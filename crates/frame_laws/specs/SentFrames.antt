@@ -10,6 +10,7 @@ use Rattle.frame.specs.Calls.{Line, line, IsFrame}
 abbrev pub judgedLine : Sent → Line
 judgedLine s = line (kindNumber (s .kind)) (s .number)
 
+-- what the judge is handed of lines as sent
 abbrev pub judgedLines : List Sent → List Line
 judgedLines ss = map judgedLine ss
 

@@ -18,6 +18,7 @@ abbrev pub bordersOn : Profile → Layout
 bordersOn VV5404 = record { from = 10; to = 301; end = 302; last = 303 }
 bordersOn VV5300 = record { from = 11; to = 134; end = 145; last = 146 }
 
+-- without border lines
 abbrev pub bordersOff : Profile → Layout
 bordersOff VV5404 = record { from = 12; to = 299; end = 300; last = 303 }
 bordersOff VV5300 = record { from = 13; to = 132; end = 145; last = 146 }

@@ -23,6 +23,7 @@ abbrev pub pixelsOf : Order → List ℕ → List ℕ
 pixelsOf AsSent body = body
 pixelsOf OddFirst body = reordered ToPixels body
 
+-- the number of a visible line's kind
 abbrev pub isVisible : ℕ → Bool
 isVisible k = eqb k (kindNumber VL)
 
@@ -40,6 +41,7 @@ rowSize WholeLines kind = lineSize
 unfoldable pub rowFits : Keeping → ℕ → ℕ → List ℕ → List ℕ → Bool
 rowFits k kept kind body buffer = eqb (length body) width && leb (kept + rowSize k kind) (length buffer)
 
+-- a buffer with a line's row after the bytes kept
 unfoldable pub withRow : Keeping → ℕ → ℕ → ℕ → List ℕ → List ℕ → List ℕ
 withRow k kept place kind body buffer = take kept buffer ++ (rowOf k place kind body ++ drop (kept + rowSize k kind) buffer)
 

@@ -69,6 +69,7 @@ moved s j kept = record { judge = j; kept = kept; keeping = s .keeping }
 abbrev pub saying : Gatherer → Progress → Gathered
 saying s p = record { gatherer = s; progress = p }
 
+-- nothing is said
 abbrev pub quiet : Gatherer → List ℕ → AfterCall
 quiet s buffer = record { gatherer = s; output = nothing; buffer = buffer }
 
@@ -108,12 +109,14 @@ afterBreak s (Due place b) kind body buffer = onward s (Due place b) 0 0 kind bo
 unfoldable pub refusedBy : Gatherer → Judge → ℕ → ℕ → List ℕ → List ℕ → AfterCall
 refusedBy s j n kind body buffer = cond (breaksFrame n) (afterBreak s j kind body buffer) (refuses s n buffer)
 
+-- what becomes of the rows, by the judge's ruling
 abbrev pub byRuling : Gatherer → Shown → List ℕ → Judge → Ruling → AfterCall
 byRuling s l buffer j ruling.Waiting = quiet (moved s j 0) buffer
 byRuling s l buffer j ruling.Going = onward s j (s .kept) (placeDue (s .judge)) (l .given .kind) (l .body) buffer
 byRuling s l buffer j ruling.Complete = completed s j (placeDue (s .judge)) (l .given .kind) (l .body) buffer
 byRuling s l buffer j (ruling.Refused n) = refusedBy s j n (l .given .kind) (l .body) buffer
 
+-- a line that is handed to the judge
 unfoldable pub handed : Gatherer → Shown → List ℕ → AfterCall
 handed s l buffer = byRuling s l buffer (called VV5404 (s .judge) (l .given) .judge) (called VV5404 (s .judge) (l .given) .ruling)
 
@@ -128,5 +131,6 @@ abbrev pub handing : Gatherer → Handed → List ℕ → List ℕ → AfterCall
 handing s hand.Nothing held buffer = quiet s buffer
 handing s (hand.Line k n) held buffer = handed s (shownAs k n held) buffer
 
+-- an answer taken, with the line buffer as its call left it
 unfoldable pub takeOf : Gatherer → Answer → List ℕ → List ℕ → AfterCall
 takeOf s a held buffer = handing s (handedOver a) held buffer

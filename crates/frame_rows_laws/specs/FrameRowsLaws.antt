@@ -83,13 +83,16 @@ split (l ∷ ls) (x ∷ a) b e =
 
 -- The lines of the frame that is open: those since the last SOF numbered 0, which is the first of them.
 
+-- a line that opens a frame
 abbrev pub isFirst : Shown → Bool
 isFirst l = opens (l .given .kind) (l .given .number)
 
+-- the lines from the latest frame start on
 abbrev pub since : List Shown → List Shown → List Shown
 since own [] = own
 since own (l ∷ ls) = since (cond (isFirst l) [] own ++ (l ∷ [])) ls
 
+-- those of a list of lines from nothing
 abbrev pub latest : List Shown → List Shown
 latest ls = since [] ls
 
@@ -468,6 +471,7 @@ module _ (k : Keeping) (ls : List Shown) (x : AfterCall) (h : HoldsRows k ls x) 
 
 -- What a call hands to the judge: nothing, or one line.
 
+-- an answer hands no line over, or one
 pub data Hands (x : AfterCall) : List Shown → AfterCall → Type 0 where
   none : Hands x [] (quiet (x .gatherer) (x .buffer))
   one : (l : Shown) → Hands x (l ∷ []) (handed (x .gatherer) l (x .buffer))

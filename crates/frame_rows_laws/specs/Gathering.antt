@@ -30,6 +30,7 @@ abbrev pub rowsFrom : Keeping → ℕ → List Shown → List ℕ
 rowsFrom k place [] = []
 rowsFrom k place (l ∷ ls) = rowOf k place (l .given .kind) (l .body) ++ rowsFrom k (suc place) ls
 
+-- the rows of a frame's lines
 abbrev pub rowsOf : Keeping → List Shown → List ℕ
 rowsOf k ls = rowsFrom k 0 ls
 
@@ -40,6 +41,7 @@ pub record Given : Type 0 where
   pub answer : Answer
   pub held : List ℕ
 
+-- a call of the gatherer
 abbrev pub call : AfterCall → Given → AfterCall
 call x g = takeOf (x .gatherer) (g .answer) (g .held) (x .buffer)
 
@@ -54,11 +56,13 @@ start k buffer = quiet (fresh k) buffer
 
 -- The lines taken: those that 01 hands to the judge, of the calls that are not refused.
 
+-- a call that is refused
 abbrev pub isRefused : Output → Bool
 isRefused nothing = false
 isRefused (complete n rows) = false
 isRefused (refused n) = true
 
+-- lines, but none of a refused call
 abbrev pub unlessRefused : Output → List Shown → List Shown
 unlessRefused o ls = cond (isRefused o) [] ls
 
@@ -67,6 +71,7 @@ abbrev pub shown : List Line → List ℕ → List Shown
 shown [] held = []
 shown (l ∷ ls) held = shownAs (l .kind) (l .number) held ∷ shown ls held
 
+-- the lines that calls one after another take
 abbrev pub taken : AfterCall → List Given → List Shown
 taken x [] = []
 taken x (g ∷ gs) = unlessRefused (call x g .output) (shown (handedLines (g .answer)) (g .held)) ++ taken (call x g) gs
@@ -76,6 +81,7 @@ abbrev pub shownAll : List Given → List Shown
 shownAll [] = []
 shownAll (g ∷ gs) = shown (handedLines (g .answer)) (g .held) ++ shownAll gs
 
+-- shown lines as the judge sees them
 abbrev pub linesOf : List Shown → List Line
 linesOf [] = []
 linesOf (l ∷ ls) = l .given ∷ linesOf ls

@@ -19,9 +19,11 @@ use Rattle.half_means.specs.declared.Halves.the-variants.{Given, Refused
 abbrev pub firstPlace : ℕ
 firstPlace = 16
 
+-- the image place where the second half begins
 abbrev pub secondPlace : ℕ
 secondPlace = 80
 
+-- how many pixels a half has
 abbrev pub halfLength : ℕ
 halfLength = 64
 
@@ -38,6 +40,7 @@ halfAt place body = take halfLength (drop (imageStart VV5300 + place) body)
 unfoldable pub firstSum : List ℕ → ℕ
 firstSum body = total (halfAt firstPlace body)
 
+-- the sum of the second half's pixels
 unfoldable pub secondSum : List ℕ → ℕ
 secondSum body = total (halfAt secondPlace body)
 

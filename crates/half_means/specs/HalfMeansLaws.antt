@@ -31,6 +31,7 @@ use Rattle.half_means.specs.Sixtyfourths.{exact}
 abbrev pub sumsBelow : ℕ
 sumsBelow = 16257
 
+-- no difference is wider: 64 pixels, each at most 253 away
 abbrev pub widest : ℕ
 widest = 16192
 

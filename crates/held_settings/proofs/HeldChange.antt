@@ -48,7 +48,8 @@ use Rattle.saved_setting.proofs.Saved.Laws as K′
 use Rattle.saved_setting.proofs.SavedList as R
 use Rattle.saved_setting.proofs.SavedList.Laws as R′
 
--- ---- the MIR
+-- The MIR.
+
 abbrev pub function : Name → Ty → Fn
 function key τ = record {
   lifetimes = 0;
@@ -63,7 +64,8 @@ function key τ = record {
       (seq (assign (place 0 []) (aggregate (copy (place 4 []) ∷ copy (place 7 []) ∷ []))) return)))));
 }
 
--- ---- what is returned
+-- What is returned.
+
 abbrev pub after : Saved → List SavedSetting → SavedList
 after r zs = record { answer = r; list = zs }
 
@@ -80,7 +82,8 @@ after-is r zs ris zis =
 answer-is : (r : Saved) {w : List Val} → Is K.the-row r w → Is K.the-row r (EL.vals K.the-type K′.the-laws r)
 answer-is r {w} is = subst (Is K.the-row r) (EL.tells K.the-type K′.the-laws r w is) is
 
--- ---- the slice that is lent, at l and under the name δ; and what is had after the call, for an answer and a last list
+-- The slice that is lent, at l and under the name δ; and what is had after the call, for an answer and a last list.
+
 abbrev pub lent : List SavedSetting → ℕ → GName → RefT (List SavedSetting)
 lent ys l δ = record { ptr = (l, 0); name = δ; now = ys }
 

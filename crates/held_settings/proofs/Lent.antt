@@ -69,7 +69,8 @@ module _ {M : Type 1} {𝓤 : URA M} {H : Heap 𝓤} {A : Atoms 𝓤} {K : Type 
       use1 W (‵ (fat fullShare (tyArray S′.mir 8) l 0 (arr-val ys))) (W .laws .raw-at fullShare (tyArray S′.mir 8) l 0 (arr-val ys)) $
       k (subst (Is arr ys) (tells ys vs is) is))))
 
--- ---- the array as a field of a struct: there its elements are the structs' tuples
+-- The array as a field of a struct: there its elements are the structs' tuples.
+
 pub field-maps : (zs : List SavedSetting) → map (S′.the-field-laws .val) (map (S.the-field .into) zs) ≡ map (LL.val S.the-type S′.the-laws) zs
 field-maps [] = refl
 field-maps (z ∷ zs) = λ i. LL.val S.the-type S′.the-laws z ∷ field-maps zs i

@@ -9,10 +9,12 @@ use Rattle.lent_buffer.specs.Filled.{Output, answerFor, bufferAfter}
 
 -- Calls that fill a lent buffer: 0 or the refusal, and how much is filled.
 
+-- the answer's number: 0, or the refusal
 abbrev pub writtenNumber : Filled → ℕ
 writtenNumber (filled.Length n) = 0
 writtenNumber (filled.Refused n) = n
 
+-- the length used, 0 with a refusal
 abbrev pub writtenCount : Filled → ℕ
 writtenCount (filled.Length n) = n
 writtenCount (filled.Refused n) = 0
@@ -35,6 +37,7 @@ pub record Called : Type 0 where
   pub answer : ℕ
   pub state : List ℕ
 
+-- what a call on lent bytes gives: its answer, and the bytes as it leaves them
 pub record StateGives (c : Called) (answer : ℕ) (state : List ℕ) : Type 0 where
   pub says : answer ≡ c .answer
   pub keeps : state ≡ c .state

@@ -52,6 +52,7 @@ meaningOf c = cond (eqb c 0) EndOfLine (lineOr (kindNumbered c) (reservedOf c))
 abbrev pub codeBits : ℕ → ℕ
 codeBits b = b / 16 % 8
 
+-- a count is even
 abbrev pub even : ℕ → Bool
 even n = eqb (n % 2) 0
 
@@ -99,6 +100,7 @@ abbrev pub kindOf : Reading → LineKind
 kindOf (Says m r) = kindMeant m
 kindOf Damaged = NotLine
 
+-- the meaning is end of line
 abbrev pub endMeant : Meaning → Bool
 endMeant EndOfLine = true
 endMeant (Line k) = false
@@ -120,14 +122,17 @@ abbrev pub isBit : Repair → Bool
 isBit Clean = false
 isBit (Bit i) = true
 
+-- a clean code
 abbrev pub isClean : Reading → Bool
 isClean (Says m Clean) = true
 isClean (Says m (Bit i)) = false
 isClean Damaged = false
 
+-- a repaired code
 abbrev pub isRepaired : Reading → Bool
 isRepaired r = isBit (repairOf r)
 
+-- a damaged code
 abbrev pub isDamaged : Reading → Bool
 isDamaged (Says m r) = false
 isDamaged Damaged = true
@@ -139,6 +144,7 @@ abbrev pub repairNumber : Repair → ℕ
 repairNumber Clean = 0
 repairNumber (Bit i) = i + 1
 
+-- the repair of a number
 unfoldable pub repairNumbered : ℕ → Repair
 repairNumbered n = cond (eqb n 0) Clean (Bit (n - 1))
 
@@ -147,5 +153,6 @@ abbrev pub readingNumber : Reading → ℕ
 readingNumber (Says m r) = 16 * repairNumber r + codeOf m
 readingNumber Damaged = 8
 
+-- the reading of a number: meaning in its low four bits, repair above them
 unfoldable pub readingNumbered : ℕ → Reading
 readingNumbered n = cond (ltb (n % 16) 8) (Says (meaningOf (n % 16)) (repairNumbered (n / 16))) Damaged

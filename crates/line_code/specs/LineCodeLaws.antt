@@ -69,6 +69,7 @@ number-back (Says m r) =
     simp (c, q, lt-ltb (codeOf m) 8 s, meaning-code m, repair-back r)
 number-back Damaged = refl
 
+-- two readings are one
 abbrev pub same : Reading → Reading → Bool
 same r s = eqb (readingNumber r) (readingNumber s)
 

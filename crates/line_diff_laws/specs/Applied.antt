@@ -26,18 +26,22 @@ abbrev pub lineChanged : ℕ → (FullLine → FullLine) → List FullLine → L
 lineChanged n f [] = []
 lineChanged n f (l ∷ ls) = cond (eqb (l .number) n) (f l ∷ ls) (l ∷ lineChanged n f ls)
 
+-- a line with another kind
 abbrev pub ofKind : ℕ → FullLine → FullLine
 ofKind k l = record { kind = k; number = l .number; body = l .body }
 
+-- a line with another byte at a place
 abbrev pub withByte : ℕ → ℕ → FullLine → FullLine
 withByte p y l = record { kind = l .kind; number = l .number; body = set (l .body) p y }
 
+-- a list of lines with one difference made
 unfoldable pub applied : Difference → List FullLine → List FullLine
 applied (onlyFirst x) ls = without (x .number) ls
 applied (onlySecond x) ls = including x ls
 applied (bothKinds n k m) ls = lineChanged n (ofKind m) ls
 applied (bothBytes n p x y) ls = lineChanged n (withByte p y) ls
 
+-- a list of lines with differences made, one after another
 abbrev pub appliedAll : List Difference → List FullLine → List FullLine
 appliedAll [] ls = ls
 appliedAll (d ∷ ds) ls = appliedAll ds (applied d ls)
@@ -62,6 +66,7 @@ rank (bothBytes n p x y) = suc p
 abbrev pub Before : Difference → Difference → Type 0
 Before d e = (ofNumber d < ofNumber e) ⊎ ((ofNumber d ≡ ofNumber e) × (rank d < rank e))
 
+-- a claim of each difference of a list
 pub data Each (P : Difference → Type 0) : List Difference → Type 0 where
   done : Each P []
   also : {d : Difference} {ds : List Difference} → P d → Each P ds → Each P (d ∷ ds)

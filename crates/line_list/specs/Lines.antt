@@ -10,6 +10,7 @@ use Rattle.line_code.specs.LineCode.{kindNumber}
 use Rattle.line_number.specs.LineNumber.{greatest}
 use Rattle.profile.specs.Profile.{width}
 
+-- a line with all that a list holds of it
 pub record FullLine : Type 0 where
   pub kind : ℕ
   pub number : ℕ
@@ -19,6 +20,7 @@ pub record FullLine : Type 0 where
 abbrev pub headSize : ℕ
 headSize = 3
 
+-- how many bytes a line has in a list
 abbrev pub lineSize : ℕ
 lineSize = headSize + width
 
@@ -66,6 +68,7 @@ abbrev pub risesFrom : ℕ → List FullLine → Bool
 risesFrom least [] = true
 risesFrom least (l ∷ ls) = leb least (l .number) && risesFrom (suc (l .number)) ls
 
+-- the numbers rise from line to line
 abbrev pub rises : List FullLine → Bool
 rises = risesFrom 0
 

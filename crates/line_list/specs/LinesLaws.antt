@@ -26,7 +26,7 @@ pub body-length : (bytes : List ℕ) → lineSize ≤ length bytes → length (f
 unfolding frontLine
 body-length bytes h = length-take-le width (drop 3 bytes) (omega (arith, length-drop 3 bytes))
 
--- ---- From a place on
+-- From a place on.
 
 -- what is lent from a place on
 abbrev pub lentFrom : List ℕ → ℕ → List ℕ

@@ -38,7 +38,7 @@ heads-whole bytes h =
     let n : headCount (length bytes) ≡ length bytes / lineSize = omega (arith, eqb-true (length bytes % lineSize) 0 h) in
     ap (λ (k : ℕ). firstLines k bytes) n
 
--- ---- The bytes from the lines
+-- The bytes from the lines.
 
 three : (bytes : List ℕ) → 3 ≤ length bytes → bytes ≡ getD bytes 0 0 ∷ getD bytes 1 0 ∷ getD bytes 2 0 ∷ drop 3 bytes
 three [] h = absurd (omega arith)
@@ -66,7 +66,7 @@ pub list-back : (bytes : List ℕ) → noneCut bytes ≡ true → ((i : ℕ) →
 unfolding fullLines
 list-back bytes w b = list-back-in (length bytes / lineSize) bytes (omega (arith, eqb-true (length bytes % lineSize) 0 w)) b
 
--- ---- The lines from the bytes
+-- The lines from the bytes.
 
 pub lent-length : {ls : List FullLine} → FullBodies ls → length (asLent ls) ≡ lineSize * length ls
 lent-length unsized = refl

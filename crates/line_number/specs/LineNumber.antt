@@ -24,8 +24,10 @@ numberGood b = ltb b 128 && eqb (ones b % 2) 1
 abbrev pub numberFrom : ℕ → ℕ → ℕ
 numberFrom high low = 64 * (high / 2) + low / 2
 
+-- a number as two bytes, the high one first
 abbrev pub encodeOf : ℕ → Encoded
 encodeOf n = cond (leb n greatest) (Bytes (numberByte (n / 64)) (numberByte (n % 64))) TooLarge
 
+-- the number of two bytes, or bad
 abbrev pub decodeOf : ℕ → ℕ → Decoded
 decodeOf high low = cond (numberGood high && numberGood low) (Number (numberFrom high low)) Bad

@@ -17,7 +17,7 @@ then : (a b : Bool) → cond a b true ≡ true → a ≡ true → b ≡ true
 then true b h t = h
 then false b h t = absurd (true≢false (sym t))
 
--- ---- number bytes
+-- Number bytes.
 
 pub byte-good : (v : ℕ) → v < 64 → numberGood (numberByte v) ≡ true
 unfolding numberGood numberByte ones onesIn
@@ -48,7 +48,7 @@ one-flip b i h l g =
     (each (λ m. not (numberGood (flipped b m))) 8
     (then (numberGood b) _ (each (λ n. cond (numberGood n) (every (λ m. not (numberGood (flipped n m))) 8) true) 256 refl b h) g) i l)
 
--- ---- numbers
+-- Numbers.
 
 pub decode-encode : (n : ℕ) → n ≤ greatest → decodeOf (numberByte (n / 64)) (numberByte (n % 64)) ≡ Number n
 decode-encode n h =

@@ -32,6 +32,7 @@ freshLister p = record { reader = freshReader p; findings = noFindings p }
 abbrev pub withOutcome : FrameLister → Took → FrameLister
 withOutcome l t = record { reader = t .reader; findings = takeOf (l .findings) (answerFor (t .outcome)) .findings }
 
+-- the text of an outcome: the line on a frame, if there is news
 abbrev pub outcomeLine : FrameLister → Outcome → List ℕ
 outcomeLine l o = newsLine (takeOf (l .findings) (answerFor o) .news)
 
@@ -41,9 +42,11 @@ outcomeLine l o = newsLine (takeOf (l .findings) (answerFor o) .news)
 abbrev pub fed : FrameLister → ℕ → Took
 fed l n = feedOf (l .reader) n longest
 
+-- the lister after a nibble
 unfoldable pub afterNibble : FrameLister → ℕ → FrameLister
 afterNibble l n = withOutcome l (fed l n)
 
+-- the text that a nibble brings
 unfoldable pub nibbleText : FrameLister → ℕ → List ℕ
 nibbleText l n = outcomeLine l (fed l n .outcome)
 
@@ -67,6 +70,7 @@ listText = textAfter frameLists
 abbrev pub takenOf : FrameLister → ℕ → List ℕ → ℕ
 takenOf l room w = cond (passes (l .reader .head)) (takenFrom frameLists l room w) 0
 
+-- what is listed of nibbles, as far as the buffer lasts
 unfoldable pub listedOf : FrameLister → ℕ → List ℕ → ListedText FrameLister
 listedOf l room w = listedUpTo frameLists l w (takenOf l room w)
 
@@ -76,6 +80,7 @@ listedOf l room w = listedUpTo frameLists l w (takenOf l room w)
 abbrev pub lastAnswer : FrameLister → Answer
 lastAnswer l = answerFor (finishOf (l .reader) .outcome)
 
+-- what is found at the capture's end
 abbrev pub lastFound : FrameLister → Found
 lastFound l = closeOf (l .findings) (lastAnswer l)
 

@@ -32,6 +32,7 @@ marksWith n a = cond (isAnswer a) (oneMore n) n
 abbrev pub withOutcome : MarkLister → Took → MarkLister
 withOutcome l t = record { reader = t .reader; marks = marksWith (l .marks) (answerFor (t .outcome)) }
 
+-- the text of an outcome: a row, if it is an answer
 abbrev pub outcomeRow : MarkLister → Outcome → List ℕ
 outcomeRow l o = rowOf (marksWith (l .marks) (answerFor o)) (answerFor o)
 
@@ -41,9 +42,11 @@ outcomeRow l o = rowOf (marksWith (l .marks) (answerFor o)) (answerFor o)
 abbrev pub fed : MarkLister → ℕ → Took
 fed l n = feedOf (l .reader) n longest
 
+-- the lister after a nibble
 unfoldable pub afterNibble : MarkLister → ℕ → MarkLister
 afterNibble l n = withOutcome l (fed l n)
 
+-- the text that a nibble brings
 unfoldable pub nibbleText : MarkLister → ℕ → List ℕ
 nibbleText l n = outcomeRow l (fed l n .outcome)
 
@@ -67,6 +70,7 @@ listText = textAfter markLists
 abbrev pub takenOf : MarkLister → ℕ → List ℕ → ℕ
 takenOf l room w = cond (passes (l .reader .head)) (takenFrom markLists l room w) 0
 
+-- what is listed of nibbles, as far as the buffer lasts
 unfoldable pub listedOf : MarkLister → ℕ → List ℕ → ListedText MarkLister
 listedOf l room w = listedUpTo markLists l w (takenOf l room w)
 

@@ -19,11 +19,13 @@ bordersWord Unsettled = ascii "unsettled"
 bordersWord (Settled On) = ascii "on"
 bordersWord (Settled Off) = ascii "off"
 
+-- a frame by its number
 abbrev pub frameWords : ℕ → List ℕ
 frameWords frame = ascii "frame " ++ decimal frame
 
 -- Lines.
 
+-- the line on a complete frame
 unfoldable pub completeLine : ℕ → KnownBorders → ℕ → List ℕ
 completeLine frame b mark = frameWords frame ++ (ascii " complete, borders " ++ (bordersWord b ++ (ascii ", last line at mark " ++ decimal mark)))
 
@@ -35,6 +37,7 @@ brokenLineWords own = ascii ", a broken line (its answer: " ++ (decimal own ++ a
 unfoldable pub reasonWords : ℕ → ℕ → List ℕ
 reasonWords refusal own = cond (eqb refusal notTheLineDue) (ascii ", not the line due") (cond (eqb refusal brokenLine) (brokenLineWords own) [])
 
+-- the line on a broken frame, with its reason
 unfoldable pub brokenLineOf : ℕ → ℕ → ℕ → ℕ → List ℕ
 brokenLineOf frame mark refusal own =
     frameWords frame ++ (ascii " broken at mark " ++ (decimal mark ++ (ascii ": " ++ (decimal refusal ++ reasonWords refusal own))))

@@ -13,9 +13,11 @@ use Rattle.stream.specs.Answers.{eitherRepaired}
 
 -- Words.
 
+-- the first row
 abbrev pub headerRow : List ℕ
 headerRow = ascii "mark answer number note\n"
 
+-- a line's kind
 abbrev pub kindWord : Kind → List ℕ
 kindWord BL = ascii "BL"
 kindWord BK = ascii "BK"
@@ -23,9 +25,11 @@ kindWord VL = ascii "VL"
 kindWord SOF = ascii "SOF"
 kindWord EOF = ascii "EOF"
 
+-- a line's note
 abbrev pub noteWord : Bool → List ℕ
 noteWord repaired = cond repaired (ascii "repaired") (ascii "clean")
 
+-- a good gap
 abbrev pub gapWords : List ℕ
 gapWords = ascii "GAP - ok"
 
@@ -35,6 +39,7 @@ gapWords = ascii "GAP - ok"
 unfoldable pub lineWords : LineFacts → List ℕ
 lineWords f = kindWord (f .kind) ++ (space ∷ (decimal (f .number) ++ (space ∷ noteWord (eitherRepaired f))))
 
+-- a refused mark
 unfoldable pub refusedWords : ℕ → List ℕ
 refusedWords n = ascii "REFUSED - " ++ decimal n
 

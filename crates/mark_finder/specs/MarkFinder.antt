@@ -25,6 +25,7 @@ use Rattle.mark_finder.specs.declared.Located.{Located}
 use Rattle.mark_finder.specs.declared.Finder.{Finder}
 use Rattle.mark_finder.specs.declared.FoundMark.{FoundMark}
 
+-- a finder before a capture's first byte
 abbrev pub freshFinder : Profile → Finder
 freshFinder p = record { reader = freshReader p; number = 0; place = 0; low = false; offset = 0; begin = 0; length = 0 }
 
@@ -36,6 +37,7 @@ numberBefore NoLine = 0
 numberBefore (RefusedLine k) = kindNumber k
 numberBefore (HandedOut k) = kindNumber k
 
+-- the kind of the mark before the open one, as a number
 abbrev pub kindBeforeIt : Mark → ℕ
 kindBeforeIt NoMark = 0
 kindBeforeIt (Open before code) = numberBefore before
@@ -82,6 +84,7 @@ span bytes from to = take (to - from) (drop from bytes)
 abbrev pub keptCount : Finder → List ℕ → ℕ → List ℕ → ℕ
 keptCount f piece to held = f .length + min (length (span piece (f .begin) to)) (length held - f .length)
 
+-- the bytes kept of a mark, with those of a piece up to a place
 abbrev pub keptBytes : Finder → List ℕ → ℕ → List ℕ → List ℕ
 keptBytes f piece to held = sets held (f .length) (span piece (f .begin) to)
 
@@ -135,6 +138,7 @@ goingOn f held t =
 abbrev pub findBy : Finder → List ℕ → ℕ → List ℕ → Ran → AfterFind
 findBy f piece from held t = cond (isAnswer (answerFor (t .outcome))) (answering f piece (from + t .taken) held t) (goingOn f held t)
 
+-- the search for the next mark's answer, from a nibble's place of a piece on
 unfoldable pub findOf : Finder → List ℕ → ℕ → List ℕ → AfterFind
 findOf f piece from held = findBy f piece from held (runFrom (f .reader .head) (f .reader .body) piece from longest)
 
@@ -145,6 +149,7 @@ pub record Finds (a : AfterFind) (r : FoundMark) (after : List ℕ) : Type 0 whe
 
 -- A piece that is left.
 
+-- what is left where a piece ends
 pub record AfterPiece : Type 0 where
   pub finder : Finder
   pub buffer : List ℕ
@@ -166,6 +171,7 @@ endPieceOf f piece held =
       buffer = keptBytes f piece (length piece) held;
     }
 
+-- what a call at a piece's end gives
 pub record EndsPiece (a : AfterPiece) (r : Finder) (after : List ℕ) : Type 0 where
   pub gives : r ≡ a .finder
   pub leaves : after ≡ a .buffer

@@ -33,6 +33,7 @@ abbrev pub beginFrom : ℕ → ℕ → List Outcome → ℕ
 beginFrom s i [] = s
 beginFrom s i (o ∷ os) = beginFrom (cond (isAnswer (answerFor o)) (i + 1 - 8) s) (i + 1) os
 
+-- where the last mark of a text begins
 abbrev pub beginIn : Profile → List ℕ → ℕ
 beginIn p w = beginFrom 0 0 (outcomes p fresh w)
 

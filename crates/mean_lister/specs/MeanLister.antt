@@ -44,6 +44,7 @@ answerRow number (answer.Line f) line = []
 answerRow number (answer.Gap g) line = gapRow number g line
 answerRow number (answer.Refused n) line = refusedRow number n
 
+-- the text of an answer, by what is awaited
 unfoldable pub textOf : Awaits → Answer → List ℕ → List ℕ
 textOf awaits.Line a line = []
 textOf (awaits.Gap number) a line = answerRow number a line
@@ -59,12 +60,15 @@ abbrev pub withOutcome : MeanLister → Took → MeanLister
 withOutcome l t =
     record { reader = t .reader; line = bufferAfter (t .outcome) (l .line); awaits = awaitsAfter (l .awaits) (answerFor (t .outcome)) }
 
+-- the text of an outcome, with the line buffer as it leaves it
 abbrev pub outcomeText : MeanLister → Outcome → List ℕ
 outcomeText l o = textOf (l .awaits) (answerFor o) (bufferAfter o (l .line))
 
+-- the lister after a nibble
 unfoldable pub afterNibble : MeanLister → ℕ → MeanLister
 afterNibble l n = withOutcome l (fed l n)
 
+-- the text that a nibble brings
 unfoldable pub nibbleText : MeanLister → ℕ → List ℕ
 nibbleText l n = outcomeText l (fed l n .outcome)
 
@@ -78,6 +82,7 @@ meansLists = record { step = afterNibble; text = nibbleText; most = meansRoom }
 abbrev pub takenOf : MeanLister → ℕ → List ℕ → ℕ
 takenOf l room w = cond (passes (l .reader .head)) (takenFrom meansLists l room w) 0
 
+-- what is listed of nibbles, as far as the buffer lasts
 unfoldable pub listedOf : MeanLister → ℕ → List ℕ → ListedText MeanLister
 listedOf l room w = listedUpTo meansLists l w (takenOf l room w)
 

@@ -22,6 +22,7 @@ places (suc k) n = places k (n / 10) ++ (digit (n % 10) ∷ [])
 abbrev pub minusSign : ℕ
 minusSign = 0x2D
 
+-- a whole number with its sign
 abbrev pub signed : ℤ → List ℕ
 signed (pos n) = decimal n
 signed (negsuc n) = minusSign ∷ decimal (suc n)
@@ -30,6 +31,7 @@ signed (negsuc n) = minusSign ∷ decimal (suc n)
 abbrev pub millionths : ℕ
 millionths = 15625
 
+-- the decimal point
 abbrev pub point : ℕ
 point = 0x2E
 
@@ -37,9 +39,11 @@ point = 0x2E
 abbrev pub wholePart : ℕ → List ℕ
 wholePart sum = decimal (sum / halfLength)
 
+-- the six places of a sum over 64
 abbrev pub fraction : ℕ → List ℕ
 fraction sum = places 6 (sum % halfLength * millionths)
 
+-- a mean in decimal, exactly
 unfoldable pub meanText : ℕ → List ℕ
 meanText sum = wholePart sum ++ (point ∷ fraction sum)
 
@@ -61,6 +65,7 @@ meansWords s = meanText (s .first) ++ (space ∷ (meanText (s .second) ++ (space
 unfoldable pub differencesWords : ℕ → ℕ → Sums → List ℕ
 differencesWords a b s = signed (difference a (s .first)) ++ (space ∷ (signed (difference b (s .second)) ++ (newline ∷ [])))
 
+-- the row of a line whose means are given
 unfoldable pub givenRow : ℕ → ℕ → ℕ → Sums → List ℕ
 givenRow number a b s = startWords number a b ++ (meansWords s ++ differencesWords a b s)
 
@@ -68,6 +73,7 @@ givenRow number a b s = startWords number a b ++ (meansWords s ++ differencesWor
 unfoldable pub gapRefusalWords : ℕ → List ℕ
 gapRefusalWords n = cond (eqb n badGap) (ascii ", bad gap") []
 
+-- the row of a line whose gap is refused
 unfoldable pub refusedRow : ℕ → ℕ → List ℕ
 refusedRow number n = decimal number ++ (ascii " refused: " ++ (decimal n ++ (gapRefusalWords n ++ (newline ∷ []))))
 

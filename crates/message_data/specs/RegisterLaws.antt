@@ -14,7 +14,7 @@ use lib.Seq.{drop-cons}
 use Rattle.bits.specs.Tests.{or-left, or-right}
 use Rattle.message_data.specs.Registers.{registerCount, lastIndex, next, passes, reached, put, stored, differs, someDiffers}
 
--- ---- where data ends
+-- Where data ends.
 
 pub passes-counts : (i : ℕ) (bytes : List ℕ) → i ≤ registerCount → passes true i bytes ≡ ltb (registerCount - i) (length bytes)
 unfolding next
@@ -62,7 +62,7 @@ past-alike increment i [] registers h = refl
 past-alike increment i (b ∷ bytes) registers h =
     simp (le-ltb i 5 (omega arith), lt-ltb lastIndex i h) (past-alike increment (next increment i) bytes registers (omega (arith, next-more increment i)))
 
--- ---- one byte after another
+-- One byte after another.
 
 module _ (increment : Bool) (bytes : List ℕ) (i : ℕ) (h : i < length bytes) where
   pub passes-step : (at : ℕ) → passes increment at (drop i bytes) ≡ (ltb lastIndex at || passes increment (next increment at) (drop (i + 1) bytes))

@@ -9,6 +9,7 @@ use lib.ListN.{getD, set}
 abbrev pub registerCount : ℕ
 registerCount = 128
 
+-- the greatest index of a register
 abbrev pub lastIndex : ℕ
 lastIndex = 127
 
@@ -16,7 +17,7 @@ lastIndex = 127
 abbrev pub firstSettable : ℕ
 firstSettable = 5
 
--- ---- The data of a message. Each byte stands at an index, the first at the current one.
+-- The data of a message. Each byte stands at an index, the first at the current one.
 
 -- the index after a data byte's: increment moves after each
 unfoldable pub next : Bool → ℕ → ℕ

@@ -35,6 +35,7 @@ digitOnto n c =
     cond (ltb c 0x30) noNumber
     (cond (ltb 0x39 c) noNumber (cond (ltb 6553 n) noNumber (cond (ltb 65535 (10 * n + (c - 0x30))) noNumber (10 * n + (c - 0x30)))))
 
+-- the number that digits make, after one that is read
 abbrev pub digitsOnto : ℕ → List ℕ → ℕ
 digitsOnto n [] = n
 digitsOnto n (c ∷ line) = digitsOnto (digitOnto n c) line

@@ -19,6 +19,7 @@ abbrev pub periodsIn : WholePeriods → Option ℕ
 periodsIn (Of p) = some (p .0)
 periodsIn Odd = none
 
+-- frames a second, of a period with a name
 abbrev pub framesIn : Rate → Option ℕ
 framesIn Thirty = some 30
 framesIn TwentyFive = some 25

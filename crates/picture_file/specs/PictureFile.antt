@@ -34,6 +34,7 @@ header b = ascii "P5\n" ++ (decimal width ++ (space ∷ (decimal (height b) ++ (
 abbrev pub threeDigits : ℕ → List ℕ
 threeDigits n = digit (n / 100 % 10) ∷ digit (n / 10 % 10) ∷ digit (n % 10) ∷ []
 
+-- how many bytes the header has
 abbrev pub headerLength : ℕ
 headerLength = 15
 

@@ -57,6 +57,7 @@ abbrev pub sentFrom : Keeping → ℕ → List Sent → List ℕ
 sentFrom k place [] = []
 sentFrom k place (s ∷ ss) = sentRow k place (s .kind) (s .body) ++ sentFrom k (suc place) ss
 
+-- the rows of a frame's lines as sent
 abbrev pub sentRows : Keeping → List Sent → List ℕ
 sentRows k ss = sentFrom k 0 ss
 

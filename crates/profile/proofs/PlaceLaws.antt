@@ -19,7 +19,7 @@ use Rattle.profile.specs.Layout.{rules}
 use Rattle.profile.specs.Places.{border, averagesReach, ruleWithin, imageWithin, evenly}
 use Rattle.profile.specs.LayoutLaws.{rules-length, image-centred}
 
--- ---- the ranges stay within the body
+-- The ranges stay within the body.
 
 pub border-outside : (p : Profile) → border p ≤ imageStart p
 border-outside VV5404 = lit≤ tt
@@ -49,7 +49,7 @@ evenly-filler i r h = either (eqb (i % 2) 1)
     either true = refl
     either false = h
 
--- ---- the list of rules and the rule of each place
+-- The list of rules and the rule of each place.
 
 abbrev ruleAt : Profile → Kind → ℕ → Rule
 ruleAt p k i = getD (rules p k) i Filler

@@ -52,9 +52,11 @@ rules p VL = laid p Pixel (replicate (imageLength p) Pixel)
 rules p SOF = laid p Filler (spaced Any (imageLength p / 2))
 rules p EOF = laid p Filler (averages p)
 
+-- both bytes are this one
 abbrev pub bothAre : ℕ → ℕ → ℕ → Bool
 bothAre x a b = eqb a x && eqb b x
 
+-- both bytes are pixels
 abbrev pub bothPixels : ℕ → ℕ → Bool
 bothPixels a b = isPixel a && isPixel b
 

@@ -30,12 +30,15 @@ readerOf h body = record { head = h; body = body }
 
 -- The calls.
 
+-- a reader as creation leaves it
 abbrev pub freshReader : Profile → Reader
 freshReader p = record { head = record { profile = p; at = NoMark; count = 0; window = 0; kept = nothingKept }; body = replicate longest 0 }
 
+-- a refused call: the reader stays
 abbrev pub refusing : Reader → ℕ → Took
 refusing r n = record { reader = r; outcome = refused n }
 
+-- creation, by the profile that the number names
 abbrev pub newFor : Numbered → Took
 newFor (numbered.Profile p) = record { reader = freshReader p; outcome = nothing }
 newFor numbered.NoProfile = refusing (freshReader VV5404) badState
@@ -52,9 +55,11 @@ completeOutcome h body code = keptAnswer (h .profile) (h .at) (h .count - 7) (le
 unfoldable pub takeHead : Head → Bool → ℕ → Head
 takeHead h handed n = cond (isMark (slide (h .window) n)) (opened h (slide (h .window) n % 256) handed) (shifted h n)
 
+-- what taking a nibble brings: a mark's answer where it completes the next mark
 unfoldable pub takeOutcome : Head → List ℕ → ℕ → Outcome
 takeOutcome h body n = cond (isMark (slide (h .window) n)) (completeOutcome h (leaveBody h body) (slide (h .window) n % 256)) nothing
 
+-- a nibble taken
 abbrev pub taking : Reader → ℕ → Took
 taking r n =
     record {

@@ -38,6 +38,7 @@ slide w n = w % topPlace * 16 + n
 abbrev pub countStop : ℕ
 countStop = mostNibbles + 8
 
+-- the count of a text's nibbles with one more, which stops
 unfoldable pub bump : ℕ → ℕ
 bump n = cond (ltb n countStop) (n + 1) n
 
@@ -45,6 +46,7 @@ bump n = cond (ltb n countStop) (n + 1) n
 unfoldable pub leaveKept : Head → Kept
 leaveKept h = cond (leb 8 (h .count)) (keptAt (h .profile) (h .count - 8) (h .window / topPlace) (h .kept)) (h .kept)
 
+-- the body with the nibble that leaves the window
 unfoldable pub leaveBody : Head → List ℕ → List ℕ
 leaveBody h body = cond (leb 8 (h .count)) (bodyAt (h .count - 8) (h .window / topPlace) body) body
 

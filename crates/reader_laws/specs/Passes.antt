@@ -257,6 +257,7 @@ feeding r n room = go (passes (r .head)) (leb n 15) (leb (bodyLength (r .head .p
 finish-sound : (r : Reader) → Sound (r .head .profile) (finished r .outcome)
 finish-sound r = kept-sound (r .head .profile) (r .head .at) (r .head .count) (flushed 8 (r .head) .kept) [] none
 
+-- a finish is refused 11, or finishes
 pub data Finishing (r : Reader) : Took → Type 0 where
   finish-state : passes (r .head) ≡ false → Finishing r (refusing r badState)
   finish-taken : Finishing r (finished r)

@@ -15,15 +15,18 @@ use Rattle.reader.specs.Reader.{Took, freshReader}
 
 -- The test as facts.
 
+-- an open mark's code stands in the window where the count says
 pub record MarkFits (code c w : ℕ) : Type 0 where
   pub two : 2 ≤ c
   pub within : c ≤ 8 → aged (c - 2) w ≡ code
   pub half : c ≡ 9 → aged 7 w ≡ code % 16
 
+-- a mark and its count fit the window
 abbrev pub Fits : Mark → ℕ → ℕ → Type 0
 Fits NoMark c w = c ≤ 8 → aged c w ≡ 0
 Fits (Open before code) c w = MarkFits code c w
 
+-- what a state that passes the reader's own test has
 pub record Passed (h : Head) : Type 0 where
   pub count-small : h .count ≤ countStop
   pub no-mark-there : isMark (h .window) ≡ false

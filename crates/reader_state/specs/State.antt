@@ -25,6 +25,7 @@ use Rattle.reader.specs.Reader.{freshReader}
 abbrev pub headLength : ℕ
 headLength = 14
 
+-- how many bytes a reader's state has
 abbrev pub stateLength : ℕ
 stateLength = headLength + longest
 
@@ -44,10 +45,12 @@ beforeNumber (HandedOut k) = noMark + kindNumber k
 abbrev pub greatestMark : ℕ
 greatestMark = 11
 
+-- what a mark is, in one byte
 abbrev pub markNumber : Mark → ℕ
 markNumber NoMark = noMark
 markNumber (Open before code) = beforeNumber before
 
+-- the code of the open mark
 abbrev pub codeOf : Mark → ℕ
 codeOf NoMark = 0
 codeOf (Open before code) = code
@@ -56,6 +59,7 @@ codeOf (Open before code) = code
 abbrev pub fourBytes : ℕ → List ℕ → List ℕ
 fourBytes n w = n / 0x1000000 ∷ n / 0x10000 % 256 ∷ n / 0x100 % 256 ∷ n % 256 ∷ w
 
+-- the bytes of a head
 unfoldable pub headBytes : Head → List ℕ
 headBytes h =
     profileNumber (h .profile)
@@ -69,12 +73,15 @@ stored r s = headBytes (r .head) ++ (r .body ++ drop stateLength s)
 
 -- The reader that bytes hold.
 
+-- the profile of a byte
 abbrev pub profileOf : ℕ → Profile
 profileOf n = cond (eqb n 0) VV5404 VV5300
 
+-- what the mark before was, of a byte
 abbrev pub beforeNumbered : ℕ → Before
 beforeNumbered n = cond (ltb n noMark) (beforeBy (kindNumbered n) false) (beforeBy (kindNumbered (n - noMark)) true)
 
+-- the mark of two bytes
 abbrev pub markNumbered : ℕ → ℕ → Mark
 markNumbered n code = cond (eqb n noMark) NoMark (Open (beforeNumbered n) code)
 
@@ -82,6 +89,7 @@ markNumbered n code = cond (eqb n noMark) NoMark (Open (beforeNumbered n) code)
 abbrev pub numberOf : ℕ → ℕ → ℕ → ℕ → ℕ
 numberOf a b c d = 0x1000000 * a + 0x10000 * b + 0x100 * c + d
 
+-- the head that bytes hold
 unfoldable pub headIn : List ℕ → Head
 headIn s =
     record {
@@ -96,9 +104,11 @@ headIn s =
 unfoldable pub heldHead : List ℕ → Head
 heldHead s = cond (leb stateLength (length s)) (headIn s) (freshReader VV5404 .head)
 
+-- the body that bytes hold
 abbrev pub bodyIn : List ℕ → List ℕ
 bodyIn s = take longest (drop headLength s)
 
+-- the reader that bytes hold
 abbrev pub readerIn : List ℕ → Reader
 readerIn s = record { head = headIn s; body = bodyIn s }
 

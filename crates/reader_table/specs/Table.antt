@@ -30,12 +30,15 @@ use Rattle.reader_table.specs.declared.Opening.the-variants as opening
 abbrev pub nobody : ℕ
 nobody = 0
 
+-- a place held by a technician
 abbrev pub placeFor : ℕ → Reader → TablePlace
 placeFor who r = record { owner = who; reader = r }
 
+-- a place that is free
 abbrev pub freePlace : TablePlace
 freePlace = placeFor nobody (freshReader VV5404)
 
+-- how many places a table has (02, A12)
 abbrev pub placeCount : ℕ
 placeCount = 8
 
@@ -77,6 +80,7 @@ pub record PlaceOpened : Type 0 where
   pub table : ReaderTable
   pub placing : Placing
 
+-- a refused opening: the table stays
 abbrev pub notOpened : ReaderTable → ℕ → PlaceOpened
 notOpened t n = record { table = t; placing = not-placed n }
 
@@ -84,15 +88,18 @@ notOpened t n = record { table = t; placing = not-placed n }
 abbrev pub opensAt : ReaderTable → ℕ → Profile → ℕ → PlaceOpened
 opensAt t who p i = record { table = withPlace t i (placeFor who (freshReader p)); placing = at-place i }
 
+-- the lowest free place is opened; 33 where there is none
 unfoldable pub openPlace : ReaderTable → ℕ → Profile → PlaceOpened
 openPlace t who p =
     let lowest : ℕ = lowestFree (t .places) in
     cond (ltb lowest (length (t .places))) (opensAt t who p lowest) (notOpened t noPlaceFree)
 
+-- an opening, by the profile that the number names; 11 for none
 abbrev pub openNumbered : ReaderTable → ℕ → Numbered → PlaceOpened
 openNumbered t who (numbered.Profile p) = openPlace t who p
 openNumbered t who numbered.NoProfile = notOpened t badState
 
+-- an opening: 32, 11, 33, or a place
 unfoldable pub openPlaceOf : ReaderTable → ℕ → ℕ → PlaceOpened
 openPlaceOf t who n = cond (isTechnician who) (openNumbered t who (profileNumbered n)) (notOpened t noSuchTechnician)
 
@@ -105,6 +112,7 @@ pub record PlaceCalled : Type 0 where
   pub taken : ℕ
   pub buffer : List ℕ
 
+-- a refused call: table and buffer stay
 abbrev pub notCalled : ReaderTable → ℕ → List ℕ → PlaceCalled
 notCalled t n buffer = record { table = t; answer = answerFor (refused n); taken = 0; buffer = buffer }
 
@@ -118,6 +126,7 @@ abbrev pub runTaken : Reader → RunCall → ℕ
 runTaken r (run w buffer) = runOf r w (length buffer) .taken
 runTaken r (one c) = 0
 
+-- a call of a place's reader, where the place is held; else 34
 abbrev pub callHeld : Option Reader → ReaderTable → ℕ → ℕ → RunCall → PlaceCalled
 callHeld none t who i c = notCalled t placeNotHeld (lentTo c)
 callHeld (some r) t who i c =
@@ -128,14 +137,17 @@ callHeld (some r) t who i c =
       buffer = runResult r c .buffer;
     }
 
+-- a call of a place: 32, 34, or as its reader answers
 unfoldable pub callPlaceOf : ReaderTable → ℕ → ℕ → RunCall → PlaceCalled
 callPlaceOf t who i c = cond (isTechnician who) (callHeld (heldBy t who i) t who i c) (notCalled t noSuchTechnician (lentTo c))
 
 -- Closing: 32, 34, or the place is free.
 
+-- a place that is held is freed; else 34
 abbrev pub closeHeld : Option Reader → ReaderTable → ℕ → PlaceCalled
 closeHeld none t i = notCalled t placeNotHeld []
 closeHeld (some r) t i = record { table = withPlace t i freePlace; answer = answerFor nothing; taken = 0; buffer = [] }
 
+-- a close: 32, 34, or done
 unfoldable pub closePlaceOf : ReaderTable → ℕ → ℕ → PlaceCalled
 closePlaceOf t who i = cond (isTechnician who) (closeHeld (heldBy t who i) t i) (notCalled t noSuchTechnician [])

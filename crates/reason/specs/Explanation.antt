@@ -51,6 +51,7 @@ codeAfter (some (x ∷ y ∷ w)) = Code (16 * x + y)
 unfoldable pub codeAt : List ℕ → Next
 codeAt u = codeAfter (strip opener u)
 
+-- another mark follows
 abbrev pub isCode : Next → Bool
 isCode Finish = false
 isCode (Code c) = true
@@ -96,6 +97,7 @@ nextReason c = cond (isEnd (readingOf c)) GoodLine (NoEndOfLine c)
 abbrev pub lineFromBody : Profile → Kind → List ℕ → ℕ → Reason
 lineFromBody p k t c = bodyReason (rules p k) (bytesIn (drop 6 t)) 0 (nextReason c)
 
+-- of a line of the right length: its number, then its body
 abbrev pub lineFromNumber : Profile → Kind → List ℕ → ℕ → Reason
 lineFromNumber p k t c = numberReason (pairAt t 2) (pairAt t 4) (lineFromBody p k t c)
 
@@ -140,12 +142,14 @@ endMarkReason p (LineOf k) g = gapReason p k g
 
 -- Any mark.
 
+-- by what the mark's code means
 abbrev pub meaningReason : Profile → LineKind → Meaning → List ℕ → Next → Reason
 meaningReason p before EndOfLine t next = endMarkReason p before (drop 2 t)
 meaningReason p before (Line k) t next = lineReason p k t next
 meaningReason p before ReservedEC t next = ReservedCode
 meaningReason p before ReservedF1 t next = ReservedCode
 
+-- by how the mark's code reads
 abbrev pub readingReason : Profile → LineKind → Reading → ℕ → List ℕ → Next → Reason
 readingReason p before (Says m r) c t next = meaningReason p before m t next
 readingReason p before Damaged c t next = DamagedCode c (failedSums c)
@@ -164,6 +168,7 @@ afterOpener w = drop 6 w
 abbrev pub textIn : List ℕ → List ℕ
 textIn u = take (nextMark u) u
 
+-- what follows a mark's text: the next mark's code, or the end
 abbrev pub nextIn : List ℕ → Next
 nextIn u = codeAt (drop (nextMark u) u)
 
@@ -182,6 +187,7 @@ runReason p k w =
     (cond (nibblesOnly w) (cond (beginsMark w) (firstReason p (kindNumbered k) (afterOpener w)) (Refused noMarkFirst)) (Refused notANibble))
     (Refused badKind)
 
+-- by the profile that the number names; 11 for none
 abbrev pub profileReason : Numbered → ℕ → List ℕ → Reason
 profileReason numbered.NoProfile k w = Refused badState
 profileReason (numbered.Profile p) k w = runReason p k w

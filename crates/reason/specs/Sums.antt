@@ -9,15 +9,19 @@ use Rattle.reason.specs.declared.FailedSums.{FailedSums}
 abbrev pub sumP0 : ℕ → ℕ
 sumP0 b = bit b 6 + bit b 5 + bit b 4 + bit b 0
 
+-- the parity sum of P1
 abbrev pub sumP1 : ℕ → ℕ
 sumP1 b = bit b 6 + bit b 5 + bit b 1
 
+-- the parity sum of P2
 abbrev pub sumP2 : ℕ → ℕ
 sumP2 b = bit b 6 + bit b 4 + bit b 2
 
+-- the parity sum of P3
 abbrev pub sumP3 : ℕ → ℕ
 sumP3 b = bit b 5 + bit b 4 + bit b 3
 
+-- a sum is odd
 abbrev pub isOdd : ℕ → Bool
 isOdd n = eqb (n % 2) 1
 

@@ -36,6 +36,7 @@ pub record ReasonCase : Type 0 where
 abbrev case : ℕ → ℕ → List ℕ → Reason → ReasonCase
 case p k w r = record { profile = p; kind = k; run = w; reason = r }
 
+-- each case is explained as it says
 unfoldable pub ExplanationsHold : List ReasonCase → Type 0
 ExplanationsHold [] = Unit {0}
 ExplanationsHold (c ∷ cs) = (explanation (c .profile) (c .kind) (c .run) ≡ c .reason) × ExplanationsHold cs
@@ -44,6 +45,7 @@ ExplanationsHold (c ∷ cs) = (explanation (c .profile) (c .kind) (c .run) ≡ c
 abbrev lineWith : ℕ → ℕ → ℕ → List ℕ → ℕ → List ℕ
 lineWith code a b body next = markOf code ++ (nibbles (a ∷ b ∷ body) ++ markOf next)
 
+-- cases of each reason
 unfoldable pub examples : List ReasonCase
 examples =
     -- refusals, in their order; 10 also behind the next mark's code; a mark's F are the last four

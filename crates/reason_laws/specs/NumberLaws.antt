@@ -43,10 +43,12 @@ pub data Evenly : List ℕ → Type 0 where
   even-none : Evenly []
   even-more : (h l : ℕ) {t : List ℕ} → Evenly t → Evenly (h ∷ l ∷ t)
 
+-- a list of an odd length
 pub data Oddly : List ℕ → Type 0 where
   odd-one : (n : ℕ) → Oddly (n ∷ [])
   odd-more : (h l : ℕ) {t : List ℕ} → Oddly t → Oddly (h ∷ l ∷ t)
 
+-- every list has one of the two
 pub data EvenOrOdd (t : List ℕ) : Type 0 where
   is-even : Evenly t → EvenOrOdd t
   is-odd : Oddly t → EvenOrOdd t

@@ -32,18 +32,21 @@ pub data Short : Type 0 where
   good-gap : Short
   refusal : ℕ → Short
 
+-- an outcome without its values
 abbrev pub inShort : Outcome → Short
 inShort nothing = no-answer
 inShort (line f body) = good-line
 inShort (gap g) = good-gap
 inShort (refused n) = refusal n
 
+-- a reason's number without its values
 abbrev pub withoutValues : Valued → Short
 withoutValues valued.good-line = good-line
 withoutValues valued.good-gap = good-gap
 withoutValues (valued.numbered n values) = refusal n
 withoutValues (valued.refused n) = refusal n
 
+-- a reason without its values
 abbrev pub shortOf : Reason → Short
 shortOf r = withoutValues (valued r)
 

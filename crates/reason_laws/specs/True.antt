@@ -46,9 +46,11 @@ pub record FirstBad (holds : ℕ → Bool) (n i : ℕ) : Type 0 where
 abbrev pub numberByteAt : List ℕ → ℕ → ℕ
 numberByteAt t i = pairAt t (2 + 2 * i)
 
+-- the byte at a place of a text's body
 abbrev pub bodyByteAt : List ℕ → ℕ → ℕ
 bodyByteAt t i = pairAt t (6 + 2 * i)
 
+-- a number byte of a text is good
 abbrev pub numberHolds : List ℕ → ℕ → Bool
 numberHolds t i = numberGood (numberByteAt t i)
 
@@ -68,6 +70,7 @@ gapLeast VV5300 = 4
 
 -- Codes.
 
+-- the sums that are told to fail are those that do
 pub record SumsFail (b : ℕ) (s : FailedSums) : Type 0 where
   pub first : s .p0 ≡ isOdd (sumP0 b)
   pub second : s .p1 ≡ isOdd (sumP1 b)
@@ -87,10 +90,12 @@ pub record LineLong (p : Profile) (code : ℕ) (text : List ℕ) (next : Next) (
   pub next-is : next ≡ Code c
   pub long : length text ≡ lineNibbles p
 
+-- a line of the right length with a good number
 pub record NumberGood (p : Profile) (code : ℕ) (text : List ℕ) (next : Next) (k : Kind) (c : ℕ) : Type 0 where
   pub so-far : LineLong p code text next k c
   pub number-good : HoldBelow (numberHolds text) 2
 
+-- and with a good body
 pub record BodyGood (p : Profile) (code : ℕ) (text : List ℕ) (next : Next) (k : Kind) (c : ℕ) : Type 0 where
   pub so-far : NumberGood p code text next k c
   pub body-good : HoldBelow (bodyHolds p k text) (bodyLength p)

@@ -30,6 +30,7 @@ nibblesBefore low = cond low 1 0
 abbrev pub runIn : Bool → List ℕ → List ℕ
 runIn low bytes = drop (nibblesBefore low) (nibbles (take mostBytes bytes))
 
+-- the reason of a mark's bytes
 abbrev pub reasonOfRun : Located → List ℕ → Reason
 reasonOfRun m bytes = explanation (profileNumber (m .profile)) (m .before) (runIn (m .low) bytes)
 
@@ -72,6 +73,7 @@ badPlace p (Refused number) = 0
 abbrev pub spacedHex : ℕ → List ℕ
 spacedHex b = space ∷ hexByte b
 
+-- bytes in hex, with a space before each
 abbrev pub hexes : List ℕ → List ℕ
 hexes [] = []
 hexes (b ∷ bs) = spacedHex b ++ hexes bs
@@ -97,6 +99,7 @@ aroundWords bytes low place =
 
 -- The line.
 
+-- the line on a mark: where it stands, its reason, and the bytes around the bad place
 unfoldable pub markLine : Located → List ℕ → List ℕ
 markLine m bytes =
     markWords (m .number) (m .place)

@@ -13,6 +13,7 @@ use Rattle.reason.specs.declared.FailedSums.{FailedSums}
 use Rattle.reason.specs.declared.Reason.{Reason}
 use Rattle.reason.specs.declared.Reason.the-variants.{GoodLine, GoodGap, DamagedCode, ReservedCode, UnfinishedLine, WrongLength, BadNumber, BadBody, NoEndOfLine, EndWithoutLine, BadGap, ShortGap, Refused}
 
+-- a line's kind in words
 abbrev pub kindInWords : Kind → List ℕ
 kindInWords BL = ascii "blank line (BL)"
 kindInWords BK = ascii "black line (BK)"
@@ -20,6 +21,7 @@ kindInWords VL = ascii "visible line (VL)"
 kindInWords SOF = ascii "start of frame (SOF)"
 kindInWords EOF = ascii "end of frame (EOF)"
 
+-- what a mark is called
 abbrev pub lineName : LineKind → List ℕ
 lineName NotLine = ascii "line"
 lineName (LineOf k) = kindInWords k
@@ -28,6 +30,7 @@ lineName (LineOf k) = kindInWords k
 unfoldable pub withLineName : List ℕ → ℕ → List ℕ
 withLineName words code = words ++ lineName (kindOf (readingOf code))
 
+-- a sum's name, where it fails
 unfoldable pub sumWord : Bool → List ℕ → List ℕ
 sumWord fails name = cond fails name []
 
@@ -35,9 +38,11 @@ sumWord fails name = cond fails name []
 unfoldable pub sumWords : FailedSums → List ℕ
 sumWords s = sumWord (s .p0) (ascii " P0") ++ (sumWord (s .p1) (ascii " P1") ++ (sumWord (s .p2) (ascii " P2") ++ sumWord (s .p3) (ascii " P3")))
 
+-- a damaged code, with the sums that fail
 unfoldable pub damagedWords : ℕ → FailedSums → List ℕ
 damagedWords code sums = ascii "refused 1: damaged code " ++ (hexByte code ++ (ascii ", its parity fails in" ++ sumWords sums))
 
+-- a reserved code
 unfoldable pub reservedWords : ℕ → List ℕ
 reservedWords code = ascii "refused 2: reserved code " ++ hexByte code
 
@@ -49,10 +54,12 @@ refusedNumber refusal = ascii "refused " ++ decimal refusal
 unfoldable pub longLineWords : ℕ → ℕ → List ℕ
 longLineWords refusal code = refusedNumber refusal ++ (withLineName (ascii ": ") code ++ ascii " of more than 1000 bytes: a signal that was lost?")
 
+-- a line that the end of the capture cuts off, or that goes on for long
 unfoldable pub unfinishedWords : Bool → ℕ → ℕ → List ℕ
 unfinishedWords cut refusal code =
     cond cut (longLineWords refusal code) (withLineName (ascii "refused 3: ") code ++ ascii ", cut off by the end of the capture")
 
+-- a line of the wrong length
 unfoldable pub lengthWords : ℕ → ℕ → ℕ → List ℕ
 lengthWords code found wanted =
     withLineName (ascii "refused 4: ") code
@@ -62,6 +69,7 @@ lengthWords code found wanted =
 unfoldable pub badByteWords : List ℕ → ℕ → ℕ → List ℕ → ℕ → List ℕ
 badByteWords words code place part byte = withLineName words code ++ (ascii ", byte " ++ (decimal place ++ (part ++ hexByte byte)))
 
+-- a line that is not ended
 unfoldable pub endWords : ℕ → ℕ → List ℕ
 endWords code next = withLineName (ascii "refused 7: ") code ++ (ascii ", not ended: the next mark has the code " ++ hexByte next)
 
@@ -77,6 +85,7 @@ answerWords refusal = cond (eqb refusal 0) (ascii "good ") (refusedNumber refusa
 unfoldable pub longGapWords : ℕ → List ℕ
 longGapWords refusal = answerWords refusal ++ ascii "end of line with a gap of more than 1000 bytes: a signal that was lost?"
 
+-- a good end of line
 unfoldable pub goodGapWords : Bool → ℕ → List ℕ
 goodGapWords cut refusal = cond cut (longGapWords refusal) (ascii "good end of line")
 

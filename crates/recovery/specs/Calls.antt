@@ -44,6 +44,7 @@ takes (answers.Line f) n w = n ∷ w
 takes (answers.Gap g) n w = n ∷ w
 takes (answers.Refused r) n w = cond (eqb r notANibble || eqb r noRoom) w (n ∷ w)
 
+-- the nibbles that a call takes, before others
 abbrev pub takenBy : Call → Answer → List ℕ → List ℕ
 takenBy (feed n buffer) a w = takes a n w
 takenBy done a w = w
@@ -138,6 +139,7 @@ pub record Collector (A : Type 0) : Type 0 where
   pub fed : Outcome → List A
   pub finished : Outcome → List A
 
+-- what is collected of a call's outcome
 abbrev pub collects : {A : Type 0} → Collector A → Call → Outcome → List A
 collects k (feed n buffer) o = k .fed o
 collects k done o = k .finished o

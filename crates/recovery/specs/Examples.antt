@@ -58,6 +58,7 @@ sample p k n = record { kind = k; number = n; body = map byteFor (rules p k); ga
 pub sample-writable : (p : Profile) (k : Kind) (n : ℕ) → n ≤ greatest → Writable p (sample p k n)
 sample-writable p k n h = record { number-small = h; body-fits = bytes-fit (rules p k); gap-fits = gap-fits p k; nulls-few = lit≤ tt }
 
+-- four lines of a sensor
 abbrev pub four : Profile → List Sent
 four p = sample p SOF 0 ∷ sample p BL 3 ∷ sample p VL 10 ∷ sample p EOF 302 ∷ []
 
@@ -68,14 +69,17 @@ four-writable p =
 
 -- The stretch: 100 nibbles within the second line, and three in their place.
 
+-- where the example's stretch begins
 abbrev pub from : Profile → ℕ
 from VV5404 = 1000
 from VV5300 = 500
 
+-- where it ends
 abbrev pub to : Profile → ℕ
 to VV5404 = 1100
 to VV5300 = 600
 
+-- what stands in its place
 abbrev pub new : List ℕ
 new = 15 ∷ 0 ∷ 8 ∷ []
 
@@ -130,6 +134,7 @@ all-taken p buffer h (and-nibble {n} {t = w} l g) s =
     ∙ step-taken p s n (onTaken (meaningCall p) (step p s n .state) (fedThenDone buffer w))
     ∙ ap {B = List ℕ} (λ v. n ∷ v) (all-taken p buffer h g (step p s n .state))
 
+-- the example's calls
 abbrev pub calls : Profile → List Call
 calls p = fedThenDone (replicate (bodyLength p) 0) (changed (four p) (from p) (to p) new)
 

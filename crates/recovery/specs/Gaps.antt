@@ -28,6 +28,7 @@ use Rattle.recovery.specs.Damage.{outcomes-take, outcomes-length}
 
 -- Gaps of a line as written.
 
+-- the clean code of an end of line
 abbrev pub endCode : ℕ
 endCode = cleanByte EndOfLine
 

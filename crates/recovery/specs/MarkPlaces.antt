@@ -25,6 +25,7 @@ abbrev pub notedFrom : Profile → State → List ℕ → List Noted → List �
 notedFrom p s all ms [] = ms
 notedFrom p s all ms (n ∷ w) = notedFrom p (step p s n .state) (n ∷ all) (noted all ms n (step p s n .outcome)) w
 
+-- the marks of nibbles, each with its places
 abbrev pub marksOf : Profile → List ℕ → List Noted
 marksOf p w = notedFrom p fresh [] [] w
 

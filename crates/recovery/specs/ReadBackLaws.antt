@@ -225,6 +225,7 @@ written-length p s g start end code =
 
 -- Both, from any state.
 
+-- a written line, with these two codes, is answered and leaves the state behind it
 pub record ComesBack (p : Profile) (s : Sent) (start end : ℕ) (r q : Repair) (x : State) : Type 0 where
   -- no line comes out of the start mark
   pub opens : Opens p x (markOf start) start

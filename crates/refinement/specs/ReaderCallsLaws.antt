@@ -76,6 +76,7 @@ feed-told r n buffer = legible-feed r n (length buffer) buffer
 
 -- The calls answer as the meaning's.
 
+-- a call of the reader and one of the meaning give the same
 pub record Alike (p : Profile) (g : CallResult Reader) (c : CallResult State) : Type 0 where
   pub follows : Follows p (g .reader) (c .reader)
   pub same-answer : g .answer ≡ c .answer

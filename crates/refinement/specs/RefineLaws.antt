@@ -350,6 +350,7 @@ finish-outcome {p} {r} {s} same =
 pub fresh-follows : (p : Profile) → Follows p (freshReader p) fresh
 fresh-follows p = record { same = fresh-same p; ok = fresh-ok p }
 
+-- a step of the reader and one of the meaning give the same
 pub record Steps (p : Profile) (f : Took) (g : Step) : Type 0 where
   pub follows : Follows p (f .reader) (g .state)
   pub outcome-same : f .outcome ≡ g .outcome

@@ -39,6 +39,7 @@ runTakes r (one c) later = takenBy c (readerCall r c .answer) later
 
 -- The whole list: each call gets the reader that the call before returned.
 
+-- the reader after calls, runs among them
 abbrev pub onRuns : Reader → List RunCall → Reader
 onRuns r [] = r
 onRuns r (c ∷ cs) = onRuns (runResult r c .reader) cs
@@ -53,6 +54,7 @@ abbrev pub runCollects : {A : Type 0} → Collector A → RunCall → Outcome �
 runCollects k (run w buffer) o = k .fed o
 runCollects k (one c) o = collects k c o
 
+-- what is collected of calls, runs among them
 abbrev pub runsCollected : {A : Type 0} → Collector A → Profile → Reader → List RunCall → List A
 runsCollected k p r [] = []
 runsCollected k p r (c ∷ cs) =
@@ -65,6 +67,7 @@ answerIn (line f body) = line f body ∷ []
 answerIn (gap g) = gap g ∷ []
 answerIn (refused n) = cond (eqb n noRoom) [] (refused n ∷ [])
 
+-- every answer is collected
 abbrev pub answerCollector : Collector Outcome
 answerCollector = record { fed = answerIn; finished = answerIn }
 
@@ -83,6 +86,7 @@ abbrev pub oneByOne : Reader → RunCall → List Call
 oneByOne r (run w buffer) = cond (starts r (length buffer)) (feeds buffer (take (suc (stopPlace r w)) w)) []
 oneByOne r (one c) = c ∷ []
 
+-- calls with each run taken apart
 abbrev pub allOneByOne : Reader → List RunCall → List Call
 allOneByOne r [] = []
 allOneByOne r (c ∷ cs) = oneByOne r c ++ allOneByOne (runResult r c .reader) cs

@@ -20,12 +20,14 @@ frameCounts f =
     ascii "frames: " ++ (decimal (f .tally .complete)
     ++ (ascii " complete, " ++ (decimal (f .tally .broken) ++ (ascii " broken, " ++ (decimal (f .cut) ++ ascii " cut off\n")))))
 
+-- the lines on frames, and on lines outside them
 unfoldable pub framesLines : Findings → List ℕ
 framesLines f =
     frameCounts f
     ++ (countLine (ascii "lines before the first frame: ") (f .outside .early) (ascii "\n")
     ++ countLine (ascii "lines outside frames: ") (f .outside .later) (ascii "\n"))
 
+-- the line on a lost signal
 abbrev pub lostLine : Bool → List ℕ
 lostLine lost = cond lost (ascii "signal lost: no mark in the last part of the capture\n") []
 
@@ -34,6 +36,7 @@ abbrev pub otherSensor : Profile → List ℕ
 otherSensor VV5404 = ascii "no line of a VV5404; for a VV5300 head put vv5300 after frames\n"
 otherSensor VV5300 = ascii "no line of a VV5300; for a VV5404 head put vv5404 after frames\n"
 
+-- the hint at the other sensor, where marks came
 abbrev pub byFirst : Profile → First → List ℕ
 byFirst p Unseen = []
 byFirst p InsideLine = otherSensor p
@@ -63,6 +66,7 @@ verdictLine CheckTheClip = ascii "CHECK THE CLIP\n"
 verdictLine NotGood = ascii "NOT GOOD\n"
 verdictLine NoSignal = ascii "NO SIGNAL\n"
 
+-- what to do, and the verdict
 abbrev pub verdictLines : Verdict → Bool → List ℕ
 verdictLines v ordered = adviceLine v ordered ++ verdictLine v
 

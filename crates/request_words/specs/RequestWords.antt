@@ -27,6 +27,7 @@ wantedIn w =
 unfoldable pub areFive : NumberWords → Bool
 areFive w = eqb (w .count) 5 && (isNumber (w .first) && isNumber (w .second))
 
+-- one number is typed
 unfoldable pub isOne : NumberWords → Bool
 isOne w = eqb (w .count) 1 && isNumber (w .first)
 
@@ -34,12 +35,14 @@ isOne w = eqb (w .count) 1 && isNumber (w .first)
 abbrev pub version : NumberWords → ℕ
 version w = upTo 65535 (w .first)
 
+-- a request of the other verbs
 unfoldable pub otherAsked : List ℕ → NumberWords → Asked
 otherAsked verb w =
     cond (same verb (ascii "messages")) (record { request = Messages (version w); understood = isOne w })
     (cond (same verb (ascii "list")) (record { request = ListAll; understood = eqb (w .count) 0 })
     (record { request = ListAll; understood = false }))
 
+-- the request of a verb and its numbers
 unfoldable pub askedIn : List ℕ → NumberWords → Asked
 askedIn verb w =
     cond (same verb (ascii "save")) (record { request = Save (wantedIn w); understood = areFive w })

@@ -18,6 +18,7 @@ pub record Ran : Type 0 where
   pub outcome : Outcome
   pub taken : ℕ
 
+-- what a run gives
 abbrev pub ran : Reader → Outcome → ℕ → Ran
 ran r o i = record { reader = r; outcome = o; taken = i }
 

@@ -23,6 +23,7 @@ settingLine s =
 unfoldable pub placeLine : SavedSetting → List ℕ
 placeLine s = cond (eqb (s .version) 0) [] (settingLine s)
 
+-- an unused place
 abbrev pub unused : SavedSetting
 unused = record { version = 0; fine = 0; coarse = 0; gain = 0; divisor = 0 }
 

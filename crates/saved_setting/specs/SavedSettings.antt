@@ -15,7 +15,7 @@ use Rattle.saved_setting.specs.declared.Held.{Held}
 use Rattle.saved_setting.specs.declared.Held.the-variants as held
 use Rattle.saved_setting.specs.declared.EightPlaces.{EightPlaces}
 
--- ---- what a call says
+-- What a call says.
 
 -- what it was asked for, or a refusal with its number
 pub data Reply (A : Type 0) : Type 0 where
@@ -32,12 +32,13 @@ abbrev pub heldReply : Held → Reply SavedSetting
 heldReply (held.Setting s) = yields s
 heldReply (held.Refused n) = refused n
 
--- ---- one setting
+-- One setting.
 
 -- gain code, divisor and frame rate
 unfoldable pub isAllowed : Wanted → Bool
 isAllowed w = cond (isGain (w .gain)) (cond (leb (w .divisor) divisorLimit) (cond (eqb (w .rate) rate25) true (eqb (w .rate) rate30)) false) false
 
+-- a number clipped at a limit
 unfoldable pub lesser : ℕ → ℕ → ℕ
 lesser n limit = cond (leb n limit) n limit
 
@@ -50,7 +51,7 @@ clipped w =
 unfoldable pub renumbered : SavedSetting → ℕ → SavedSetting
 renumbered s v = record { version = v; fine = s .fine; coarse = s .coarse; gain = s .gain; divisor = s .divisor }
 
--- ---- the list: used places come first, oldest first, with versions in unbroken sequence
+-- The list: used places come first, oldest first, with versions in unbroken sequence.
 
 -- version 0 marks an unused place
 abbrev pub isUnused : SavedSetting → Bool
@@ -60,19 +61,23 @@ isUnused s = eqb (s .version) 0
 unfoldable pub mayFollow : SavedSetting → SavedSetting → Bool
 mayFollow before after = cond (isUnused after) true (cond (isUnused before) false (eqb (before .version + 1) (after .version)))
 
+-- versions one after another, unused places last
 unfoldable pub versionsInOrder : List SavedSetting → Bool
 versionsInOrder [] = true
 versionsInOrder (s ∷ []) = true
 versionsInOrder (s ∷ t ∷ list) = mayFollow s t && versionsInOrder (t ∷ list)
 
+-- how many settings a list holds (02, A11)
 abbrev pub settingPlaces : ℕ
 settingPlaces = 8
 
+-- a list of saved settings; any other is 37
 abbrev pub isSavedList : List SavedSetting → Bool
 isSavedList list = eqb (length list) settingPlaces && versionsInOrder list
 
--- ---- versions
+-- Versions.
 
+-- the greatest version
 abbrev pub lastVersion : ℕ
 lastVersion = 65535
 
@@ -80,6 +85,7 @@ lastVersion = 65535
 unfoldable pub laterVersion : ℕ → ℕ → ℕ
 laterVersion v after = cond (eqb after 0) v after
 
+-- the newest version of a list, 0 of an empty one
 unfoldable pub newestVersion : List SavedSetting → ℕ
 newestVersion [] = 0
 newestVersion (s ∷ list) = laterVersion (s .version) (newestVersion list)
@@ -88,12 +94,14 @@ newestVersion (s ∷ list) = laterVersion (s .version) (newestVersion list)
 unfoldable pub heldHere : SavedSetting → ℕ → Reply SavedSetting → Reply SavedSetting
 heldHere s v rest = cond (eqb (s .version) v) (yields s) rest
 
+-- the setting of a version
 unfoldable pub lookUp : ℕ → List SavedSetting → Reply SavedSetting
 lookUp v [] = refused versionNotHeld
 lookUp v (s ∷ list) = heldHere s v (lookUp v list)
 
--- ---- a setting is put into the list: where all places are used the oldest is dropped
+-- A setting is put into the list: where all places are used the oldest is dropped.
 
+-- no place is unused
 unfoldable pub allUsed : List SavedSetting → Bool
 allUsed [] = true
 allUsed (s ∷ list) = cond (isUnused s) false (allUsed list)
@@ -103,15 +111,18 @@ unfoldable pub putIn : SavedSetting → List SavedSetting → List SavedSetting
 putIn s [] = s ∷ []
 putIn s (t ∷ list) = cond (isUnused t) (s ∷ list) (t ∷ putIn s list)
 
+-- a list with a setting saved: in the first unused place, or the oldest is dropped
 unfoldable pub savedInto : SavedSetting → List SavedSetting → List SavedSetting
 savedInto s list = putIn s (cond (allUsed list) (drop 1 list) list)
 
--- ---- what the calls say, and the list that they leave
+-- What the calls say, and the list that they leave.
 
+-- a reply, and the list as it is then
 pub record ListReply : Type 0 where
   pub reply : Reply ℕ
   pub list : List SavedSetting
 
+-- a refusal: the list stays
 abbrev pub keepingList : ℕ → List SavedSetting → ListReply
 keepingList n list = record { reply = refused n; list = list }
 
@@ -121,10 +132,12 @@ savedNext list s =
     cond (eqb (newestVersion list) lastVersion) (keepingList noVersionLeft list)
     (record { reply = yields (newestVersion list + 1); list = savedInto (renumbered s (newestVersion list + 1)) list })
 
+-- save: 37, 29, 31, or the new version
 unfoldable pub savedWanted : List SavedSetting → Wanted → ListReply
 savedWanted list w =
     cond (isSavedList list) (cond (isAllowed w) (savedNext list (clipped w)) (keepingList badSetting list)) (keepingList notSavedSettings list)
 
+-- find: 37, 30, or the setting
 unfoldable pub foundIn : List SavedSetting → ℕ → Reply SavedSetting
 foundIn list v = cond (isSavedList list) (cond (eqb v 0) (refused versionNotHeld) (lookUp v list)) (refused notSavedSettings)
 
@@ -133,10 +146,11 @@ abbrev pub savedFound : List SavedSetting → Reply SavedSetting → ListReply
 savedFound list (yields s) = savedNext list s
 savedFound list (refused n) = keepingList n list
 
+-- go back: 37, 30, 31, or the new version
 unfoldable pub savedAgain : List SavedSetting → ℕ → ListReply
 savedAgain list v = savedFound list (foundIn list v)
 
--- ---- contracts
+-- Contracts.
 
 -- the eight places as a list
 abbrev pub placesOf : EightPlaces → List SavedSetting

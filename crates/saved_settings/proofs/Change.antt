@@ -50,7 +50,8 @@ use Rattle.saved_setting.proofs.Saved.Laws as K′
 use Rattle.saved_setting.proofs.SavedPlaces as O
 use Rattle.saved_setting.proofs.SavedPlaces.Laws as O′
 
--- ---- the MIR
+-- The MIR.
+
 abbrev place-k : ℕ → ℕ → Body
 place-k l k = assign (place l []) (op2 offset (copy (place 1 (field 0 ∷ []))) (int w64 (k * 8)))
 
@@ -87,7 +88,7 @@ function key τ = record {
       (rvOpd (copy (place 3 (field 0 ∷ []))))) return)))))))))))))))))))));
 }
 
--- ---- positions: where the cell of local k stands in what is owned, at entry, while the list is open, and after it is closed again; and the
+-- Positions: where the cell of local k stands in what is owned, at entry, while the list is open, and after it is closed again; and the
 -- cell of place k of the list, while it is open
 abbrev local-at : ℕ → ℕ
 local-at k = 60 - 2 * k
@@ -101,7 +102,8 @@ closed-at k = 66 - 2 * k
 abbrev place-at : ℕ → ℕ
 place-at k = 7 - k
 
--- ---- facts on the values
+-- Facts on the values.
+
 pub refused-is : Is K.the-row (Refused 37) (EL.vals K.the-type K′.the-laws (Refused 37))
 refused-is = EL.owes K.the-type K′.the-laws (Refused 37) ((refl, lit< tt), tt)
 

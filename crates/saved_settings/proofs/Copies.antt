@@ -94,7 +94,8 @@ module _ {M : Type 1} {𝓤 : URA M} {H : Heap 𝓤} {A : Atoms 𝓤} {K : Type 
       → Step K W Γ (runs C Λ E rest q) Γ (runs C Λ E (seq (cond c a skip) rest) q)
   goes-on t p = step (λ s. first t $ branches t p (λ z. absurd z) (λ _. skips t $ record { prf = s .prf }))
 
--- ---- a list is eight settings, or it has another length
+-- A list is eight settings, or it has another length.
+
 pub by-length : {P : List SavedSetting → Type 1} → ((e : EightPlaces) → P (placesOf e)) → ((ys : List SavedSetting) → (length ys ≡ 8 → ⊥) → P ys)
     → (ys : List SavedSetting) → P ys
 by-length y n [] = n _ (λ l. omega (arith, l))
@@ -108,7 +109,8 @@ by-length y n (a ∷ b ∷ c ∷ d ∷ e ∷ f ∷ g ∷ []) = n _ (λ l. omega 
 by-length y n (a ∷ b ∷ c ∷ d ∷ e ∷ f ∷ g ∷ h ∷ []) = y (record { a = a; b = b; c = c; d = d; e = e; f = f; g = g; h = h })
 by-length y n (a ∷ b ∷ c ∷ d ∷ e ∷ f ∷ g ∷ h ∷ i ∷ t) = n _ (λ l. omega (arith, l))
 
--- ---- truth values
+-- Truth values.
+
 pub not-not : (t : Bool) → T (not (not t)) → T t
 not-not true z = tt
 not-not false z = absurd z

@@ -32,10 +32,12 @@ abbrev pub afterCalls : List SavedSetting → List SettingCall → List SavedSet
 afterCalls list [] = list
 afterCalls list (c ∷ calls) = afterCalls (calledOn list c .list) calls
 
+-- how many settings a reply has saved
 abbrev pub savesOf : Reply ℕ → ℕ
 savesOf (yields v) = 1
 savesOf (refused n) = 0
 
+-- how many settings calls save
 abbrev pub laterSaves : List SavedSetting → List SettingCall → ℕ
 laterSaves list [] = 0
 laterSaves list (c ∷ calls) = savesOf (calledOn list c .reply) + laterSaves (calledOn list c .list) calls

@@ -17,7 +17,7 @@ use Rattle.saved_settings_laws.specs.Histories.{usedOf, SettingCall, sav
 use Rattle.saved_settings_laws.specs.OrderLaws.{by-held, held-recent, isGiven}
 use Rattle.saved_settings_laws.specs.PutInLaws.{into}
 
--- ---- one call: it refuses, or it saves a setting under the next version
+-- One call: it refuses, or it saves a setting under the next version.
 
 -- a setting saved under the next version
 abbrev savedUnder : List SavedSetting → SavedSetting → ListReply
@@ -73,7 +73,7 @@ none-after-last list (c ∷ calls) e =
       omega (arith, one .1, rest .1, ap (λ (l : List SavedSetting). laterSaves l calls) (one .0)),
     )
 
--- ---- a call that saved
+-- A call that saved.
 
 -- what is found is found in a list in order
 found-saved : (list : List SavedSetting) (v : ℕ) (s : SavedSetting) → foundIn list v ≡ yields s → isSavedList list ≡ true
@@ -110,7 +110,7 @@ module _ (list : List SavedSetting) (v : ℕ) where
   did-wanted (goingBack u) s same =
       subst (λ (h : Reply SavedSetting). savedFound list h .reply ≡ yields v → Did list s v (savedFound list h)) (sym same) (did-next s (found-saved list u s same))
 
--- ---- what was saved is found
+-- What was saved is found.
 
 -- k later ones came since s was saved under v
 record SavedSince (v : ℕ) (s : SavedSetting) (k : ℕ) (list : List SavedSetting) : Type 0 where
@@ -160,7 +160,7 @@ module _ (v : ℕ) (s : SavedSetting) (some : v ≡ 0 → ⊥) where
       too-old : settingPlaces ≤ k → newestVersion list < v + length list → length list ≡ settingPlaces → newestVersion list ≡ v + k → ⊥
       too-old many recent long new = omega (arith, many, recent, long, new)
 
--- ---- what a call saved: a wanted setting clipped, an old one as it stood, under the version answered
+-- What a call saved: a wanted setting clipped, an old one as it stood, under the version answered.
 
 module _ (list : List SavedSetting) (c : SettingCall) (s : SavedSetting) (v : ℕ) (same : ToSave list c s) (answered : calledOn list c .reply ≡ yields v) where
   -- the oldest is dropped where all places are used, and nothing else

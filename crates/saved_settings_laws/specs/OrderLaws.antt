@@ -18,7 +18,7 @@ pub used-positive : (n : ℕ) → eqb n 0 ≡ false → 0 < n
 used-positive zero h = absurd (true≢false h)
 used-positive (suc n) h = omega arith
 
--- ---- one place after another
+-- One place after another.
 
 by-unused : (a b c : Bool) → cond a true (cond b false c) ≡ true → b ≡ true → a ≡ true
 by-unused true b c h u = refl
@@ -58,7 +58,7 @@ module _ (s : SavedSetting) where
   unfolding versionsInOrder
   order-head t list h = and-left (mayFollow s t) (versionsInOrder (t ∷ list)) h
 
--- ---- the newest version
+-- The newest version.
 
 pub later-used : (v n : ℕ) → (n ≡ 0 → ⊥) → laterVersion v n ≡ n
 unfolding laterVersion
@@ -134,7 +134,7 @@ newest-full s (t ∷ list) h full =
     let next = next-version s t (order-head s t list h) (both .0) in
     omega (arith, next, newest-full t list ordered (both .1), newest-on s t list ordered (both .0))
 
--- ---- what is held
+-- What is held.
 
 pub skipped : (s : SavedSetting) (v : ℕ) (rest : Reply SavedSetting) → (s .version ≡ v → ⊥) → heldHere s v rest ≡ rest
 unfolding heldHere

@@ -105,7 +105,7 @@ module _ (t : SavedSetting) (used : isUnused t ≡ false) where
       by-test (λ (l : List SavedSetting). lookUp (t .version) l ≡ yields t) (isUnused x) (λ none. here t (lookUp (t .version) list))
       (λ some. found-behind x list h some e)
 
--- ---- the oldest is dropped first where all places are used
+-- The oldest is dropped first where all places are used.
 
 -- what comes of a list into which t is saved
 pub record Into (t : SavedSetting) (list after : List SavedSetting) : Type 0 where

@@ -14,12 +14,13 @@ use Rattle.saved_text.specs.declared.Fields.{Fields}
 use Rattle.saved_text.specs.declared.Gathered.{Gathered}
 use Rattle.saved_text.specs.declared.Restored.{Restored}
 
--- ---- the numbers of a text
+-- The numbers of a text.
 
 -- the five numbers of a line, with the name of the one that is being read, and what is gathered of a text, by names that laws elsewhere can say
 abbrev pub LineFields : Type 0
 LineFields = Fields
 
+-- what is gathered of a text, under a name for laws elsewhere
 abbrev pub TextGathered : Type 0
 TextGathered = Gathered
 
@@ -79,14 +80,17 @@ withSettingLine g =
     (record { list = set (g .list) (g .count) (settingOfFields (g .fields)); count = g .count + 1; fields = noFields })
     (record { list = g .list; count = g .count; fields = noFields })
 
+-- after one character more
 unfoldable pub gatheredAfter : Gathered → ℕ → Gathered
 gatheredAfter g c =
     cond (eqb c newline) (withSettingLine g) (record { list = g .list; count = g .count; fields = fieldsAfter (g .fields) c })
 
+-- after a text
 abbrev pub gatheredOver : Gathered → List ℕ → Gathered
 gatheredOver g [] = g
 gatheredOver g (c ∷ text) = gatheredOver (gatheredAfter g c) text
 
+-- before a text
 abbrev pub nothingGathered : Gathered
 nothingGathered = record { list = replicate 8 unused; count = 0; fields = noFields }
 
@@ -94,8 +98,9 @@ nothingGathered = record { list = replicate 8 unused; count = 0; fields = noFiel
 unfoldable pub numbersOf : List ℕ → List SavedSetting
 numbersOf text = withSettingLine (gatheredOver nothingGathered text) .list
 
--- ---- read
+-- Read.
 
+-- what some editors put before a newline
 abbrev pub carriageReturn : ℕ
 carriageReturn = 0x0D
 
@@ -103,6 +108,7 @@ carriageReturn = 0x0D
 unfoldable pub coverOf : ℕ → ℕ
 coverOf c = cond (eqb c carriageReturn) 0 1
 
+-- a text that starts with a character
 abbrev pub startsBy : ℕ → List ℕ → Bool
 startsBy c [] = false
 startsBy c (d ∷ text) = eqb d c
@@ -126,5 +132,6 @@ isLike (c ∷ text) whole = mayStand c whole && isLike text (drop (coverOf c) wh
 unfoldable pub isSettingsText : List ℕ → Bool
 isSettingsText text = isLike text (settingsText (numbersOf text)) && isSavedList (numbersOf text)
 
+-- the list that a text holds, and whether it is such a text
 abbrev pub restored : List ℕ → Restored
 restored text = record { list = numbersOf text; valid = isSettingsText text }

@@ -15,7 +15,7 @@ use Rattle.saved_setting.specs.SavedSettings.{Reply, yields, refused, isSavedLi
 use Rattle.saved_text.specs.declared.Gathered.{Gathered}
 use Rattle.saved_text.specs.SettingsText.{gatheredAfter, gatheredOver, startsBy, coverOf, mayStand, atMostNewline, isLike}
 
--- ---- read
+-- Read.
 
 module _ (text : List ℕ) (i : ℕ) (h : i < length text) where
   pub gathered-step : (g : Gathered) → gatheredOver g (drop i text) ≡ gatheredOver (gatheredAfter g (getD text i 0)) (drop (i + 1) text)
@@ -50,7 +50,7 @@ module _ (other : List ℕ) (j : ℕ) where
       let behind : drop (suc j) other ≡ getD other (suc j) 0 ∷ drop (suc (suc j)) other = drop-cons other (suc j) 0 (omega (arith, h)) in
       ap atMostNewline (here ∙ ap (λ (t : List ℕ). getD other j 0 ∷ t) behind)
 
--- ---- ordered
+-- Ordered.
 
 -- what an answer for version 0 says of the list
 abbrev pub isNotHeld : Reply SavedSetting → Bool

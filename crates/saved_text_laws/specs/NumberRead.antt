@@ -24,7 +24,7 @@ pub over-append : (g : TextGathered) (s t : List ℕ) → gatheredOver g (s ++ t
 over-append g [] t = refl
 over-append g (c ∷ s) t = over-append (gatheredAfter g c) s t
 
--- ---- a number
+-- A number.
 
 digit-read : (g : TextGathered) (k : FieldName) (f : LineFields) (n d : ℕ) → d < 10 → 10 * n + d ≤ 65535
     → gatheredAfter (gatheredWith g (withNumber k f n)) (digit d) ≡ gatheredWith g (withNumber k f (10 * n + d))
@@ -72,7 +72,7 @@ module _ (g : TextGathered) (k : FieldName) (f : LineFields) where
       → gatheredOver h (field name n) ≡ gatheredWith g (withNumber k f n)
   field-read h name n l e = over-append h name (decimal n) ∙ ap (λ (x : TextGathered). gatheredOver x (decimal n)) e ∙ number-read n l
 
--- ---- a line
+-- A line.
 
 -- the numbers of a setting
 abbrev pub fieldsOf : SavedSetting → LineFields

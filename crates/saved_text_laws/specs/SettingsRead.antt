@@ -28,6 +28,7 @@ AllInFields (s ∷ list) = InFields s × AllInFields list
 unfoldable pub placeRestored : SavedSetting → SavedSetting
 placeRestored s = cond (isUnused s) unused s
 
+-- a list as its text gives it back
 abbrev pub listRestored : List SavedSetting → List SavedSetting
 listRestored list = map placeRestored list
 

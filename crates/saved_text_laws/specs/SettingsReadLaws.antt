@@ -23,7 +23,7 @@ use Rattle.saved_text_laws.specs.SettingsRead.{InFields, AllInFields, pl
 use Rattle.saved_text_laws.specs.FieldRanges.{numbers-in-fields}
 use Rattle.saved_text_laws.specs.NumberRead.{over-append, setting-back, line-read}
 
--- ---- a list as it is read back
+-- A list as it is read back.
 
 restored-unused : (s : SavedSetting) → isUnused s ≡ true → placeRestored s ≡ unused
 unfolding placeRestored
@@ -70,7 +70,7 @@ restored-whole (s ∷ list) z =
     let place : placeRestored s ≡ s = sides (isUnused s) (λ u. restored-unused s u ∙ sym (z .0 u)) (restored-used s) in
     rw (place, restored-whole list (z .1)) refl
 
--- ---- lines one after another, each gathered in its place
+-- Lines one after another, each gathered in its place.
 
 -- what is gathered once the settings of some places are, and some places are left
 abbrev gatheredAt : List SavedSetting → ℕ → TextGathered
@@ -126,7 +126,7 @@ places-gathered before (s ∷ list) long h r =
     rw (lines-first (length list) s list, front, here, restored-used s u, ← append-snoc before s (listRestored list))
     rest)
 
--- ---- characters that don't count
+-- Characters that don't count.
 
 return-kept : (g : TextGathered) (c : ℕ) → eqb c carriageReturn ≡ true → gatheredAfter g c ≡ g
 unfolding gatheredAfter fieldsAfter
@@ -161,7 +161,7 @@ like-gathered list (c ∷ text) (b ∷ whole) g h is =
     like-gathered list text whole (gatheredAfter g c) (and-right (eqb b c) (isLike text whole) both)
     (subst (λ (x : ℕ). IsGathered (gatheredOver (gatheredAfter g x) whole) list) same is))
 
--- ---- the characters of a list's text
+-- The characters of a list's text.
 
 -- no carriage return stands in it
 abbrev noReturns : List ℕ → Bool
@@ -205,7 +205,7 @@ returnless-lines (suc n) list =
     let s = getD list n unused in
     returnless-append (placeLines n list) (placeLine s) (returnless-lines n list) (by-place (λ (t : List ℕ). noReturns t ≡ true) s refl (returnless-line s))
 
--- ---- texts that are like it
+-- Texts that are like it.
 
 is-not : (b : Bool) → cond b false true ≡ true → b ≡ false
 is-not true h = absurd (true≢false (sym h))
@@ -239,7 +239,7 @@ returns-like (c ∷ text) h =
     by-test (λ (t : List ℕ). isLike t (c ∷ text) ≡ true) (eqb c newline)
     (λ e. return-like carriageReturn (c ∷ withReturns text) (c ∷ text) refl ∙ rest) (λ e. rest)
 
--- ---- read back
+-- Read back.
 
 -- the text of any list of saved settings, in any form that is like it
 module _ (list : List SavedSetting) (saved : isSavedList list ≡ true) (r : AllInFields list) where

@@ -32,16 +32,18 @@ placeOf s line = record { profile = s .profile; sensor = s .sensor; number = s .
 abbrev pub start : Profile → Script
 start p = record { profile = p; sensor = fresh; number = 1; length = 0 }
 
--- ---- a line
+-- A line.
 
 -- a line that fills the room is told as too long
 unfoldable pub lineText : Place → List ℕ
 lineText p =
     cond (leb (p .room) (length (p .kept))) (tooLongText (p .number) (p .room)) (textOf (p .profile) (p .sensor) (p .number) (p .kept))
 
+-- the line that ends here is refused
 unfoldable pub lineRefused : Place → Bool
 lineRefused p = cond (leb (p .room) (length (p .kept))) true (refusedOf (p .profile) (p .kept))
 
+-- the sensor after the line that ends here
 unfoldable pub lineSensor : Place → Sensor
 lineSensor p = cond (leb (p .room) (length (p .kept))) (p .sensor) (sensorOf (p .profile) (p .sensor) (p .kept))
 
@@ -49,7 +51,7 @@ lineSensor p = cond (leb (p .room) (length (p .kept))) (p .sensor) (sensorOf (p 
 unfoldable pub lineAfter : ℕ → ℕ
 lineAfter n = cond (ltb n 0xFFFFFFFFFFFFFFFF) (n + 1) n
 
--- ---- a character
+-- A character.
 
 -- the characters kept with one more, as far as there is room
 abbrev pub appended : ℕ → List ℕ → ℕ → List ℕ
@@ -60,13 +62,16 @@ unfoldable pub blankAfter : ℕ → List ℕ → List ℕ
 blankAfter room kept =
     cond (eqb (length kept) 0) kept (cond (eqb (getD kept (length kept - 1) 0) space) kept (appended room kept space))
 
+-- what is kept of a line with one character more
 unfoldable pub keptAfter : ℕ → List ℕ → ℕ → List ℕ
 keptAfter room kept c = cond (isBlank c) (blankAfter room kept) (appended room kept c)
 
+-- one character more of a line
 abbrev pub onLine : Place → ℕ → Place
 onLine p c =
     record { profile = p .profile; sensor = p .sensor; number = p .number; room = p .room; kept = keptAfter (p .room) (p .kept) c }
 
+-- the line ends
 abbrev pub nextLine : Place → Place
 nextLine p = record { profile = p .profile; sensor = lineSensor p; number = lineAfter (p .number); room = p .room; kept = [] }
 
@@ -74,13 +79,15 @@ nextLine p = record { profile = p .profile; sensor = lineSensor p; number = line
 unfoldable pub placeAfter : Place → ℕ → Place
 placeAfter p c = cond (eqb c newline) (nextLine p) (onLine p c)
 
+-- the text that a character brings: a line's, at its newline
 unfoldable pub textOn : Place → ℕ → List ℕ
 textOn p c = cond (eqb c newline) (lineText p) []
 
+-- a character ends a line that is refused
 unfoldable pub refusedOn : Place → ℕ → Bool
 refusedOn p c = cond (eqb c newline) (lineRefused p) false
 
--- ---- the whole
+-- The whole.
 
 -- a line's text, where refused lines are asked for (true) and it is one, or where the others are (false) and it is not
 abbrev pub textWhere : Bool → Bool → List ℕ → List ℕ
@@ -97,11 +104,12 @@ abbrev pub pieceText : Bool → Place → List ℕ → List ℕ
 pieceText asked p [] = []
 pieceText asked p (c ∷ piece) = textWhere asked (refusedOn p c) (textOn p c) ++ pieceText asked (placeAfter p c) piece
 
+-- after a piece of a script
 abbrev pub afterPiece : Place → List ℕ → Place
 afterPiece p [] = p
 afterPiece p (c ∷ piece) = afterPiece (placeAfter p c) piece
 
--- ---- calls
+-- Calls.
 
 -- the reply to a line
 abbrev pub RepliesLine : Place → List ℕ → List ℕ → Reply → Type 0
@@ -111,9 +119,11 @@ RepliesLine p = Replies (lineSensor p) (lineRefused p) (lineText p)
 abbrev pub Appends : ℕ → List ℕ → ℕ → List ℕ → ℕ → Type 0
 Appends c line n after r = AtFront (appended (length line) (take n line) c) r line after
 
+-- what a call with a blank leaves in the line buffer
 abbrev pub KeepsBlank : List ℕ → ℕ → List ℕ → ℕ → Type 0
 KeepsBlank line n after r = AtFront (blankAfter (length line) (take n line)) r line after
 
+-- what a call with any character leaves in the line buffer
 abbrev pub KeepsCharacter : ℕ → List ℕ → ℕ → List ℕ → ℕ → Type 0
 KeepsCharacter c line n after r = AtFront (keptAfter (length line) (take n line) c) r line after
 

@@ -21,5 +21,6 @@ abbrev pub bareLength : List ℕ → ℕ
 bareLength [] = 0
 bareLength (c ∷ line) = cond (eqb c hash) 0 (counted (isBlank c) (bareLength line))
 
+-- a line without its comment and the blanks before that
 abbrev pub bare : List ℕ → List ℕ
 bare line = take (bareLength line) line

@@ -19,8 +19,9 @@ use Rattle.two_wire_text.specs.Explained.{messageText, messageSensor}
 use Rattle.script_line.specs.declared.Reply.{Reply}
 use Rattle.script_line.specs.Bare.{bareLength, bare}
 
--- ---- why a line is refused: its number, and what it may be
+-- Why a line is refused: its number, and what it may be.
 
+-- a line by its number
 unfoldable pub lineHead : ℕ → List ℕ
 lineHead n = ascii "line " ++ (decimal n ++ ascii ": ")
 
@@ -28,20 +29,24 @@ lineHead n = ascii "line " ++ (decimal n ++ ascii ": ")
 unfoldable pub beyondText : ℕ → ℕ → ℕ → List ℕ → List ℕ
 beyondText n at limit line = lineHead n ++ (take at line ++ (ascii " takes 0 to " ++ (decimal limit ++ (newline ∷ []))))
 
+-- a gain code that there is not
 unfoldable pub noGainText : ℕ → List ℕ
 noGainText n = lineHead n ++ ascii "gain takes 0, 1, 3 or 7\n"
 
+-- no setting and no message
 abbrev pub unknownWords : Profile → List ℕ
 unknownWords VV5404 = ascii "no setting of the VV5404, and no message\n"
 unknownWords VV5300 = ascii "no setting of the VV5300, and no message\n"
 
+-- a line that is neither
 unfoldable pub unknownText : Profile → ℕ → List ℕ
 unknownText p n = lineHead n ++ unknownWords p
 
+-- a line that is too long
 unfoldable pub tooLongText : ℕ → ℕ → List ℕ
 tooLongText n room = lineHead n ++ (decimal room ++ ascii " characters or more\n")
 
--- ---- lines
+-- Lines.
 
 -- the text for a line, by the setting that it is, or as a message
 unfoldable pub textBy : Setting → Profile → Sensor → ℕ → List ℕ → List ℕ
@@ -71,13 +76,15 @@ sensorBy Unknown s line = cond (isMessage line) (messageSensor s line) s
 unfoldable pub textOf : Profile → Sensor → ℕ → List ℕ → List ℕ
 textOf p s n line = cond (eqb (bareLength line) 0) [] (textBy (settingOf p (bare line)) p s n (bare line))
 
+-- a line is refused
 unfoldable pub refusedOf : Profile → List ℕ → Bool
 refusedOf p line = cond (eqb (bareLength line) 0) false (refusedBy (settingOf p (bare line)) (bare line))
 
+-- the sensor after a line
 unfoldable pub sensorOf : Profile → Sensor → List ℕ → Sensor
 sensorOf p s line = cond (eqb (bareLength line) 0) s (sensorBy (settingOf p (bare line)) s (bare line))
 
--- ---- calls
+-- Calls.
 
 -- what a call replies: the state after a line, whether that is refused, and the text at the front of a buffer, as far as it has room
 pub record Replies (s : Sensor) (refused : Bool) (text before after : List ℕ) (r : Reply) : Type 0 where
@@ -89,5 +96,6 @@ pub record Replies (s : Sensor) (refused : Bool) (text before after : List ℕ) 
 abbrev pub RepliesBy : Setting → Profile → Sensor → ℕ → List ℕ → List ℕ → List ℕ → Reply → Type 0
 RepliesBy asked p s n line = Replies (sensorBy asked s line) (refusedBy asked line) (textBy asked p s n line)
 
+-- what a call with a line gives
 abbrev pub RepliesTo : Profile → Sensor → ℕ → List ℕ → List ℕ → List ℕ → Reply → Type 0
 RepliesTo p s n line = Replies (sensorOf p s line) (refusedOf p line) (textOf p s n line)

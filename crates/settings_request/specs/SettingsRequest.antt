@@ -18,7 +18,7 @@ use Rattle.settings_request.specs.declared.Request.the-variants.{Save, F
 use Rattle.settings_request.specs.declared.Response.{Response}
 use Rattle.settings_request.specs.declared.Served.{Served}
 
--- ---- on a list
+-- On a list.
 
 -- the list afterwards, what is said, and whether the list is another, or the request refused
 pub record RequestEffect : Type 0 where
@@ -31,6 +31,7 @@ pub record RequestEffect : Type 0 where
 abbrev pub telling : List SavedSetting → List ℕ → RequestEffect
 telling list text = record { list = list; text = text; changed = false; refused = false }
 
+-- a refused request: the list stays
 abbrev pub refusingRequest : List SavedSetting → ℕ → RequestEffect
 refusingRequest list n = record { list = list; text = refusedRequest n; changed = false; refused = true }
 
@@ -49,10 +50,12 @@ unfoldable pub lookingUp : List SavedSetting → Reply SavedSetting → RequestE
 lookingUp list (reply.yields s) = telling list (settingLine s)
 lookingUp list (reply.refused n) = refusingRequest list n
 
+-- the messages of a setting that is found, or its refusal
 unfoldable pub sending : List SavedSetting → Reply SavedSetting → RequestEffect
 sending list (reply.yields s) = telling list (writesOf s)
 sending list (reply.refused n) = refusingRequest list n
 
+-- a list in words
 unfoldable pub listedText : List SavedSetting → List ℕ
 listedText list = cond (isUnused (getD list 0 unused)) (ascii "nothing is saved yet\n") (settingsText list)
 
@@ -71,7 +74,7 @@ pub record Responds (e : RequestEffect) (before after : List ℕ) (r : Response)
   pub refuses : r .refused ≡ e .refused
   pub says : Puts before 0 (e .text) (r .said) after
 
--- ---- on a text
+-- On a text.
 
 -- the text of the list afterwards, what is said, and as above
 pub record Service : Type 0 where
@@ -80,6 +83,7 @@ pub record Service : Type 0 where
   pub changed : Bool
   pub refused : Bool
 
+-- what a request makes of the file, and what is said
 abbrev pub written : RequestEffect → Service
 written e = record { file = settingsText (e .list); text = e .text; changed = e .changed; refused = e .refused }
 
@@ -89,6 +93,7 @@ service q text =
     cond (isSettingsText text) (written (requestEffect q (numbersOf text)))
     (record { file = []; text = refusedRequest notSavedSettings; changed = false; refused = true })
 
+-- what a call gives: both buffers, and what was done
 pub record Serves (s : Service) (fileBefore fileAfter before after : List ℕ) (r : Served) : Type 0 where
   pub changes : r .changed ≡ s .changed
   pub refuses : r .refused ≡ s .refused

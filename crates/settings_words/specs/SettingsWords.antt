@@ -13,8 +13,9 @@ use Rattle.saved_setting.specs.declared.Wanted.{Wanted}
 use Rattle.setting_registers.specs.SettingRegisters.{settingPairs}
 use Rattle.saved_lines.specs.SavedLines.{field}
 
--- ---- what was clipped: `fine 400 is above 360 at 30 a second: 360 saved`
+-- What was clipped: `fine 400 is above 360 at 30 a second: 360 saved`.
 
+-- a fine exposure that was clipped
 unfoldable pub fineNote : Wanted → List ℕ
 fineNote w =
     cond (ltb (fineLimit (w .rate)) (w .fine))
@@ -23,16 +24,18 @@ fineNote w =
     ++ (field (ascii " at ") (w .rate) ++ (field (ascii " a second: ") (fineLimit (w .rate)) ++ ascii " saved\n"))))
     []
 
+-- a coarse exposure that was clipped
 unfoldable pub coarseNote : Wanted → List ℕ
 coarseNote w =
     cond (ltb coarseLimit (w .coarse))
     (field (ascii "coarse ") (w .coarse) ++ (field (ascii " is above ") coarseLimit ++ (field (ascii ": ") coarseLimit ++ ascii " saved\n")))
     []
 
+-- what was clipped
 abbrev pub notes : Wanted → List ℕ
 notes w = fineNote w ++ coarseNote w
 
--- ---- refusals
+-- Refusals.
 
 -- what a refusal means, to the line's end
 unfoldable pub settingsRefusal : ℕ → List ℕ
@@ -42,10 +45,11 @@ settingsRefusal n =
     (cond (eqb n noVersionLeft) (ascii ", no version number is left after 65535: start a new file\n")
     (ascii ", not a list of saved settings; the file is left as it is\n")))
 
+-- a refused request
 abbrev pub refusedRequest : ℕ → List ℕ
 refusedRequest n = field (ascii "REFUSED ") n ++ settingsRefusal n
 
--- ---- the messages of a setting
+-- The messages of a setting.
 
 -- of pairs of index and value, a line each
 abbrev pub messageLines : List ℕ → List ℕ

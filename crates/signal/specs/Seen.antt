@@ -25,6 +25,7 @@ abbrev pub signalled : Signal → List Answer → Signal
 signalled s [] = s
 signalled s (a ∷ w) = signalled (takeOf s a) w
 
+-- the signal of a whole capture
 abbrev pub captureSignal : List Answer → Answer → Signal
 captureSignal w last = closeOf (signalled freshSignal w) last
 
@@ -64,6 +65,7 @@ isBitNumbered i (Bit j) = eqb j i
 abbrev pub carried : Nibbles → List Nibbles
 carried n = cond (eqb (n .0) 0) [] (n ∷ [])
 
+-- the periods of good gaps, in order
 abbrev pub periods : List Answer → List Nibbles
 periods [] = []
 periods (Nothing ∷ w) = periods w
@@ -76,13 +78,16 @@ abbrev pub isRate : ℕ → Option ℕ → Bool
 isRate r none = false
 isRate r (some q) = eqb q r
 
+-- a period of this many frames a second
 abbrev pub isAt : ℕ → Nibbles → Bool
 isAt r n = isRate r (rateOf n)
 
+-- a rate without a name
 abbrev pub isUnnamed : Option ℕ → Bool
 isUnnamed none = true
 isUnnamed (some q) = false
 
+-- a period without a name
 abbrev pub isOther : Nibbles → Bool
 isOther n = isUnnamed (rateOf n)
 
@@ -97,6 +102,7 @@ leastOf [] = 0
 leastOf (n ∷ []) = n
 leastOf (n ∷ m ∷ ns) = min n (leastOf (m ∷ ns))
 
+-- the greatest of numbers
 abbrev pub greatestOf : List ℕ → ℕ
 greatestOf [] = 0
 greatestOf (n ∷ ns) = max n (greatestOf ns)

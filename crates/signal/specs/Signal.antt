@@ -44,6 +44,7 @@ isStart Other n = false
 abbrev pub refusals : ℕ
 refusals = 10
 
+-- how many bits a line code has
 abbrev pub codeWidth : ℕ
 codeWidth = 8
 
@@ -84,9 +85,11 @@ refusalSeen s n =
       spacing = s .spacing;
     }
 
+-- a signal with another first mark
 abbrev pub withFirst : Signal → First → Signal
 withFirst s f = record { first = f; lines = s .lines; refused = s .refused; repaired = s .repaired; spacing = s .spacing }
 
+-- an answer seen
 unfoldable pub takeOf : Signal → Answer → Signal
 takeOf s Nothing = s
 takeOf s (Line f) = lineSeen s f

@@ -20,11 +20,13 @@ numberedLine before number n after = cond (eqb n 0) [] (before ++ (decimal numbe
 unfoldable pub refusedCount : ℕ → ℕ → List ℕ → List ℕ
 refusedCount number n after = numberedLine (ascii "refused: ") number n after
 
+-- refused codes, by number
 unfoldable pub refusedCodes : List ℕ → List ℕ
 refusedCodes counts =
     refusedCount 1 (getD counts 1 0) (ascii ", damaged code\n")
     ++ refusedCount 2 (getD counts 2 0) (ascii ", reserved code\n")
 
+-- refused lines, by number
 unfoldable pub brokenLines : List ℕ → List ℕ
 brokenLines counts =
     refusedCount 3 (getD counts 3 0) (ascii ", unfinished line\n")
@@ -33,11 +35,13 @@ brokenLines counts =
     ++ (refusedCount 6 (getD counts 6 0) (ascii ", bad byte in the body\n")
     ++ refusedCount 7 (getD counts 7 0) (ascii ", no end of line\n"))))
 
+-- refused ends and gaps, by number
 unfoldable pub refusedEnds : List ℕ → List ℕ
 refusedEnds counts =
     refusedCount 8 (getD counts 8 0) (ascii ", end of line without a line\n")
     ++ refusedCount 9 (getD counts 9 0) (ascii ", bad gap\n")
 
+-- refused marks, a line for each number
 unfoldable pub refusedLines : List ℕ → List ℕ
 refusedLines counts = refusedCodes counts ++ (brokenLines counts ++ refusedEnds counts)
 
@@ -45,12 +49,15 @@ refusedLines counts = refusedCodes counts ++ (brokenLines counts ++ refusedEnds 
 unfoldable pub bitLine : ℕ → ℕ → List ℕ
 bitLine bit n = numberedLine (ascii "repaired: bit ") bit n (ascii "\n")
 
+-- repairs of bits 0 to 3
 unfoldable pub lowBits : List ℕ → List ℕ
 lowBits counts = bitLine 0 (getD counts 0 0) ++ (bitLine 1 (getD counts 1 0) ++ (bitLine 2 (getD counts 2 0) ++ bitLine 3 (getD counts 3 0)))
 
+-- repairs of bits 4 to 7
 unfoldable pub highBits : List ℕ → List ℕ
 highBits counts = bitLine 4 (getD counts 4 0) ++ (bitLine 5 (getD counts 5 0) ++ (bitLine 6 (getD counts 6 0) ++ bitLine 7 (getD counts 7 0)))
 
+-- repairs, a line for each bit
 unfoldable pub repairedLines : List ℕ → List ℕ
 repairedLines counts = lowBits counts ++ highBits counts
 
@@ -58,15 +65,19 @@ repairedLines counts = lowBits counts ++ highBits counts
 abbrev pub rangeWords : Spacing → List ℕ
 rangeWords s = decimal (s .least) ++ (ascii " to " ++ (decimal (s .greatest) ++ ascii " nibbles\n"))
 
+-- periods without a name
 abbrev pub othersLine : Spacing → List ℕ
 othersLine s = cond (eqb (s .others) 0) [] (ascii "other periods: " ++ (decimal (s .others) ++ (ascii ", " ++ rangeWords s)))
 
+-- one line, or several
 abbrev pub linesNoun : ℕ → List ℕ
 linesNoun n = cond (eqb n 1) (ascii " line") (ascii " lines")
 
+-- lines at a rate
 unfoldable pub periodLine : ℕ → List ℕ → List ℕ
 periodLine n rate = countLine (ascii "period: ") n (linesNoun n ++ rate)
 
+-- the periods of lines
 unfoldable pub periodLines : Spacing → List ℕ
 periodLines s =
     periodLine (s .thirty) (ascii " at 30 frames a second\n")

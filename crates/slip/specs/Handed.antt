@@ -38,6 +38,7 @@ use Rattle.recovery.specs.ReadBackLaws.{run-append, outcomes-append, marked, co
 abbrev pub handedBy : Outcome → List judged.Line
 handedBy o = handedLines (answerFor o)
 
+-- what nibbles hand to the judge
 abbrev pub linesHanded : Profile → State → List ℕ → List judged.Line
 linesHanded p x w = collected handedBy (outcomes p x w)
 

@@ -60,6 +60,7 @@ finished-handed {w} h true =
 
 -- The slipped stream: the other lines as sent, and broken lines in the stead of the one.
 
+-- a slipped stream hands over every other line, and broken ones in between
 pub record SlippedHanded (before after : List Sent) (w : List ℕ) : Type 0 where
   pub more : ℕ
   pub all : HandsToRest fresh w (map judgedLine before ++ ((brokenOne ∷ replicate more brokenOne) ++ map judgedLine after))

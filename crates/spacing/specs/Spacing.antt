@@ -16,15 +16,19 @@ noPeriods = record { thirty = 0; twentyfive = 0; others = 0; least = 0; greatest
 unfoldable pub lesser : ℕ → ℕ → ℕ
 lesser least n = cond (eqb least 0) n (cond (ltb n least) n least)
 
+-- the greater of two periods
 unfoldable pub greater : ℕ → ℕ → ℕ
 greater greatest n = cond (ltb greatest n) n greatest
 
+-- one period of 30 frames a second more
 abbrev pub thirtyMore : Spacing → Spacing
 thirtyMore s = record { thirty = oneMore (s .thirty); twentyfive = s .twentyfive; others = s .others; least = s .least; greatest = s .greatest }
 
+-- one period of 25 frames a second more
 abbrev pub twentyFiveMore : Spacing → Spacing
 twentyFiveMore s = record { thirty = s .thirty; twentyfive = oneMore (s .twentyfive); others = s .others; least = s .least; greatest = s .greatest }
 
+-- one period without a name more
 abbrev pub otherMore : Spacing → ℕ → Spacing
 otherMore s n =
     record {

@@ -71,6 +71,7 @@ isLine (line f body) = true
 isLine (gap g) = false
 isLine (refused n) = false
 
+-- an answer is a line
 abbrev pub isLineAnswer : Answer → Bool
 isLineAnswer answer.Nothing = false
 isLineAnswer (answer.Line f) = true
@@ -142,6 +143,7 @@ abbrev pub turned : List ℕ → List ℕ → List ℕ
 turned [] w = w
 turned (n ∷ t) w = turned t (n ∷ w)
 
+-- nothing but F
 abbrev pub allF : List ℕ → Bool
 allF [] = true
 allF (n ∷ w) = eqb n 15 && allF w
@@ -180,12 +182,14 @@ abbrev pub endsAt : Option ℕ → Bool
 endsAt none = false
 endsAt (some c) = isEnd (readingOf c)
 
+-- by what the code means
 abbrev pub byMeaning : Profile → Before → Meaning → Repair → List ℕ → Option ℕ → Outcome
 byMeaning p before EndOfLine r t next = gapAnswer p before (periodOf p before (length t) next) t
 byMeaning p before (Line k) r t next = lineAnswer p k r t next
 byMeaning p before ReservedEC r t next = refused reservedCode
 byMeaning p before ReservedF1 r t next = refused reservedCode
 
+-- by how the code reads
 abbrev pub byReading : Profile → Before → Reading → List ℕ → Option ℕ → Outcome
 byReading p before (Says m r) t next = byMeaning p before m r t next
 byReading p before Damaged t next = refused damagedCode

@@ -23,15 +23,18 @@ pub data Case : Type 0 where
   code : ℕ → Reading → Case
   answer : ℕ → ℕ → Case
 
+-- a starred case holds
 unfoldable pub Holds : Case → Type 0
 Holds (number n a b) = encodeOf n ≡ Bytes a b
 Holds (code b r) = readingOf b ≡ r
 Holds (answer b n) = (p : Profile) (before : Before) (t : List ℕ) (next : Option ℕ) → answerOf p before b t next ≡ refused n
 
+-- each case holds
 unfoldable pub AllHold : List Case → Type 0
 AllHold [] = Unit {0}
 AllHold (c ∷ cs) = Holds c × AllHold cs
 
+-- the starred cases of the papers
 unfoldable pub starred : List Case
 starred =
     number 0 0x01 0x01

@@ -31,6 +31,7 @@ pub data Completed : Type 0 where
   not-yet : Completed
   mark : ℕ → ℕ → List ℕ → Completed
 
+-- a mark, where its group is there
 abbrev pub markIf : ℕ → ℕ → Option (List ℕ) → Completed
 markIf x y none = not-yet
 markIf x y (some t) = mark x y t

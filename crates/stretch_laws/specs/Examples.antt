@@ -16,6 +16,7 @@ abbrev cut : Profile → ℕ
 cut VV5404 = 2500
 cut VV5300 = 1300
 
+-- a stream with two stretches replaced
 abbrev pub twoStretches : Profile → List Segment
 twoStretches p =
     let c : List ℕ = stream (four p) in

@@ -6,6 +6,7 @@ use lib.Dec.{eqb}
 use Rattle.text.specs.Text.{ascii, decimal}
 use Rattle.diff_summary.specs.declared.Summary.{Summary}
 
+-- a count behind its words
 unfoldable pub countText : List ℕ → ℕ → List ℕ
 countText words n = words ++ (decimal n ++ ascii "\n")
 
@@ -17,6 +18,7 @@ placesText s =
     ++ (countText (ascii "first of these lines: ") (s .least)
     ++ (countText (ascii "last of these lines: ") (s .last) ++ countText (ascii "greatest difference: ") (s .most))))
 
+-- the summary, a line for each count
 unfoldable pub summaryText : Summary → List ℕ
 summaryText s =
     countText (ascii "lines only in the first capture: ") (s .first)

@@ -30,9 +30,11 @@ pub record TableServed : Type 0 where
   pub table : ReaderTable
   pub told : TableReply
 
+-- an opening, served
 abbrev pub servedOpening : PlaceOpened → TableServed
 servedOpening a = record { table = a .table; told = openReply (a .placing) }
 
+-- a call of a place, served
 abbrev pub served : PlaceCalled → TableServed
 served a = record { table = a .table; told = callReply (a .answer) (a .taken) (a .buffer) }
 

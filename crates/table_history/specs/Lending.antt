@@ -88,6 +88,7 @@ abbrev pub LendsOwn : (ℕ → Bool) → Bool → Option ℕ → Type 0
 LendsOwn mine theirs none = Unit {0}
 LendsOwn mine theirs (some b) = mine b ≡ theirs
 
+-- a technician's calls lend the technician's own buffers alone
 abbrev pub OwnBuffers : (ℕ → Bool) → ℕ → List LendingCall → Type 0
 OwnBuffers mine who [] = Unit {0}
 OwnBuffers mine who (c ∷ h) = LendsOwn mine (eqb (c .who) who) (lends (c .request)) × OwnBuffers mine who h

@@ -30,6 +30,7 @@ callsBy i (toOpen n) later = later
 callsBy i (toRead j c) later = cond (eqb j i) (andOn c c later) later
 callsBy i (toClose j) later = cond (eqb j i) [] later
 
+-- one technician's calls of one place, up to its finish or close
 abbrev pub callsOf : ℕ → ℕ → List TableCall → List RunCall
 callsOf who i [] = []
 callsOf who i (c ∷ h) = cond (eqb (c .who) who) (callsBy i (c .request) (callsOf who i h)) (callsOf who i h)
@@ -40,6 +41,7 @@ toldBy i (toOpen n) x later = later
 toldBy i (toRead j c) x later = cond (eqb j i) (andOn c x later) later
 toldBy i (toClose j) x later = cond (eqb j i) [] later
 
+-- what they are told
 abbrev pub toldOf : ℕ → ℕ → ReaderTable → List TableCall → List TableReply
 toldOf who i t [] = []
 toldOf who i t (c ∷ h) =
@@ -53,11 +55,13 @@ readerTold r (c ∷ cs) = callReply (runResult r c .answer) (runTaken r c) (runR
 
 -- The nibbles that calls took, by what they were told.
 
+-- the nibbles that a call takes, by its reply
 abbrev pub nibblesBy : RunCall → TableReply → List ℕ → List ℕ
 nibblesBy (run w buffer) (callReply a n after) later = take n w ++ later
 nibblesBy (one c) (callReply a n after) later = takenBy c a later
 nibblesBy c (openReply o) later = later
 
+-- the nibbles that calls take, by their replies
 abbrev pub nibblesIn : List RunCall → List TableReply → List ℕ
 nibblesIn [] ts = []
 nibblesIn (c ∷ cs) [] = []
@@ -69,10 +73,12 @@ nibblesOf who i t h = nibblesIn (callsOf who i h) (toldOf who i t h)
 
 -- What is collected of calls, by what they were told.
 
+-- what is collected of a reply
 abbrev pub replyCollects : {A : Type 0} → Collector A → Profile → RunCall → TableReply → List A
 replyCollects k p c (openReply o) = []
 replyCollects k p c (callReply a n buffer) = runCollects k c (outcomeOf p a buffer)
 
+-- what is collected of replies
 abbrev pub toldCollected : {A : Type 0} → Collector A → Profile → List RunCall → List TableReply → List A
 toldCollected k p [] ts = []
 toldCollected k p (c ∷ cs) [] = []
@@ -92,6 +98,7 @@ endsBy i (toRead j (one (feed n buffer))) = false
 endsBy i (toRead j (one done)) = eqb j i
 endsBy i (toClose j) = eqb j i
 
+-- a finish or a close of the place is among calls
 abbrev pub endsIn : ℕ → ℕ → List TableCall → Bool
 endsIn who i [] = false
 endsIn who i (c ∷ h) = (eqb (c .who) who && endsBy i (c .request)) || endsIn who i h
@@ -100,9 +107,11 @@ endsIn who i (c ∷ h) = (eqb (c .who) who && endsBy i (c .request)) || endsIn w
 abbrev pub callsAfter : ℕ → ℕ → List TableCall → List TableCall → List RunCall
 callsAfter who i first rest = cond (endsIn who i first) [] (callsOf who i rest)
 
+-- what is told after earlier calls of the same opening
 abbrev pub toldAfter : ℕ → ℕ → ReaderTable → List TableCall → List TableCall → List TableReply
 toldAfter who i t first rest = cond (endsIn who i first) [] (toldOf who i (tableAfter t first) rest)
 
+-- what is collected after earlier calls of the same opening
 abbrev pub collectedAfter : {A : Type 0} → Collector A → Profile → ℕ → ℕ → ReaderTable → List TableCall → List TableCall → List A
 collectedAfter k p who i t first rest = toldCollected k p (callsAfter who i first rest) (toldAfter who i t first rest)
 

@@ -82,6 +82,7 @@ view-foreign who t j p f g e = λ k i. at i (eqb i j) refl k
 
 -- A place that is held.
 
+-- a reader is held
 abbrev pub isThere : Option Reader → Bool
 isThere none = false
 isThere (some r) = true

@@ -76,22 +76,27 @@ module _ (who : ℕ) (h : isTechnician who ≡ true) (other : ℕ) (f : eqb othe
 
 -- A technician's own calls: what they are told, and what they hold then, of what they hold.
 
+-- what a call of a place is told
 abbrev pub toldHeld : Option Reader → RunCall → TableReply
 toldHeld none c = callReply (answerFor (refused placeNotHeld)) 0 (lentTo c)
 toldHeld (some r) c = callReply (runResult r c .answer) (runTaken r c) (runResult r c .buffer)
 
+-- what one holds after a call of a place
 abbrev pub keptHeld : (ℕ → Option Reader) → ℕ → RunCall → Option Reader → ℕ → Option Reader
 keptHeld v i c none = v
 keptHeld v i c (some r) = but v i (some (runResult r c .reader))
 
+-- what a close is told
 abbrev pub toldClosed : Option Reader → TableReply
 toldClosed none = callReply (answerFor (refused placeNotHeld)) 0 []
 toldClosed (some r) = callReply (answerFor nothing) 0 []
 
+-- what one holds after a close
 abbrev pub keptClosed : (ℕ → Option Reader) → ℕ → Option Reader → ℕ → Option Reader
 keptClosed v i none = v
 keptClosed v i (some r) = but v i none
 
+-- what one holds after an opening
 abbrev pub keptOpened : (ℕ → Option Reader) → Numbered → Placing → ℕ → Option Reader
 keptOpened v (numbered.Profile p) (at-place i) = but v i (some (freshReader p))
 keptOpened v (numbered.Profile p) (not-placed k) = v
@@ -166,6 +171,7 @@ module _ (who : ℕ) (h : isTechnician who ≡ true) where
 
 -- A number that is no technician's: 32, and nothing changes.
 
+-- what a number that is no technician's is told
 abbrev pub strange : TableRequest → TableReply
 strange (toOpen n) = openReply (not-placed noSuchTechnician)
 strange (toRead i c) = callReply (answerFor (refused noSuchTechnician)) 0 (lentTo c)

@@ -20,6 +20,7 @@ abbrev pub tallied : Tally → List Answer → Tally
 tallied t [] = t
 tallied t (a ∷ w) = tallied (takeOf t a .tally) w
 
+-- the news of answers, in order
 abbrev pub newsOf : Tally → List Answer → List News
 newsOf t [] = []
 newsOf t (a ∷ w) = takeOf t a .news ∷ newsOf (takeOf t a .tally) w
@@ -35,6 +36,7 @@ withMark n (answer.Refused r) = oneMore n
 abbrev pub captureTally : Profile → List Answer → Answer → Tally
 captureTally p w last = closeOf (tallied (freshTally p) w) last .tally
 
+-- the news of a whole capture
 abbrev pub captureNews : Profile → List Answer → Answer → List News
 captureNews p w last = newsOf (freshTally p) w ++ (closeOf (tallied (freshTally p) w) last .news ∷ [])
 
@@ -45,6 +47,7 @@ saysComplete (Complete frame b mark) = true
 saysComplete (Broken frame mark refusal own) = false
 saysComplete (Cut frame) = false
 
+-- news of a broken frame
 abbrev pub saysBroken : News → Bool
 saysBroken Nothing = false
 saysBroken (Complete frame b mark) = false
@@ -58,10 +61,12 @@ pub record LineWithGap : Type 0 where
   pub facts : LineFacts
   pub gap : GapFacts
 
+-- lines as the judge sees them
 abbrev pub linesOf : List LineWithGap → List Line
 linesOf [] = []
 linesOf (l ∷ ls) = line (kindNumber (l .facts .kind)) (l .facts .number) ∷ linesOf ls
 
+-- the answers of lines, each with its gap
 abbrev pub withGaps : List LineWithGap → List Answer
 withGaps [] = []
 withGaps (l ∷ ls) = answer.Line (l .facts) ∷ answer.Gap (l .gap) ∷ withGaps ls

@@ -43,6 +43,7 @@ moved t before j =
 
 -- What the judge's ruling tells.
 
+-- no news
 abbrev pub quiet : Tally → Told
 quiet t = record { tally = t; news = Nothing }
 
@@ -67,9 +68,11 @@ brokenBy t j refusal own =
       news = Broken (t .frames) (t .marks) refusal own;
     }
 
+-- a refused line: news where it breaks a frame
 unfoldable pub refusedBy : Tally → Judge → ℕ → ℕ → Told
 refusedBy t j refusal own = cond (breaksFrame refusal) (brokenBy t j refusal own) (quiet (moved t (t .judge) j))
 
+-- by the judge's ruling
 abbrev pub told : Tally → ℕ → Judge → Ruling → Told
 told t own j ruling.Waiting = quiet (moved t (t .judge) j)
 told t own j ruling.Going = quiet (moved t (t .judge) j)
@@ -101,6 +104,7 @@ abbrev pub handing : Tally → Handed → ℕ → Told
 handing t hand.Nothing own = quiet t
 handing t (hand.Line k n) own = handed t k n own
 
+-- an answer counted
 unfoldable pub takeOf : Tally → Answer → Told
 takeOf t a = handing (markedBy t a) (handedOver a) (ownAnswer a)
 
@@ -111,6 +115,7 @@ abbrev pub cutWithin : Tally → Judge → Told
 cutWithin t Waiting = quiet t
 cutWithin t (Due place b) = record { tally = moved t (Due place b) Waiting; news = Cut (t .frames) }
 
+-- the end of a capture cuts an open frame off
 unfoldable pub cutOf : Tally → Told
 cutOf t = cutWithin t (t .judge)
 

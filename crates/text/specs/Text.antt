@@ -11,9 +11,11 @@ abbrev pub ascii : String → List ℕ
 ascii end = []
 ascii (c then s) = code c ∷ ascii s
 
+-- a space
 abbrev pub space : ℕ
 space = 0x20
 
+-- a newline
 abbrev pub newline : ℕ
 newline = 0x0A
 

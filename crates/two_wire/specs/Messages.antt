@@ -20,6 +20,7 @@ fresh = record { registers = replicate registerCount 0; index = 0; increment = f
 abbrev pub writeAddress : ℕ
 writeAddress = 32
 
+-- the first byte of a read
 abbrev pub readAddress : ℕ
 readAddress = 33
 
@@ -27,12 +28,15 @@ readAddress = 33
 abbrev pub incrementBit : ℕ
 incrementBit = 128
 
+-- the second byte: the index, with the bit of increment
 abbrev pub indexByte : Bool → ℕ → ℕ
 indexByte increment i = cond increment (incrementBit + i) i
 
+-- the index in a second byte
 abbrev pub indexIn : ℕ → ℕ
 indexIn second = second % incrementBit
 
+-- whether a second byte asks for increment
 abbrev pub incrementIn : ℕ → Bool
 incrementIn second = leb incrementBit second
 
@@ -105,7 +109,7 @@ abbrev pub messagesOn : List (List ℕ) → Acceptance → Acceptance
 messagesOn [] o = o
 messagesOn (m ∷ ms) o = messagesOn ms (onward o m)
 
--- ---- What a sensor sends
+-- What a sensor sends.
 
 -- the contents of registers from an index on, n bytes of them
 abbrev pub contents : Bool → ℕ → List ℕ → ℕ → List ℕ
@@ -121,7 +125,7 @@ readMessage s n =
 abbrev pub behind : Sensor → ℕ → ℕ
 behind s n = cond (s .increment) (s .index + n) (s .index)
 
--- ---- What it is sent
+-- What it is sent.
 
 -- a value to one register, without increment
 abbrev pub message : ℕ → ℕ → List ℕ

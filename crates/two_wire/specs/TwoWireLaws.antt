@@ -19,7 +19,7 @@ pub told : (t : Bool) {P : Type 0} → (t ≡ true → P) → (t ≡ false → P
 told true p q = p refl
 told false p q = q refl
 
--- ---- one register
+-- One register.
 
 module _ (registers : List ℕ) (i b : ℕ) where
   pub put-own : i < firstSettable → put registers i b ≡ registers
@@ -50,7 +50,7 @@ own-alike registers i b h =
     told (ltb i firstSettable) (λ t. simp t)
     (λ t. told (ltb lastIndex i) (λ u. simp (t, u)) (λ u. simp (t, u, eq-eqb _ _ (h (ltb-false i firstSettable t)))))
 
--- ---- what a message leaves
+-- What a message leaves.
 
 -- a state that is not answered 11, with as many registers as before
 abbrev pub Kept : ℕ → Acceptance → Type 0
@@ -97,7 +97,7 @@ pub message-keeps : (s : Sensor) (bytes : List ℕ) → Kept (length (s .registe
 unfolding messageOn
 message-keeps s bytes = kept-refuse _ _ _ _ (kept-laid s bytes)
 
--- ---- a read made of the state itself
+-- A read made of the state itself.
 
 contents-alike : (increment : Bool) (i : ℕ) (registers : List ℕ) (n : ℕ) → someDiffers increment i (contents increment i registers n) registers ≡ false
 contents-alike increment i registers zero = refl
@@ -133,7 +133,7 @@ state-read s n held l =
     let r = read-accepted s (contents (s .increment) (s .index) (s .registers) n) held (contents-alike (s .increment) (s .index) (s .registers) n) in
     simp e at (r (rw e l))
 
--- ---- what a message writes is read back
+-- What a message writes is read back.
 
 index-in : (increment : Bool) (i : ℕ) → i ≤ lastIndex → (incrementIn (indexByte increment i) ≡ increment) × (indexIn (indexByte increment i) ≡ i)
 index-in true i h = (le-leb incrementBit (incrementBit + i) (omega arith), omega arith)

@@ -26,6 +26,7 @@ longestMessage = 256
 unfoldable pub messageText : Sensor → List ℕ → List ℕ
 messageText s line = cond (leb longestMessage (length line / 3)) (refusedText noRoom) (acceptanceText (messageOn s (bytesOf line)) (bytesOf line))
 
+-- the sensor after a message's line
 unfoldable pub messageSensor : Sensor → List ℕ → Sensor
 messageSensor s line = cond (leb longestMessage (length line / 3)) s (sensorAfter (messageOn s (bytesOf line)) s)
 

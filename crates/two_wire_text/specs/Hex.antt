@@ -6,7 +6,7 @@ use lib.Dec.{eqb, leb, ltb}
 use lib.ListN.{length}
 use Rattle.text.specs.Text.{space, newline, hexByte}
 
--- ---- written
+-- Written.
 
 -- a message: its bytes, one space between two
 abbrev pub hexBytes : List ℕ → List ℕ
@@ -23,7 +23,7 @@ allBytes (b ∷ bytes) = ltb b 256 && allBytes bytes
 abbrev pub hexText : List ℕ → List ℕ
 hexText bytes = hexBytes bytes ++ (newline ∷ [])
 
--- ---- read
+-- Read.
 
 -- the number of a digit, 0 to 9, A to F or a to f; 16 where it is none
 unfoldable pub digitOf : ℕ → ℕ
@@ -36,6 +36,7 @@ digitOf c =
 unfoldable pub charFits : ℕ → ℕ → Bool
 charFits place c = cond (eqb (place % 3) 2) (eqb c space) (ltb (digitOf c) 16)
 
+-- each character fits its place
 abbrev pub charsFit : ℕ → List ℕ → Bool
 charsFit place [] = true
 charsFit place (c ∷ line) = charFits place c && charsFit (place + 1) line

@@ -13,7 +13,7 @@ use Rattle.bits.specs.Every.{and-left, and-right, each}
 use Rattle.text.specs.Text.{space, hexDigit}
 use Rattle.two_wire_text.specs.Hex.{hexBytes, allBytes, digitOf, charFits, charsFit, isMessage, byteOf, bytesOf}
 
--- ---- one character after another
+-- One character after another.
 
 module _ (line : List ℕ) (i : ℕ) (h : i < length line) where
   pub chars-step : charsFit i (drop i line) ≡ (charFits i (getD line i 0) && charsFit (i + 1) (drop (i + 1) line))
@@ -51,7 +51,7 @@ bytes-length (a ∷ []) = omega arith
 bytes-length (a ∷ b ∷ []) = omega arith
 bytes-length (a ∷ b ∷ c ∷ line) = omega (arith, bytes-length line)
 
--- ---- what is written is read
+-- What is written is read.
 
 byte-back : (b : ℕ) → b < 256 → byteOf (hexDigit (b / 16)) (hexDigit (b % 16)) ≡ b
 unfolding byteOf hexDigit digitOf

@@ -12,6 +12,7 @@ use Rattle.two_wire.specs.Messages.{writeAddress, indexIn}
 unfoldable pub directionWord : ℕ → List ℕ
 directionWord address = cond (eqb address writeAddress) (ascii "WRITE ") (ascii "READ ")
 
+-- the text of a message that is accepted
 unfoldable pub acceptedText : List ℕ → List ℕ
 acceptedText [] = []
 acceptedText (address ∷ []) = []
@@ -28,5 +29,6 @@ refusalWords n =
     (cond (eqb n wrongData) (ascii ", read data differs\n")
     (cond (eqb n pastLastRegister) (ascii ", past register 127\n") (ascii ", index above 127 held\n"))))))
 
+-- the text of one that is refused
 unfoldable pub refusedText : ℕ → List ℕ
 refusedText n = ascii "REFUSED " ++ (decimal n ++ refusalWords n)

@@ -39,7 +39,7 @@ writeOf pairs room =
     require (not (endsWithinPair pairs)) shortMessage
     (require (not (someIndexPast pairs)) pastLastRegister (fitted (joined (messages pairs)) room))
 
--- ---- Reading what was written
+-- Reading what was written.
 
 -- messages of three bytes, cut apart again
 abbrev pub inThrees : List ℕ → List (List ℕ)

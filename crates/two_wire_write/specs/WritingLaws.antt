@@ -31,7 +31,7 @@ messages-length [] = refl
 messages-length (i ∷ []) = refl
 messages-length (i ∷ v ∷ pairs) = omega (arith, messages-length pairs)
 
--- ---- what is written
+-- What is written.
 
 -- what is neither 24, 28 nor 12 is written
 pub writes : (pairs : List ℕ) (room : ℕ) → endsWithinPair pairs ≡ false → someIndexPast pairs ≡ false → length (joined (messages pairs)) ≤ room
@@ -56,7 +56,7 @@ in-threes [] = refl
 in-threes (i ∷ []) = refl
 in-threes (i ∷ v ∷ pairs) = ap (λ (ms : List (List ℕ)). message i v ∷ ms) (in-threes pairs)
 
--- ---- one pair after another
+-- One pair after another.
 
 whole : (pairs : List ℕ) → 0 < length pairs → endsWithinPair pairs ≡ false → 1 < length pairs
 whole [] h e = omega arith

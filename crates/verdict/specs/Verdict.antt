@@ -35,10 +35,12 @@ inOrder f lost =
 unfoldable pub byFrames : Findings → Bool → Verdict
 byFrames f lost = cond (eqb (f .tally .complete) 0) NotGood (cond (inOrder f lost) Good CheckTheClip)
 
+-- no mark, no signal
 abbrev pub byFirst : Verdict → First → Verdict
 byFirst v Unseen = NoSignal
 byFirst v InsideLine = v
 byFirst v Other = v
 
+-- the verdict on what was found
 unfoldable pub verdictOf : Findings → Bool → Verdict
 verdictOf f lost = byFirst (byFrames f lost) (f .signal .first)

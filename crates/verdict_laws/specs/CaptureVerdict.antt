@@ -31,9 +31,11 @@ abbrev pub found : Findings → List Answer → Findings
 found f [] = f
 found f (a ∷ w) = found (takeOf f a .findings) w
 
+-- what is found in a whole capture
 abbrev pub captureFindings : Profile → List Answer → Answer → Findings
 captureFindings p w last = closeOf (found (noFindings p) w) last .findings
 
+-- the verdict on a whole capture
 abbrev pub captureVerdict : Profile → List Answer → Answer → Bool → Verdict
 captureVerdict p w last lost = verdictOf (captureFindings p w last) lost
 
@@ -51,6 +53,7 @@ captureRulings p w last = rulings p Waiting (allHanded (w ++ cond (isUnfinished 
 abbrev pub frameComplete : Profile → List Answer → Answer → Bool
 frameComplete p w last = some isComplete (captureRulings p w last)
 
+-- a frame of the capture is broken
 abbrev pub frameBroken : Profile → List Answer → Answer → Bool
 frameBroken p w last = some isBreak (captureRulings p w last)
 
@@ -65,6 +68,7 @@ abbrev pub beforeFirst : List Line → List Line
 beforeFirst [] = []
 beforeFirst (l ∷ ls) = cond (isOpening l) [] (l ∷ beforeFirst ls)
 
+-- the lines from the first frame's start on
 abbrev pub fromFirst : List Line → List Line
 fromFirst [] = []
 fromFirst (l ∷ ls) = cond (isOpening l) (l ∷ ls) (fromFirst ls)
@@ -73,6 +77,7 @@ fromFirst (l ∷ ls) = cond (isOpening l) (l ∷ ls) (fromFirst ls)
 abbrev pub isWhole : Line → Bool
 isWhole l = not (eqb (l .kind) brokenKind)
 
+-- the lines that are not broken
 abbrev pub wholeLines : List Line → List Line
 wholeLines [] = []
 wholeLines (l ∷ ls) = cond (isWhole l) (l ∷ wholeLines ls) (wholeLines ls)
@@ -82,6 +87,7 @@ abbrev pub isWaiting : Judge → Bool
 isWaiting Waiting = true
 isWaiting (Due place b) = false
 
+-- a line stands outside frames
 abbrev pub someOutside : Profile → Judge → List Line → Bool
 someOutside p j [] = false
 someOutside p j (l ∷ ls) = isWhole l && (isWaiting j && isWaiting (called p j l .judge)) || someOutside p (called p j l .judge) ls

@@ -34,6 +34,7 @@ pub data FramesWithin (most : ℕ) : List (List Sent) → Type 0 where
 abbrev pub findingsOn : Profile → List ℕ → Findings
 findingsOn p w = captureFindings p (map answerFor (outcomes p fresh w)) (answerFor (finish p (run p fresh w) .outcome))
 
+-- the verdict on a capture's nibbles
 abbrev pub verdictOn : Profile → List ℕ → Verdict
 verdictOn p w =
     let x : State = run p fresh w in

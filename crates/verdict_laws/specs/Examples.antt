@@ -30,6 +30,7 @@ abbrev samplesFrom : Profile → ℕ → List Kind → List Sent
 samplesFrom p n [] = []
 samplesFrom p n (k ∷ ks) = sample p k n ∷ samplesFrom p (n + 1) ks
 
+-- a frame of sample lines
 abbrev pub sampleFrame : Profile → Borders → List Sent
 sampleFrame p b = samplesFrom p 0 (kindsOf (layout p b))
 

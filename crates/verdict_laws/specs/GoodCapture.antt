@@ -19,6 +19,7 @@ isGoing ruling.Going = true
 isGoing ruling.Complete = false
 isGoing (ruling.Refused refusal) = false
 
+-- each ruling is Going
 abbrev pub allGoing : List Ruling → Bool
 allGoing [] = true
 allGoing (v ∷ vs) = isGoing v && allGoing vs

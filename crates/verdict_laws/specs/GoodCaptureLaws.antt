@@ -163,6 +163,7 @@ ended-whole p cur l g v n = go (complete-frame p cur l v)
 
 -- All lines.
 
+-- a line that is broken
 abbrev pub isBroken : Line → Bool
 isBroken l = not (isWhole l)
 

@@ -119,6 +119,7 @@ inside p past (l ∷ ls) h =
 
 -- The last lines of a frame, none of them its first.
 
+-- the lines of a frame from some place to its end
 abbrev pub Tail : Profile → List Line → Type 0
 Tail p ls = (b : Borders) × (k : ℕ) × (laidFrom p b (suc k) ls ≡ true) × (k + length ls ≡ lastPlace p)
 
