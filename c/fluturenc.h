@@ -158,7 +158,7 @@ uint8_t fluturenc_sensor_message(uint8_t *sensor, size_t sensor_length, const ui
  * above 127, 12 too little room. */
 uint8_t fluturenc_messages(const uint8_t *pairs, size_t pairs_length, uint8_t *messages, size_t messages_length, size_t *written);
 
-/* ---- Two lists of lines compared: crate fluturenc_compare. */
+/* ---- Two lists of lines compared: crate fluturenc_lists. */
 
 /* A list is its profile 0 lines end to end, each the kind, the number in two bytes, high byte first, and the body of 356: 359 bytes. */
 #define FLUTURENC_LINE (3 + FLUTURENC_VV5404_BODY)

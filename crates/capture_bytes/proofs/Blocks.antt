@@ -23,7 +23,7 @@ use Rattle.mark_text.specs.declared.Kept.{Kept}
 use Rattle.mark_text.specs.MarkText.{bodyPlace, byteAt, strayAt, keptAt, bodyAt}
 use Rattle.mark_text.specs.MarkTextLaws.{gap-start-small}
 use Rattle.reader_head.specs.declared.Head.{Head}
-use Rattle.reader_head.specs.Head.{topPlace, groupNumber, isMark, slide, countStop, bump, leaveKept, leaveBody, shifted}
+use Rattle.reader_head.specs.Head.{topPlace, groupNumber, showsMark, slide, countStop, bump, leaveKept, leaveBody, shifted}
 use Rattle.reader.specs.Reader.{Took, takeHead, takeOutcome, taking, readerOf}
 use Rattle.run.specs.Run.{ran, onward, lentRunOf}
 use Rattle.run.specs.RunLaws.{onward-on}
@@ -170,12 +170,12 @@ leave-length h B = go (leb 8 (h .count))
     go false = refl
 
 module _ (s : List ℕ) (h : Head) (B : List ℕ) (at : ℕ) where
-  quietly : (n : ℕ) → isMark (slide (h .window) n) ≡ false
+  quietly : (n : ℕ) → showsMark (slide (h .window) n) ≡ false
       → taking (readerOf h B) n ≡ record { reader = readerOf (shifted h n) (leaveBody h B); outcome = nothing }
   unfolding takeHead takeOutcome
   quietly n e = simp e
 
-  pub nibble-on : at < length s → getD s at 0 < 16 → isMark (slide (h .window) (getD s at 0)) ≡ false
+  pub nibble-on : at < length s → getD s at 0 < 16 → showsMark (slide (h .window) (getD s at 0)) ≡ false
       → LeadsOn s h B at (shifted h (getD s at 0)) (leaveBody h B) (at + 1)
   nibble-on l low e =
       let q = quietly (getD s at 0) e in
@@ -273,12 +273,12 @@ module _ (p : Profile) (m : Mark) (t : Kept) (s : List ℕ) (low : (x : ℕ) →
       simp (le-leb 8 c (omega arith), window-top s low i) (kept-still p (c - 8) (getD s i 0) t (omega arith) e)
 
   -- one
-  one-on : (B : List ℕ) (c i c′ i′ at at′ : ℕ) {B′ : List ℕ} → 14 ≤ c → at ≡ i + 8 → at < length s → isMark (windowFrom s (i + 1)) ≡ false
+  one-on : (B : List ℕ) (c i c′ i′ at at′ : ℕ) {B′ : List ℕ} → 14 ≤ c → at ≡ i + 8 → at < length s → showsMark (windowFrom s (i + 1)) ≡ false
       → (t .stray ≡ true) ⊎ (getD s i 0 ≡ 15) → bump c ≡ c′ → i + 1 ≡ i′ → at + 1 ≡ at′ → leaveBody (showing c i) B ≡ B′
       → LeadsOn s (showing c i) B at (showing c′ i′) B′ at′
   one-on B c i c′ i′ at at′ {B′} l a u e k f g h b =
       let x = ap (λ (n : ℕ). slide (windowFrom s i) (getD s n 0)) a ∙ window-slide s low i in
-      let q = nibble-on s (showing c i) B at u (low at) (ap isMark x ∙ e) in
+      let q = nibble-on s (showing c i) B at u (low at) (ap showsMark x ∙ e) in
       subst (λ (n : ℕ). LeadsOn s (showing c i) B at (showing c′ i′) B′ n) h
       (subst (λ (n : ℕ). LeadsOn s (showing c i) B at (showing c′ n) B′ (at + 1)) g
       (subst (λ (n : ℕ). LeadsOn s (showing c i) B at (showing n (i + 1)) B′ (at + 1)) f
@@ -288,7 +288,7 @@ module _ (p : Profile) (m : Mark) (t : Kept) (s : List ℕ) (low : (x : ℕ) →
 
   -- past the body, where nothing is put into it
   past-on : (B : List ℕ) (k c i at : ℕ) → 726 ≤ c → c ≤ countStop → at ≡ i + 8 → at + k ≤ length s
-      → ((x : ℕ) → i < x → x ≤ i + k → isMark (windowFrom s x) ≡ false)
+      → ((x : ℕ) → i < x → x ≤ i + k → showsMark (windowFrom s x) ≡ false)
       → ((x : ℕ) → i ≤ x → x < i + k → (t .stray ≡ true) ⊎ (getD s x 0 ≡ 15))
       → LeadsOn s (showing c i) B at (showing (min countStop (c + k)) (i + k)) B (at + k)
   past-on B zero c i at l q a u e f =
@@ -315,7 +315,7 @@ module _ (p : Profile) (m : Mark) (t : Kept) (s : List ℕ) (low : (x : ℕ) →
       (ap (λ (n : ℕ). bodyAt n (getD s i 0) B) (let z : 15 + 2 * j - 8 ≡ 7 + 2 * j = omega arith in z))
 
   byte-on : (B : List ℕ) (j i c′ i′ at at′ : ℕ) → j < longest → longest ≤ length B → at ≡ i + 8 → at + 2 ≤ length s
-      → isMark (windowFrom s (i + 1)) ≡ false → isMark (windowFrom s (i + 1 + 1)) ≡ false
+      → showsMark (windowFrom s (i + 1)) ≡ false → showsMark (windowFrom s (i + 1 + 1)) ≡ false
       → (t .stray ≡ true) ⊎ (getD s i 0 ≡ 15) → (t .stray ≡ true) ⊎ (getD s (i + 1) 0 ≡ 15)
       → 14 + 2 * j + 2 ≡ c′ → i + 2 ≡ i′ → at + 2 ≡ at′
       → LeadsOn s (showing (14 + 2 * j) i) B at (showing c′ i′) (set B j (byteFrom s i)) at′
@@ -329,7 +329,7 @@ module _ (p : Profile) (m : Mark) (t : Kept) (s : List ℕ) (low : (x : ℕ) →
 
   -- many bytes
   body-on : (B : List ℕ) (n j i at : ℕ) → j + n ≤ longest → longest ≤ length B → at ≡ i + 8 → at + 2 * n ≤ length s
-      → ((x : ℕ) → i < x → x ≤ i + 2 * n → isMark (windowFrom s x) ≡ false)
+      → ((x : ℕ) → i < x → x ≤ i + 2 * n → showsMark (windowFrom s x) ≡ false)
       → ((x : ℕ) → i ≤ x → x < i + 2 * n → (t .stray ≡ true) ⊎ (getD s x 0 ≡ 15))
       → LeadsOn s (showing (14 + 2 * j) i) B at (showing (14 + 2 * (j + n)) (i + 2 * n)) (packedInto B j s i n) (at + 2 * n)
   body-on B zero j i at l k a u e f =
@@ -347,7 +347,7 @@ module _ (p : Profile) (m : Mark) (t : Kept) (s : List ℕ) (low : (x : ℕ) →
 
 -- of a reader that is quiet there
 module _ {h : Head} (bytes : List ℕ) {at n : ℕ} (known : (i : ℕ) → getD bytes i 0 < 256) (q : Quiet h (nibbles bytes) at n) (B : List ℕ) where
-  no-mark-on : (x : ℕ) → at - 8 < x → x ≤ at - 8 + 2 * n → isMark (windowFrom (nibbles bytes) x) ≡ false
+  no-mark-on : (x : ℕ) → at - 8 < x → x ≤ at - 8 + 2 * n → showsMark (windowFrom (nibbles bytes) x) ≡ false
   no-mark-on x l k = q .no-mark x (omega (arith, q .behind)) (omega (arith, q .behind))
 
   still-on : (x : ℕ) → at - 8 ≤ x → x < at - 8 + 2 * n → (h .kept .stray ≡ true) ⊎ (getD (nibbles bytes) x 0 ≡ 15)
@@ -445,8 +445,8 @@ module _ (bs : List ℕ) (known : (i : ℕ) → getD bs i 0 < 256) where
       (lt-or-ge (x % 2) 1)
 
   -- so where none begins there is none
-  none-there : (x q : ℕ) → q ≡ (x + 1) / 2 → Begun (getD bs q 0) (getD bs (q + 2) 0) → isMark (windowFrom (nibbles bs) x) ≡ false
-  unfolding isMark
+  none-there : (x q : ℕ) → q ≡ (x + 1) / 2 → Begun (getD bs q 0) (getD bs (q + 2) 0) → showsMark (windowFrom (nibbles bs) x) ≡ false
+  unfolding showsMark
   none-there x q e b =
       ne-eqb (windowFrom (nibbles bs) x / 256) groupNumber
       (λ (g : windowFrom (nibbles bs) x / 256 ≡ groupNumber).
@@ -454,8 +454,8 @@ module _ (bs : List ℕ) (known : (i : ℕ) → getD bs i 0 < 256) where
       ⊎-elim (λ (d : getD bs q 0 < 255). omega (arith, m .0)) (λ (d : 16 ≤ getD bs (q + 2) 0). omega (arith, m .1)) b)
 
   -- and none among F
-  none-null : (x : ℕ) → getD (nibbles bs) (x + 4) 0 ≡ 15 → isMark (windowFrom (nibbles bs) x) ≡ false
-  unfolding isMark
+  none-null : (x : ℕ) → getD (nibbles bs) (x + 4) 0 ≡ 15 → showsMark (windowFrom (nibbles bs) x) ≡ false
+  unfolding showsMark
   none-null x e =
       ne-eqb (windowFrom (nibbles bs) x / 256) groupNumber
       (λ (g : windowFrom (nibbles bs) x / 256 ≡ groupNumber). omega (arith, e, marked (nibbles bs) (nibble-small bs known) x g .3))
@@ -505,14 +505,14 @@ module _ (bs : List ℕ) (known : (i : ℕ) → getD bs i 0 < 256) where
 
 -- a nibble before them
 pub nibble-first : (bytes : List ℕ) → ((i : ℕ) → getD bytes i 0 < 256) → (h : Head) (B : List ℕ) (at x w : ℕ) {g : Head} {B′ : List ℕ} → at / 2 < length bytes
-    → x ≡ getD (nibbles bytes) at 0 → w ≡ slide (h .window) (x % 16) → isMark w ≡ false → g ≡ shifted h (x % 16) → B′ ≡ leaveBody h B
+    → x ≡ getD (nibbles bytes) at 0 → w ≡ slide (h .window) (x % 16) → showsMark w ≡ false → g ≡ shifted h (x % 16) → B′ ≡ leaveBody h B
     → LeadsOn (nibbles bytes) h B at g B′ (at + 1)
 nibble-first bytes known h B at x w {g} {B′} l e f m d b =
     let low = nibble-small bytes known at in
     let same : x % 16 ≡ getD (nibbles bytes) at 0 = omega (arith, e, low) in
     subst (λ (k : List ℕ). LeadsOn (nibbles bytes) h B at g k (at + 1)) (sym b)
     (subst (λ (k : Head). LeadsOn (nibbles bytes) h B at k (leaveBody h B) (at + 1)) (sym (d ∙ ap (shifted h) same))
-    (nibble-on (nibbles bytes) h B at (omega (arith, nibbles-length bytes)) low (ap (λ (n : ℕ). isMark (slide (h .window) n)) (sym same) ∙ ap isMark (sym f) ∙ m)))
+    (nibble-on (nibbles bytes) h B at (omega (arith, nibbles-length bytes)) low (ap (λ (n : ℕ). showsMark (slide (h .window) n)) (sym same) ∙ ap showsMark (sym f) ∙ m)))
 
 -- Skipping.
 

@@ -7,7 +7,7 @@ use Prim.Native.Nat.{ℕ, zero, suc, _+_, _-_, _*_, _≤_, _<_}
 use lib.ListN.{length, getD, set, drop}
 use Rattle.stream.specs.Written.{nibbles}
 use Rattle.reader_head.specs.declared.Head.{Head}
-use Rattle.reader_head.specs.Head.{isMark}
+use Rattle.reader_head.specs.Head.{showsMark}
 use Rattle.reader.specs.Reader.{readerOf}
 use Rattle.run.specs.Run.{onward, lentRunOf}
 use Rattle.run_ahead.specs.declared.Reached.{Reached}
@@ -55,7 +55,7 @@ pub record Quiet (h : Head) (s : List ℕ) (at n : ℕ) : Type 0 where
   pub behind : 8 ≤ at
   pub up-to : at + 2 * n ≤ length s
   pub shown : h .window ≡ windowFrom s (at - 8)
-  pub no-mark : (x : ℕ) → at < x + 8 → x + 8 ≤ at + 2 * n → isMark (windowFrom s x) ≡ false
+  pub no-mark : (x : ℕ) → at < x + 8 → x + 8 ≤ at + 2 * n → showsMark (windowFrom s x) ≡ false
   pub still : (x : ℕ) → at ≤ x + 8 → x + 8 < at + 2 * n → (h .kept .stray ≡ true) ⊎ (getD s x 0 ≡ 15)
 
 -- a run from the place i on, and from the place i′ with what is read up to there, is the same; of the same mark, as sound, and within the nibbles

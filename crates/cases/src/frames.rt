@@ -3,9 +3,9 @@ use crate::text::end_line;
 use crate::text::say;
 use crate::text::say_number;
 use crate::text::say_refused;
-use frame::Judge;
-use frame::KnownBorders;
-use frame::Ruling;
+use frame_judge::Judge;
+use frame_judge::KnownBorders;
+use frame_judge::Ruling;
 use frame_layout::Borders;
 use profile::Profile;
 

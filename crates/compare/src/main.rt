@@ -90,7 +90,7 @@ fn compare_with(first: &[u8], capture: usize, output: usize) {
 // for none of them: it then answers only whether there are any.
 fn between(first: &[u8], second: &[u8], output: usize) {
     let mut none = [0u8; 1];
-    let filled = line_diff::compare(first, second, &mut none);
+    let filled = diff_lines::compare(first, second, &mut none);
     match filled {
         Filled::Length(_) => say(b"the two frames are equal\n"),
         Filled::Refused(why) => {
@@ -110,7 +110,7 @@ fn between(first: &[u8], second: &[u8], output: usize) {
 // Writes the summary.
 fn say_summary(summary: Summary) {
     let mut text = [0u8; TEXT];
-    let end = summary_words::put_summary(summary, &mut text, 0);
+    let end = diff_summary_words::put_summary(summary, &mut text, 0);
     if text.len() < end {
         return;
     }

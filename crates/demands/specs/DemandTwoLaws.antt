@@ -13,7 +13,7 @@ use Rattle.stream.specs.Answers.{Outcome, refused}
 use Rattle.stream.specs.Stream.{fresh}
 use Rattle.stream.specs.Written.{Sent, AllWritable, no-lines, and-line, markOf}
 use Rattle.writer.specs.Writer.{sent, writeOf}
-use Rattle.writer.specs.WriterTable.{LineAnswer, line, Answer, of-line}
+use Rattle.writer.specs.WriterTable.{LineAnswer, line, WriteAnswer, of-line}
 use Rattle.writer.specs.WriterLaws.{answer, sent-answer}
 use Rattle.recovery.specs.CleanAnswers.{said}
 use Rattle.recovery.specs.CallAnswers.{broughtBy}
@@ -56,9 +56,9 @@ demand-two p = record { lines-read = read-as p; two-flipped = two-flips }
 pub accepted : (profile kind number : ℕ) (body : List ℕ) (a b nulls room n : ℕ) (w : List ℕ)
     → writeOf profile kind number body a b nulls room ≡ used n w → Accepted profile kind number body a b nulls n w
 accepted profile kind number body a b nulls room n w e =
-    go (subst (Answer profile kind number body a b nulls room) e (answer profile kind number body a b nulls room))
+    go (subst (WriteAnswer profile kind number body a b nulls room) e (answer profile kind number body a b nulls room))
   where
-    go : {n : ℕ} {w : List ℕ} → Answer profile kind number body a b nulls room (used n w) → Accepted profile kind number body a b nulls n w
+    go : {n : ℕ} {w : List ℕ} → WriteAnswer profile kind number body a b nulls room (used n w) → Accepted profile kind number body a b nulls n w
     go {n} {w} (of-line p k ep ek t) =
         record {
           p = p;

@@ -6,11 +6,11 @@ use Prim.Native.Nat.{ℕ, zero, suc, _+_, _≤_}
 use lib.Dec.{eqb}
 use lib.ListN.{length, drop}
 use Rattle.text.specs.Put.{Puts}
-use Rattle.line_list.specs.Lines.{fullLines}
-use Rattle.difference.specs.Difference.{Difference, differences}
-use Rattle.difference.specs.Next.{nextNumber, nextDifferences, howFar}
-use Rattle.change.specs.Front.{changeOf}
-use Rattle.change_row.specs.ChangeRow.{changeRow}
+use Rattle.line_records.specs.Lines.{fullLines}
+use Rattle.diff_records.specs.Difference.{Difference, differences}
+use Rattle.diff_records.specs.Next.{nextNumber, nextDifferences, howFar}
+use Rattle.diff_change.specs.Front.{changeOf}
+use Rattle.diff_change_row.specs.ChangeRow.{changeRow}
 use Rattle.diff_rows.specs.declared.Piece.{Piece}
 
 -- a row for each difference

@@ -11,19 +11,19 @@ use lib.Seq.{getD-drop, drop-drop}
 use Rattle.text.specs.Text.{ascii, decimal}
 use Rattle.text.specs.TextLaws.{decimal-short}
 use Rattle.profile.specs.Profile.{width}
-use Rattle.line_list.specs.Lines.{FullLine, lineSize, noLine, frontLine, Next, none, some}
-use Rattle.line_list.specs.LinesLaws.{body-length, lentFrom, lent-from-is}
-use Rattle.difference.specs.Difference.{Difference, onlyFirst, onlySecond, bothKinds, bothBytes, unless, placesFrom, betweenLines, encodedAll}
-use Rattle.difference.specs.Next.{nextNumber, nextDifferences, unequal, different}
-use Rattle.difference.specs.DifferenceLaws.{first-size, second-size, between-size}
-use Rattle.difference.specs.NextLaws.{next-line, lesser-line, next-first, next-second, next-both, next-none, Stepped, stepped}
-use Rattle.difference.specs.ReadBack.{frontOf, frontSize, differencesIn}
-use Rattle.line_diff_laws.specs.Applied.{Each, done, also}
-use Rattle.line_diff_laws.specs.BytesLaws.{SizedIn, bytes-back, sized-between}
-use Rattle.line_diff_laws.specs.CompareLaws.{AllBytes}
-use Rattle.change.specs.Front.{changeOf}
-use Rattle.change.specs.FrontLaws.{differences-step}
-use Rattle.change_row.specs.ChangeRow.{changeRow, lineWord, kindWord, kindsWords, pairWords}
+use Rattle.line_records.specs.Lines.{FullLine, lineSize, noLine, frontLine, Next, none, some}
+use Rattle.line_records.specs.LinesLaws.{body-length, lentFrom, lent-from-is}
+use Rattle.diff_records.specs.Difference.{Difference, onlyFirst, onlySecond, bothKinds, bothBytes, unless, placesFrom, betweenLines, encodedAll}
+use Rattle.diff_records.specs.Next.{nextNumber, nextDifferences, unequal, different}
+use Rattle.diff_records.specs.DifferenceLaws.{first-size, second-size, between-size}
+use Rattle.diff_records.specs.NextLaws.{next-line, lesser-line, next-first, next-second, next-both, next-none, Stepped, stepped}
+use Rattle.diff_records.specs.ReadBack.{frontOf, frontSize, differencesIn}
+use Rattle.diff_lines_laws.specs.Applied.{Each, done, also}
+use Rattle.diff_lines_laws.specs.BytesLaws.{SizedIn, bytes-back, sized-between}
+use Rattle.diff_lines_laws.specs.CompareLaws.{AllBytes}
+use Rattle.diff_change.specs.Front.{changeOf}
+use Rattle.diff_change.specs.FrontLaws.{differences-step}
+use Rattle.diff_change_row.specs.ChangeRow.{changeRow, lineWord, kindWord, kindsWords, pairWords}
 use Rattle.diff_rows.specs.Rows.{rowsText, allRows, passed, pieces, rowsEndToEnd}
 
 rows-append : (ds es : List Difference) → rowsText (ds ++ es) ≡ rowsText ds ++ rowsText es

@@ -4,11 +4,11 @@ use mathlib.Core.List.{List, [], _∷_}
 use Prim.Native.Nat.{ℕ, _-_}
 use lib.Dec.{eqb, ltb}
 use Rattle.counts.specs.Counts.{oneMore}
-use Rattle.difference.specs.Difference.{Difference}
-use Rattle.change.specs.declared.Change.{Change}
-use Rattle.change.specs.declared.Change.the-variants.{First, Second, Kinds, Bytes}
+use Rattle.diff_records.specs.Difference.{Difference}
+use Rattle.diff_change.specs.declared.Change.{Change}
+use Rattle.diff_change.specs.declared.Change.the-variants.{First, Second, Kinds, Bytes}
 use Rattle.diff_summary.specs.declared.Summary.{Summary}
-use Rattle.change.specs.Front.{changeOf}
+use Rattle.diff_change.specs.Front.{changeOf}
 
 -- how far two bytes are apart
 unfoldable pub absoluteDifference : ℕ → ℕ → ℕ

@@ -8,13 +8,13 @@ use lib.Dec.{eqb}
 use lib.ListN.{length, getD, take, drop}
 use lib.Seq.{drop-cons, drop-drop}
 use Rattle.profile.specs.Profile.{width}
-use Rattle.line_list.specs.Lines.{headSize, frontLine, fullLines, Next}
-use Rattle.line_list.specs.LinesLaws.{lentFrom, lent-from-is}
-use Rattle.difference.specs.Difference.{Difference, bothKinds, bothBytes, unless, placesFrom, betweenLines, differences}
-use Rattle.difference.specs.Next.{nextDifferences, howFar}
-use Rattle.difference.specs.NextLaws.{Stepped, stepped}
+use Rattle.line_records.specs.Lines.{headSize, frontLine, fullLines, Next}
+use Rattle.line_records.specs.LinesLaws.{lentFrom, lent-from-is}
+use Rattle.diff_records.specs.Difference.{Difference, bothKinds, bothBytes, unless, placesFrom, betweenLines, differences}
+use Rattle.diff_records.specs.Next.{nextDifferences, howFar}
+use Rattle.diff_records.specs.NextLaws.{Stepped, stepped}
 use Rattle.diff_summary.specs.declared.Summary.{Summary}
-use Rattle.change.specs.Front.{changeOf}
+use Rattle.diff_change.specs.Front.{changeOf}
 use Rattle.diff_summary.specs.Summary.{withChange, withDifferences}
 
 counted-append : (s : Summary) (ds es : List Difference) → withDifferences s (ds ++ es) ≡ withDifferences (withDifferences s ds) es

@@ -1,21 +1,21 @@
 // A summary of the differences between two lists of lines (paper 02, A13).
 //
-// In: two lists (crate line_list). Out: how many lines one list only holds, how many numbers have two kinds, how many pixels differ, in how many
+// In: two lists (crate line_records). Out: how many lines one list only holds, how many numbers have two kinds, how many pixels differ, in how many
 // lines and by how much at most. Nothing is refused. Cost: linear.
 ghost use mathlib.Core.Path.{_≡_};
 ghost use mathlib.Core.List.{[]};
 ghost use Prim.Native.Nat.{_≤_};
 ghost use lib.Dec.{eqb};
 ghost use lib.ListN.{length};
-ghost use Rattle.line_list.specs.Lines.{lineSize, frontLine, fullLines};
-ghost use Rattle.difference.specs.Difference.{bothKinds, bothBytes, unless, placesFrom, betweenLines, differences};
-ghost use Rattle.difference.specs.Next.{nextDifferences};
+ghost use Rattle.line_records.specs.Lines.{lineSize, frontLine, fullLines};
+ghost use Rattle.diff_records.specs.Difference.{bothKinds, bothBytes, unless, placesFrom, betweenLines, differences};
+ghost use Rattle.diff_records.specs.Next.{nextDifferences};
 ghost use Rattle.diff_summary.specs.Summary.{absoluteDifference, greaterOf, fresh, withCounts, linesWith, leastWith, withPixel, withChange, withDifferences, summaryOf};
-use change::Change;
 use counts::one_more;
-use line_list::HEAD;
-use line_list::LINE;
-use line_list::NO_LINE;
+use diff_change::Change;
+use line_records::HEAD;
+use line_records::LINE;
+use line_records::NO_LINE;
 
 // The lines that the first and the second list only hold, and the numbers with two kinds; the pixels that differ, the lines they are in, the
 // first and the last of these, and the most that two of them differ by.
@@ -30,7 +30,7 @@ pub struct Summary {
     pub most: u8,
 }
 
-// The summary of all differences between two lists of lines (crate line_list), number after number.
+// The summary of all differences between two lists of lines (crate line_records), number after number.
 pub fn summed(first: &[u8], second: &[u8]) -> Summary
     ensures { λ r. ⌜ r ≡ summaryOf (differences (fullLines (now (first .entry))) (fullLines (now (second .entry)))) ⌝ }
 {
@@ -40,10 +40,10 @@ pub fn summed(first: &[u8], second: &[u8]) -> Summary
     loop {
         let a = &first[i..];
         let b = &second[j..];
-        let n = line_list::next_number(a);
-        let m = line_list::next_number(b);
-        let far = difference::how_far(n, m);
-        let other = difference::how_far(m, n);
+        let n = line_records::next_number(a);
+        let m = line_records::next_number(b);
+        let far = diff_records::how_far(n, m);
+        let other = diff_records::how_far(m, n);
         if far + other == 0 {
             return s;
         }
@@ -74,8 +74,8 @@ impl Summary {
     fn with_next(self, a: &[u8], b: &[u8]) -> Summary
         ensures { λ r. ⌜ r ≡ withDifferences self (nextDifferences (now (a .entry)) (now (b .entry))) ⌝ }
     {
-        let n = line_list::next_number(a);
-        let m = line_list::next_number(b);
+        let n = line_records::next_number(a);
+        let m = line_records::next_number(b);
         if n < m {
             return self.count(Change::First(n));
         }

@@ -14,7 +14,7 @@ use Rattle.stream.specs.declared.Mark.the-variants.{NoMark, Open}
 use Rattle.mark_text.specs.declared.Kept.{Kept}
 use Rattle.mark_text.specs.MarkText.{nothingKept}
 use Rattle.reader.specs.declared.Reader.{Reader}
-use Rattle.reader_head.specs.Head.{isMark, passes}
+use Rattle.reader_head.specs.Head.{showsMark, passes}
 use Rattle.explained.specs.Interchangeable.{headWith}
 use Rattle.explained.specs.Explained.{Explained}
 use Rattle.explained.specs.ExplainedLaws.{explained}
@@ -47,7 +47,7 @@ passing : (passes (headWith VV5404 NoMark 0 0 nothingKept) ≡ true)
     × (passes (headWith VV5300 openEnd 15 0xFFFFFFFF strayKept) ≡ true)
     × (passes (headWith VV5300 NoMark 3 0xFFF nothingKept) ≡ true)
     × (passes (headWith VV5404 handedEnd 2 0x80 nothingKept) ≡ true)
-unfolding passes isMark readingOf meaningOf kindNumbered reservedOf
+unfolding passes showsMark readingOf meaningOf kindNumbered reservedOf
 passing = (refl, refl, refl, refl, refl, refl, refl)
 
 -- a mark without its whole code; another code in the window; another half of it; a count past its stop; a mark complete and not taken; a
@@ -61,7 +61,7 @@ failing : (passes (headWith VV5404 openBL 1 0x9 nothingKept) ≡ false)
     × (passes (headWith VV5300 openEnd 14 0xFFFFFFFF strayKept) ≡ false)
     × (passes (headWith VV5300 NoMark 3 0x1000 nothingKept) ≡ false)
     × (passes (headWith VV5404 handedBL 2 0x9D nothingKept) ≡ false)
-unfolding passes isMark readingOf meaningOf kindNumbered reservedOf
+unfolding passes showsMark readingOf meaningOf kindNumbered reservedOf
 failing = (refl, refl, refl, refl, refl, refl, refl, refl)
 
 -- number bytes FF FF and a body that starts with 00: F F F F 0 0 within a text, where nibbles would have brought a mark
@@ -78,7 +78,7 @@ bytes-small zero = omega arith
 bytes-small (suc i) = fillers 355 i
 
 pub inner-mark : Explained innerMark
-unfolding passes isMark
+unfolding passes showsMark
 inner-mark =
     explained innerMark
     (record {

@@ -19,7 +19,7 @@ use Rattle.stream.specs.Nibbles.{AllNibbles}
 use Rattle.stream.specs.NibblesLaws.{all-nibbles-append}
 use Rattle.mark_text.specs.MarkText.{strayAt, keptAt}
 use Rattle.reader.specs.declared.Reader.{Reader}
-use Rattle.reader_head.specs.Head.{isMark, passes}
+use Rattle.reader_head.specs.Head.{showsMark, passes}
 use Rattle.reader.specs.Reader.{freshReader}
 use Rattle.recovery.specs.Calls.{Call, feed, done, CallResult, meaningCall}
 use Rattle.recovery.specs.Resync.{stateWith}
@@ -131,7 +131,7 @@ explained r typed e =
         text-small = all-nibbles-append (x .new-small) (base-small m (typed .code-byte))
 
         no-mark : detect text ≡ not-yet
-        no-mark = no-mark-yet text text-small (ap isMark (x .is-window) ∙ h .no-mark-there)
+        no-mark = no-mark-yet text text-small (ap showsMark (x .is-window) ∙ h .no-mark-there)
 
         q : Reachable p (stateWith m text)
         q = reachable p m (typed .code-byte) (h .handed-fits) (x .new-small) no-mark

@@ -21,7 +21,7 @@ use Rattle.mark_text.specs.MarkText.{nothingKept, keptAt, bodyAt}
 use Rattle.mark_answer.specs.KeptAnswer.{keptAnswer}
 use Rattle.reader_head.specs.declared.Head.{Head}
 use Rattle.reader.specs.declared.Reader.{Reader}
-use Rattle.reader_head.specs.Head.{topPlace, isMark, slide, bump, countStop, leaveKept, leaveBody, opened, shifted, flushed, passes}
+use Rattle.reader_head.specs.Head.{topPlace, showsMark, slide, bump, countStop, leaveKept, leaveBody, openedBy, shifted, flushed, passes}
 use Rattle.reader.specs.Reader.{Took, takeHead, takeOutcome, taking, freshReader, refusing, feedOf, finishOf}
 use Rattle.reader_laws.specs.Passing.{finished, Ok}
 use Rattle.reader_laws.specs.Passes.{fresh-ok, feed-ok, passes-test}
@@ -84,7 +84,7 @@ slide-small w n h = omega arith
 
 same-take : (p : Profile) {r r₂ : Reader} (n : ℕ) → n < 16 → Interchangeable p r r₂ → SameTook p (taking r n) (taking r₂ n)
 unfolding takeHead takeOutcome
-same-take p n g (differ-unused m c w s s₂ h f) = go (isMark (slide w n))
+same-take p n g (differ-unused m c w s s₂ h f) = go (showsMark (slide w n))
   where
     code : ℕ
     code = slide w n % 256
@@ -109,7 +109,7 @@ same-take p n g (differ-unused m c w s s₂ h f) = go (isMark (slide w n))
         record {
           reader =
               record {
-                head = cond b (opened (headWith p m c w (s .kept)) code (isLine (told s b))) (shifted (headWith p m c w (s .kept)) n);
+                head = cond b (openedBy (headWith p m c w (s .kept)) code (isLine (told s b))) (shifted (headWith p m c w (s .kept)) n);
                 body = leave p m c w s .body;
               };
           outcome = told s b;

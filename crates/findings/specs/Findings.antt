@@ -6,14 +6,14 @@ use Rattle.counts.specs.Counts.{oneMore}
 use Rattle.profile.specs.declared.Profile.{Profile}
 use Rattle.stream.specs.declared.Answer.{Answer}
 use Rattle.stream.specs.Answers.{isLineAnswer}
-use Rattle.signal.specs.Signal as signal
-use Rattle.frame.specs.declared.Judge.{Judge}
-use Rattle.frame.specs.declared.Judge.the-variants.{Waiting, Due}
-use Rattle.tally.specs.declared.Tally.{Tally}
-use Rattle.tally.specs.declared.News.{News}
-use Rattle.tally.specs.declared.News.the-variants.{Nothing, Complete, Broken, Cut}
-use Rattle.tally.specs.declared.Told.{Told}
-use Rattle.tally.specs.Tally as tally
+use Rattle.signal_tally.specs.Signal as signal
+use Rattle.frame_judge.specs.declared.Judge.{Judge}
+use Rattle.frame_judge.specs.declared.Judge.the-variants.{Waiting, Due}
+use Rattle.frame_tally.specs.declared.Tally.{Tally}
+use Rattle.frame_tally.specs.declared.News.{News}
+use Rattle.frame_tally.specs.declared.News.the-variants.{Nothing, Complete, Broken, Cut}
+use Rattle.frame_tally.specs.declared.Told.{Told}
+use Rattle.frame_tally.specs.Tally as tally
 use Rattle.findings.specs.declared.Outside.{Outside}
 use Rattle.findings.specs.declared.Findings.{Findings}
 use Rattle.findings.specs.declared.Found.{Found}

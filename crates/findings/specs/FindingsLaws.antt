@@ -2,11 +2,11 @@
 use mathlib.Core.Path.{_≡_, refl, ap}
 use mathlib.Core.Bool.{cond}
 use Rattle.stream.specs.declared.Answer.the-variants as answer
-use Rattle.signal.specs.Signal as signal
-use Rattle.frame.specs.declared.Judge.{Judge}
-use Rattle.frame.specs.declared.Judge.the-variants.{Waiting, Due}
-use Rattle.tally.specs.declared.News.the-variants.{Nothing}
-use Rattle.tally.specs.Tally as tally
+use Rattle.signal_tally.specs.Signal as signal
+use Rattle.frame_judge.specs.declared.Judge.{Judge}
+use Rattle.frame_judge.specs.declared.Judge.the-variants.{Waiting, Due}
+use Rattle.frame_tally.specs.declared.News.the-variants.{Nothing}
+use Rattle.frame_tally.specs.Tally as tally
 use Rattle.findings.specs.declared.Outside.{Outside}
 use Rattle.findings.specs.declared.Findings.{Findings}
 use Rattle.findings.specs.Findings.{isOutside, oneOutside, withLine, takeOf}

@@ -5,12 +5,12 @@
 ghost use mathlib.Core.Path.{_≡_};
 ghost use Rattle.findings.specs.Findings.{noFindings, isOutside, withLine, takeOf, withCut, closeOf};
 use counts::one_more;
-use frame::Judge;
+use frame_judge::Judge;
+use frame_tally::News;
+use frame_tally::Tally;
 use profile::Profile;
-use signal::Signal;
+use signal_tally::Signal;
 use stream::Answer;
-use tally::News;
-use tally::Tally;
 
 // The lines outside frames: before the first frame, and later.
 pub struct Outside {

@@ -15,7 +15,7 @@ use Rattle.reader.specs.declared.Reader.{Reader}
 use Rattle.reader_head.specs.Head.{passes}
 use Rattle.run.specs.Run.{Ran, ran, runOf, lentRunOf}
 use Rattle.run.specs.RunLaws.{none-taken}
-use Rattle.reader_state.specs.State.{headLength, stateLength, headBytes, stored, headIn, bodyIn, readerIn, tagged, holdsReader}
+use Rattle.exported_state.specs.State.{headLength, stateLength, headBytes, stored, headIn, bodyIn, readerIn, tagged, holdsReader}
 use Rattle.fluturenc.specs.Calls.{stateAfter, feedRan, feedCall}
 
 -- the run of a reader whose body is lent from the state

@@ -7,7 +7,7 @@ use lib.ListN.{length, take, drop, drop-of-length-le}
 use lib.Seq.{paste, take-length, take-append-seam, drop-append-add, drop-drop}
 use Rattle.profile.specs.Profile.{longest}
 use Rattle.reader.specs.declared.Reader.{Reader}
-use Rattle.reader_state.specs.State.{headLength, headBytes, stored}
+use Rattle.exported_state.specs.State.{headLength, headBytes, stored}
 
 pub paste-front : (s u : List ℕ) → paste s 0 u (length u) ≡ u ++ drop (length u) s
 paste-front s u = simp (take-length u, zero-add (length u))

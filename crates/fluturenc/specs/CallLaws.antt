@@ -9,7 +9,7 @@ use borrow.Author.Tests.{leb-true, eqb-true, lt-ltb, le-leb}
 use lib.Dec.{eqb, leb}
 use lib.ListN.{length, length-replicate}
 use Rattle.refusal.specs.Refusal.{notANibble, badState, noRoom}
-use Rattle.lent_call.specs.LentCall.{Called}
+use Rattle.exported_call.specs.LentCall.{Called}
 use Rattle.profile.specs.declared.Profile.{Profile}
 use Rattle.profile.specs.declared.Profile.the-variants.{VV5404, VV5300}
 use Rattle.profile.specs.Profile.{profileNumber, profileNumbered, bodyLength, longest}
@@ -23,13 +23,13 @@ use Rattle.run.specs.RunLaws.{none-taken}
 use Rattle.reader_laws.specs.Passes.{passes-test, Finishing, finish-state, finish-taken, finishing, fresh-ok, take-ok, finish-ok}
 use Rattle.reader_laws.specs.Passing.{Ok}
 use Rattle.reader_laws.specs.Bodies.{length-body}
-use Rattle.frame.specs.declared.Judge.{Judge}
-use Rattle.frame.specs.Frame.{judgeOf}
-use Rattle.frame.specs.Frame as frame
-use Rattle.call_numbers.specs.CallNumbers.{answerNumber, judgeNumber, rulingNumber}
-use Rattle.call_numbers.specs.CallNumbersLaws.{judge-small, judge-back}
-use Rattle.reader_state.specs.State.{stateLength, stored, holdsReader, readerIn}
-use Rattle.reader_state.specs.StateLaws.{reader-back, stored-length, stored-holds}
+use Rattle.frame_judge.specs.declared.Judge.{Judge}
+use Rattle.frame_judge.specs.Frame.{judgeOf}
+use Rattle.frame_judge.specs.Frame as frame
+use Rattle.exported_numbers.specs.CallNumbers.{answerNumber, judgeNumber, rulingNumber}
+use Rattle.exported_numbers.specs.CallNumbersLaws.{judge-small, judge-back}
+use Rattle.exported_state.specs.State.{stateLength, stored, holdsReader, readerIn}
+use Rattle.exported_state.specs.StateLaws.{reader-back, stored-length, stored-holds}
 use Rattle.fluturenc.specs.Calls.{FeedCalled, openCall, feedCall, feedRan, finishCall, judgeCall}
 
 -- Readers that calls reach: the code is a byte, the test passes, and the body has its length.

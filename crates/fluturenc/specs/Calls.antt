@@ -5,7 +5,7 @@ use Prim.Native.Nat.{ℕ}
 use lib.Dec.{eqb, leb, ltb}
 use lib.ListN.{length}
 use Rattle.refusal.specs.Refusal.{badState, noRoom}
-use Rattle.lent_call.specs.LentCall.{Called}
+use Rattle.exported_call.specs.LentCall.{Called}
 use Rattle.profile.specs.declared.Numbered.{Numbered}
 use Rattle.profile.specs.declared.Numbered.the-variants as numbered
 use Rattle.profile.specs.declared.Profile.the-variants.{VV5404}
@@ -13,9 +13,9 @@ use Rattle.profile.specs.Profile.{profileNumbered}
 use Rattle.stream.specs.Answers.{refused, answerFor, bufferAfter}
 use Rattle.reader.specs.Reader.{freshReader, finishOf}
 use Rattle.run.specs.Run.{Ran, ran, runOf}
-use Rattle.frame.specs.Frame.{judgeOf}
-use Rattle.call_numbers.specs.CallNumbers.{answerNumber, judgeNumber, judgeNumbered, rulingNumber}
-use Rattle.reader_state.specs.State.{stateLength, stored, holdsReader, readerIn}
+use Rattle.frame_judge.specs.Frame.{judgeOf}
+use Rattle.exported_numbers.specs.CallNumbers.{answerNumber, judgeNumber, judgeNumbered, rulingNumber}
+use Rattle.exported_state.specs.State.{stateLength, stored, holdsReader, readerIn}
 
 -- A call on a reader's state.
 

@@ -18,15 +18,15 @@
 // reader that passes its own test, then 12 if the line buffer is shorter than the body, also for no nibbles, and takes nothing; an input
 // above 15 stops it before that place with 10. Finish is refused 11. Refused calls change nothing, but that what stood before a 10 is taken.
 //
-// A state is moved and copied as bytes: crate reader_state has its layout. A judge is a number, 0 when fresh. For C: c/fluturenc.h.
+// A state is moved and copied as bytes: crate exported_state has its layout. A judge is a number, 0 when fresh. For C: c/fluturenc.h.
 ghost use mathlib.Core.Path.{_≡_};
 ghost use Prim.Native.Nat.{_+_, _≤_};
 ghost use mathlib.Core.List.{_++_};
 ghost use lib.ListN.{length, drop};
 ghost use lib.Seq.{paste};
 ghost use Rattle.writer.specs.Writer.{writeOf};
-ghost use Rattle.lent_call.specs.LentCall.{StateGives, WriteGives};
-ghost use Rattle.reader_state.specs.State.{headLength, stateLength, headBytes, readerIn, stored};
+ghost use Rattle.exported_call.specs.LentCall.{StateGives, WriteGives};
+ghost use Rattle.exported_state.specs.State.{headLength, stateLength, headBytes, readerIn, stored};
 ghost use Rattle.fluturenc.specs.Calls.{openCall, feedCall, finishCall, judgeCall};
 ghost use Rattle.fluturenc.specs.Gives.{FeedCallGives, JudgeGives};
 use profile::Numbered;
@@ -35,9 +35,9 @@ use reader::Reader;
 use reader_head::Head;
 
 // The bytes of a reader's state: its head's, and its body's.
-const STATE: usize = reader_state::LENGTH;
+const STATE: usize = exported_state::LENGTH;
 
-const HEAD: usize = reader_state::HEAD;
+const HEAD: usize = exported_state::HEAD;
 
 // The bytes of a reader's state.
 #[no_mangle]
@@ -78,8 +78,8 @@ pub extern "C" fn fluturenc_feed(
     if state.len() < STATE {
         return refusal::BAD_STATE as u64;
     }
-    if reader_state::is_tagged(state[0], state[1], state[13]) {
-        let h = reader_state::head_in(state);
+    if exported_state::is_tagged(state[0], state[1], state[13]) {
+        let h = exported_state::head_in(state);
         let t = run::run_lent(h, &mut state[HEAD..STATE], nibbles, line);
         let head = t.head;
         if 0 < t.taken {
@@ -87,7 +87,7 @@ pub extern "C" fn fluturenc_feed(
         }
         *taken = t.taken;
         let answer = t.answer;
-        return call_numbers::answer_number(answer);
+        return exported_numbers::answer_number(answer);
     }
     refusal::BAD_STATE as u64
 }
@@ -97,13 +97,13 @@ pub extern "C" fn fluturenc_feed(
 pub extern "C" fn fluturenc_finish(state: &mut [u8]) -> u64
     ensures { λ r. ⌜ StateGives (finishCall (now (state .entry))) r (now (state .exit)) ⌝ }
 {
-    if reader_state::holds_reader(state) {
+    if exported_state::holds_reader(state) {
         let r = reader_in(state);
         let f = r.finish();
         let next = f.reader;
         store(next, state);
         let answer = f.answer;
-        return call_numbers::answer_number(answer);
+        return exported_numbers::answer_number(answer);
     }
     refusal::BAD_STATE as u64
 }
@@ -124,7 +124,7 @@ pub extern "C" fn fluturenc_write(
     ensures { λ r. ⌜ WriteGives (writeOf profile kind number (now (body .entry)) first second nulls (length (now (nibbles .entry)))) r (now (written .exit)) (now (nibbles .entry)) (now (nibbles .exit)) ⌝ }
 {
     let w = writer::write(profile, kind, number, body, first, second, nulls, nibbles);
-    lent_call::number_written(w, written)
+    exported_call::number_written(w, written)
 }
 
 // Judges one line of a profile 0 frame, or a broken one. Refused, and then the judge stays as it was: 11, 13, 14, in this order.
@@ -133,13 +133,13 @@ pub extern "C" fn fluturenc_judge(judge: &mut u32, kind: u8, number: u16) -> u8
     ensures { λ r. ⌜ JudgeGives (judgeCall (now (judge .entry)) kind number) r (now (judge .exit)) ⌝ }
 {
     let n = *judge;
-    if n < call_numbers::JUDGES {
-        let j = call_numbers::judge_numbered(n);
+    if n < exported_numbers::JUDGES {
+        let j = exported_numbers::judge_numbered(n);
         let d = j.line(Profile::VV5404, kind, number);
         let next = d.judge;
-        *judge = call_numbers::judge_number(next);
+        *judge = exported_numbers::judge_number(next);
         let ruling = d.ruling;
-        return call_numbers::ruling_number(ruling);
+        return exported_numbers::ruling_number(ruling);
     }
     refusal::BAD_STATE
 }
@@ -150,7 +150,7 @@ fn reader_in(state: &[u8]) -> Reader
     requires { ⌜ stateLength ≤ length (now state) ⌝ }
     ensures { λ r. ⌜ r ≡ readerIn (now (state .entry)) ⌝ }
 {
-    let head = reader_state::head_in(state);
+    let head = exported_state::head_in(state);
     let mut body = [0; Profile::LONGEST];
     copy(&mut body, 0, &state[HEAD..STATE]);
     Reader { head, body }
@@ -171,7 +171,7 @@ fn store_head(h: Head, state: &mut [u8])
     requires { ⌜ headLength ≤ length (now state) ⌝ }
     ensures { λ _. ⌜ now (state .exit) ≡ headBytes h ++ drop headLength (now (state .entry)) ⌝ }
 {
-    let head = reader_state::head_bytes(h);
+    let head = exported_state::head_bytes(h);
     copy(state, 0, &head);
 }
 

@@ -9,7 +9,7 @@
 //   fluturenc_to_pixels(kind, body, pixels, written)   the pixels of a line whose head sends odd ones first: 23, 15, 12
 //   fluturenc_to_body(kind, pixels, body, written)     the body that such a head sends of these pixels: 23, 15, 12
 ghost use lib.ListN.{length};
-ghost use Rattle.lent_call.specs.LentCall.{WriteGives};
+ghost use Rattle.exported_call.specs.LentCall.{WriteGives};
 ghost use Rattle.picture_file.specs.PictureFile.{writeOf, readOf};
 ghost use Rattle.pixel_order.specs.PixelOrder.{reorderOf};
 ghost use Rattle.pixel_order.specs.declared.Way.the-variants.{ToPixels, ToBody};
@@ -20,7 +20,7 @@ pub extern "C" fn fluturenc_picture_write(rows: &[u8], file: &mut [u8], written:
     ensures { λ r. ⌜ WriteGives (writeOf (now (rows .entry)) (length (now (file .entry)))) r (now (written .exit)) (now (file .entry)) (now (file .exit)) ⌝ }
 {
     let filled = pgm::write(rows, file);
-    lent_call::number_written(filled, written)
+    exported_call::number_written(filled, written)
 }
 
 // The rows of this file. Refused: 20 header, 21 length of the file, 22 pixel not 01 to FE, 12 room, in this order.
@@ -29,7 +29,7 @@ pub extern "C" fn fluturenc_picture_read(file: &[u8], rows: &mut [u8], written: 
     ensures { λ r. ⌜ WriteGives (readOf (now (file .entry)) (length (now (rows .entry)))) r (now (written .exit)) (now (rows .entry)) (now (rows .exit)) ⌝ }
 {
     let filled = pgm::read(file, rows);
-    lent_call::number_written(filled, written)
+    exported_call::number_written(filled, written)
 }
 
 // The pixels of a body, in their order. Refused: 23 not a visible line, 15 length of the body, 12 room, in this order.
@@ -43,7 +43,7 @@ pub extern "C" fn fluturenc_to_pixels(
     ensures { λ r. ⌜ WriteGives (reorderOf ToPixels kind (now (body .entry)) (length (now (pixels .entry)))) r (now (written .exit)) (now (pixels .entry)) (now (pixels .exit)) ⌝ }
 {
     let filled = pixel_order::to_pixels(kind, body, pixels);
-    lent_call::number_written(filled, written)
+    exported_call::number_written(filled, written)
 }
 
 // The body that sends these pixels. Refused: 23 not a visible line, 15 length of the pixels, 12 room, in this order.
@@ -57,5 +57,5 @@ pub extern "C" fn fluturenc_to_body(
     ensures { λ r. ⌜ WriteGives (reorderOf ToBody kind (now (pixels .entry)) (length (now (body .entry)))) r (now (written .exit)) (now (body .entry)) (now (body .exit)) ⌝ }
 {
     let filled = pixel_order::to_body(kind, pixels, body);
-    lent_call::number_written(filled, written)
+    exported_call::number_written(filled, written)
 }

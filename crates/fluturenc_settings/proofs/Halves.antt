@@ -5,7 +5,7 @@ use Prim.Native.Nat.{ℕ, _+_}
 use native.Mathlib.Omega.{arith}
 use lib.ListN.{getD, drop}
 use lib.Seq.{getD-drop, drop-drop}
-use Rattle.line_list.specs.Lines.{fromTwo}
+use Rattle.line_records.specs.Lines.{fromTwo}
 use Rattle.saved_setting.specs.declared.SavedSetting.{SavedSetting}
 use Rattle.fluturenc_settings.specs.SavedBytes.{placeSize, frontSetting, firstSettings}
 

@@ -8,10 +8,10 @@ use lib.Dec.{eqb, leb}
 use lib.ListN.{length, getD, drop}
 use Rattle.refusal.specs.Refusal.{noRoom}
 use Rattle.lent_buffer.specs.Filled.{Output, refused}
-use Rattle.lent_call.specs.LentCall.{Called}
-use Rattle.line_list.specs.Lines.{fromTwo, inTwo}
+use Rattle.exported_call.specs.LentCall.{Called}
+use Rattle.line_records.specs.Lines.{fromTwo, inTwo}
 use Rattle.two_wire_write.specs.Writing.{writeOf}
-use Rattle.setting_registers.specs.SettingRegisters.{settingPairs}
+use Rattle.saved_registers.specs.SettingRegisters.{settingPairs}
 use Rattle.saved_setting.specs.declared.SavedSetting.{SavedSetting}
 use Rattle.saved_setting.specs.declared.Wanted.{Wanted}
 use Rattle.saved_setting.specs.SavedSettings as reply

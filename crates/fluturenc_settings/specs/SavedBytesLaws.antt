@@ -11,12 +11,12 @@ use lib.ListN.{length, getD, drop, replicate, length-drop}
 use lib.Seq.{getD-drop}
 use Rattle.bits.specs.Every.{and-left}
 use Rattle.refusal.specs.Refusal.{notSavedSettings}
-use Rattle.line_list.specs.Lines.{fromTwo}
+use Rattle.line_records.specs.Lines.{fromTwo}
 use Rattle.saved_setting.specs.declared.SavedSetting.{SavedSetting}
 use Rattle.saved_setting.specs.SavedSettings.{Reply, yields, refused, mayFollow, settingPlaces, versionsInOrder, isSavedList, ListReply, keepingList, savedWanted, foundIn, savedAgain}
-use Rattle.saved_settings_laws.specs.Histories.{usedOf, SettingCall, saving, goingBack, calledOn, afterCalls}
-use Rattle.saved_settings_laws.specs.OrderLaws.{sides}
-use Rattle.saved_settings_laws.specs.HistoryLaws.{refusal-keeps, stays-ordered}
+use Rattle.saved_laws.specs.Histories.{usedOf, SettingCall, saving, goingBack, calledOn, afterCalls}
+use Rattle.saved_laws.specs.OrderLaws.{sides}
+use Rattle.saved_laws.specs.HistoryLaws.{refusal-keeps, stays-ordered}
 use Rattle.fluturenc_settings.specs.SavedBytes.{placeSize, listSize, placeBytes, listBytes, frontSetting, firstSettings, listIn, bytesAfter}
 
 -- Settings and bytes.

@@ -17,9 +17,9 @@ ghost use mathlib.Core.List.{[], _∷_, _++_};
 ghost use Prim.Native.Nat.{_+_, _≤_};
 ghost use lib.ListN.{length, drop};
 ghost use lib.Seq.{sets};
-ghost use Rattle.lent_call.specs.LentCall.{StateGives, WriteGives};
+ghost use Rattle.exported_call.specs.LentCall.{StateGives, WriteGives};
 ghost use Rattle.lent_buffer.specs.Filled.{Gives};
-ghost use Rattle.line_list.specs.Lines.{fromTwo};
+ghost use Rattle.line_records.specs.Lines.{fromTwo};
 ghost use Rattle.saved_setting.specs.SavedSettings.{savedReply, heldReply, savedWanted, foundIn, savedAgain, placesOf};
 ghost use Rattle.fluturenc_settings.specs.SavedBytes.{placeSize, listSize, placeBytes, listBytes, frontSetting, firstSettings, fourOf, listIn, wantedOf, SaveGives, foundCall, messagesOf};
 use lent_buffer::Filled;
@@ -120,7 +120,7 @@ pub extern "C" fn fluturenc_settings_messages(
 {
     let found = held_in(list, version);
     let filled = put_found(found, messages);
-    lent_call::number_written(filled, written)
+    exported_call::number_written(filled, written)
 }
 
 // The messages of what is found, or why nothing is.
@@ -129,7 +129,7 @@ fn put_found(found: Held, messages: &mut [u8]) -> Filled
 {
     match found {
         Held::Setting(s) => {
-            let pairs = setting_registers::pairs(s);
+            let pairs = saved_registers::pairs(s);
             return two_wire_write::write(&pairs, messages);
         }
         Held::Refused(n) => {

@@ -7,7 +7,7 @@ use lib.ListN.{length, getD, take, drop}
 use Rattle.refusal.specs.Refusal.{badState}
 use Rattle.technician.specs.Technician.{denialBy}
 use Rattle.reader_table.specs.Table.{nobody, placeCount}
-use Rattle.reader_state.specs.State.{stateLength}
+use Rattle.exported_state.specs.State.{stateLength}
 
 -- the bytes of a place, and of a table
 abbrev pub placeLength : ℕ

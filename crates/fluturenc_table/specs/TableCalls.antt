@@ -5,7 +5,7 @@ use Prim.Native.Nat.{ℕ, zero, suc}
 use lib.Dec.{eqb, leb, ltb}
 use lib.ListN.{length, set}
 use Rattle.refusal.specs.Refusal.{badState, noRoom, noSuchTechnician, noPlaceFree}
-use Rattle.lent_call.specs.LentCall.{Called}
+use Rattle.exported_call.specs.LentCall.{Called}
 use Rattle.profile.specs.declared.Numbered.{Numbered}
 use Rattle.profile.specs.declared.Numbered.the-variants as numbered
 use Rattle.profile.specs.Profile.{profileNumbered}

@@ -13,7 +13,7 @@ ghost use mathlib.Core.Path.{_≡_};
 ghost use Prim.Native.Nat.{_≤_};
 ghost use lib.ListN.{length};
 ghost use Rattle.reader_table.specs.Table.{placeCount};
-ghost use Rattle.lent_call.specs.LentCall.{StateGives};
+ghost use Rattle.exported_call.specs.LentCall.{StateGives};
 ghost use Rattle.fluturenc.specs.Gives.{FeedCallGives};
 ghost use Rattle.fluturenc_table.specs.TableBytes.{tableLength, lowestFrom, denialAt};
 ghost use Rattle.fluturenc_table.specs.TableCalls.{placesFreed, newTable, openLowest, openTable, feedTable, finishTable, closeTable};

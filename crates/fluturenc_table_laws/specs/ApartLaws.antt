@@ -8,7 +8,7 @@ use borrow.Author.Tests.{ltb-true, ltb-false, lt-ltb}
 use lib.Dec.{ltb}
 use lib.ListN.{length, getD, set, take, drop, length-append, length-drop, take-append-drop}
 use lib.Seq.{length-take-le, take-at, drop-at, take-append-le, drop-append-le, drop-append-add, drop-drop, drop-set-lt, drop-set-add, take-set-le, getD-set-other, getD-take, getD-drop}
-use Rattle.reader_state.specs.State.{stateLength}
+use Rattle.exported_state.specs.State.{stateLength}
 use Rattle.reader_table.specs.Table.{placeCount}
 use Rattle.fluturenc_table.specs.TableBytes.{tableLength, placeStart, stateStart, ownerAt, stateAt, withState}
 

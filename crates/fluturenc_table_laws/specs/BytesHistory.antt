@@ -7,9 +7,9 @@ use mathlib.Core.Option.{Option, none, some}
 use Prim.Native.Nat.{ℕ, _≤_}
 use lib.Dec.{eqb}
 use lib.ListN.{length}
-use Rattle.table_history.specs.History.{TableReply, openReply, callReply}
-use Rattle.table_history.specs.Lending.{Buffers, but, LendingRequest, requestOpen, requestRun, requestFinish, requestClose, LendingCall, lends, OwnBuffers, SameBuffers}
-use Rattle.call_numbers.specs.CallNumbers.{answerNumber}
+use Rattle.reader_table_laws.specs.History.{TableReply, openReply, callReply}
+use Rattle.reader_table_laws.specs.Lending.{Buffers, but, LendingRequest, requestOpen, requestRun, requestFinish, requestClose, LendingCall, lends, OwnBuffers, SameBuffers}
+use Rattle.exported_numbers.specs.CallNumbers.{answerNumber}
 use Rattle.fluturenc.specs.Calls.{FeedCalled}
 use Rattle.fluturenc_table.specs.TableBytes.{tableLength}
 use Rattle.fluturenc_table.specs.TableCalls.{newTable, openTable, feedTable, finishTable, closeTable}

@@ -21,9 +21,9 @@ use Rattle.refinement.specs.Runs.{one}
 use Rattle.reader_table.specs.declared.ReaderTable.{ReaderTable}
 use Rattle.technician.specs.Technician.{isTechnician}
 use Rattle.reader_table.specs.Table.{placeCount, emptyTable, heldBy, lowestFree, Placing, at-place, not-placed, notOpened, opensAt, openPlace, openNumbered, openPlaceOf, notCalled, lentTo, callHeld, callPlaceOf, closeHeld, closePlaceOf}
-use Rattle.table_history.specs.History.{TableReply, openReply, callReply, TableServed, serve, toldTo, openingsIn}
-use Rattle.table_history.specs.Lending.{Buffers, lends, requestInFull, buffersAfter, historyInFull, buffersLeft, requestsOf, toldFrom}
-use Rattle.table_history.specs.Isolation.{isolation}
+use Rattle.reader_table_laws.specs.History.{TableReply, openReply, callReply, TableServed, serve, toldTo, openingsIn}
+use Rattle.reader_table_laws.specs.Lending.{Buffers, lends, requestInFull, buffersAfter, historyInFull, buffersLeft, requestsOf, toldFrom}
+use Rattle.reader_table_laws.specs.Isolation.{isolation}
 use Rattle.fluturenc_table.specs.TableCalls.{newTable}
 use Rattle.fluturenc_table_laws.specs.TableHeld.{HoldsTable, placingNumber}
 use Rattle.fluturenc_table_laws.specs.TableBytesLaws.{new-empty, bytes-serve}

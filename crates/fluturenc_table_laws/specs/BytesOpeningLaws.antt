@@ -18,14 +18,14 @@ use Rattle.refinement.specs.Runs.{RunCall, run, one}
 use Rattle.reader_table.specs.declared.ReaderTable.{ReaderTable}
 use Rattle.technician.specs.Technician.{isTechnician, denialBy}
 use Rattle.reader_table.specs.Table.{nobody, placeCount, emptyTable, placeAt, heldBy, at-place, openPlaceOf, callPlaceOf}
-use Rattle.table_history.specs.History.{TableRequest, toRead, TableCall, TableReply, TableServed, serve, tableAfter}
-use Rattle.table_history.specs.Lending.{Buffers, lends, requestInFull, buffersAfter, historyInFull}
-use Rattle.table_history.specs.Openings.{callsOf, callsBy, toldOf, toldBy, nibblesIn, nibblesOf, OpeningMeetsDemandThree}
-use Rattle.table_history.specs.OwnPlaces.{OpenedIn}
-use Rattle.table_history.specs.Places.{isThere}
-use Rattle.table_history.specs.OpeningLaws.{opened-by}
-use Rattle.table_history.specs.OpeningDemand.{opening-demand-three}
-use Rattle.table_history.specs.OwnPlacesLaws.{held-opened, opened-held}
+use Rattle.reader_table_laws.specs.History.{TableRequest, toRead, TableCall, TableReply, TableServed, serve, tableAfter}
+use Rattle.reader_table_laws.specs.Lending.{Buffers, lends, requestInFull, buffersAfter, historyInFull}
+use Rattle.reader_table_laws.specs.Openings.{callsOf, callsBy, toldOf, toldBy, nibblesIn, nibblesOf, OpeningMeetsDemandThree}
+use Rattle.reader_table_laws.specs.OwnPlaces.{OpenedIn}
+use Rattle.reader_table_laws.specs.Places.{isThere}
+use Rattle.reader_table_laws.specs.OpeningLaws.{opened-by}
+use Rattle.reader_table_laws.specs.OpeningDemand.{opening-demand-three}
+use Rattle.reader_table_laws.specs.OwnPlacesLaws.{held-opened, opened-held}
 use Rattle.fluturenc_table.specs.TableBytes.{tableLength, placeStart, lowestFrom, denialAt}
 use Rattle.fluturenc_table.specs.TableCalls.{refusedTable, newTable, openedAt, openLowest, openTable, feedTable}
 use Rattle.fluturenc_table_laws.specs.TableHeld.{HoldsTable, tableIn}

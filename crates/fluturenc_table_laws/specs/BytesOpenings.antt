@@ -11,10 +11,10 @@ use Rattle.profile.specs.declared.Profile.{Profile}
 use Rattle.stream.specs.Written.{Sent, AllWritable, stream}
 use Rattle.recovery.specs.Calls.{changed}
 use Rattle.reader_table.specs.Table.{nobody, placeCount, emptyTable}
-use Rattle.table_history.specs.History.{TableCall}
-use Rattle.table_history.specs.Lending.{Buffers, lends, historyInFull}
-use Rattle.table_history.specs.Openings.{toldOf, OpeningDemandThree}
-use Rattle.table_history.specs.OwnPlaces.{OpenedIn}
+use Rattle.reader_table_laws.specs.History.{TableCall}
+use Rattle.reader_table_laws.specs.Lending.{Buffers, lends, historyInFull}
+use Rattle.reader_table_laws.specs.Openings.{toldOf, OpeningDemandThree}
+use Rattle.reader_table_laws.specs.OwnPlaces.{OpenedIn}
 use Rattle.fluturenc_table.specs.TableBytes.{ownerAt, denialAt}
 use Rattle.fluturenc_table_laws.specs.TableHeld.{tableIn}
 use Rattle.fluturenc_table_laws.specs.BytesHistory.{TableAsk, askOpen, askFeed, askFinish, askClose, BytesCall, BytesReply, openNumber, callNumber, BytesServed, bytesServe, requestFor, callsFor, replyFor, linesAfter}

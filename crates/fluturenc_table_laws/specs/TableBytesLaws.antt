@@ -12,7 +12,7 @@ use lib.Dec.{eqb, ltb}
 use lib.ListN.{length, getD, set, length-set, getD-replicate, length-replicate, List·getD-eq-default}
 use lib.Seq.{getD-set-same, ext-getD}
 use Rattle.refusal.specs.Refusal.{noSuchTechnician, noPlaceFree, placeNotHeld}
-use Rattle.lent_call.specs.LentCall.{Called}
+use Rattle.exported_call.specs.LentCall.{Called}
 use Rattle.profile.specs.declared.Profile.{Profile}
 use Rattle.profile.specs.declared.Profile.the-variants.{VV5404, VV5300}
 use Rattle.profile.specs.declared.Numbered.{Numbered}
@@ -27,10 +27,10 @@ use Rattle.reader_table.specs.declared.TablePlace.{TablePlace}
 use Rattle.reader_table.specs.declared.ReaderTable.{ReaderTable}
 use Rattle.technician.specs.Technician.{isTechnician, denialBy}
 use Rattle.reader_table.specs.Table.{nobody, placeFor, freePlace, placeCount, emptyTable, placeAt, withPlace, heldBy, lowestFree, PlaceCalled, notOpened, opensAt, openPlace, openNumbered, openPlaceOf, notCalled, lentTo, callHeld, callPlaceOf, closeHeld, closePlaceOf}
-use Rattle.table_history.specs.Places.{somebody, put-same, put-other, there}
-use Rattle.table_history.specs.Lowest.{put-length}
-use Rattle.reader_state.specs.State.{stateLength, stored, readerIn}
-use Rattle.reader_state.specs.StateLaws.{stored-length}
+use Rattle.reader_table_laws.specs.Places.{somebody, put-same, put-other, there}
+use Rattle.reader_table_laws.specs.Lowest.{put-length}
+use Rattle.exported_state.specs.State.{stateLength, stored, readerIn}
+use Rattle.exported_state.specs.StateLaws.{stored-length}
 use Rattle.fluturenc.specs.Calls.{FeedCalled, openFor, openCall, feedCall, finishCall}
 use Rattle.fluturenc.specs.CallLaws.{HoldsReader, opens, feeds, finishes, finish-call}
 use Rattle.fluturenc_table.specs.TableBytes.{tableLength, placeStart, ownerAt, stateAt, withState, lowestFrom, denialAt}

@@ -5,14 +5,14 @@ use mathlib.Core.List.{List, [], _∷_}
 use Prim.Native.Nat.{ℕ, zero, suc, _≤_, _<_}
 use lib.Dec.{eqb}
 use lib.ListN.{length}
-use Rattle.lent_call.specs.LentCall.{Called}
+use Rattle.exported_call.specs.LentCall.{Called}
 use Rattle.recovery.specs.Calls.{done}
 use Rattle.refinement.specs.Runs.{run, one}
 use Rattle.reader_table.specs.declared.TablePlace.{TablePlace}
 use Rattle.reader_table.specs.declared.ReaderTable.{ReaderTable}
 use Rattle.reader_table.specs.Table.{nobody, placeFor, freePlace, placeCount, placeAt, Placing, at-place, not-placed, PlaceOpened, PlaceCalled, openPlaceOf, callPlaceOf, closePlaceOf}
-use Rattle.reader_state.specs.State.{readerIn}
-use Rattle.call_numbers.specs.CallNumbers.{answerNumber}
+use Rattle.exported_state.specs.State.{readerIn}
+use Rattle.exported_numbers.specs.CallNumbers.{answerNumber}
 use Rattle.fluturenc.specs.Calls.{FeedCalled}
 use Rattle.fluturenc.specs.CallLaws.{HoldsReader}
 use Rattle.fluturenc_table.specs.TableBytes.{tableLength, ownerAt, stateAt}

@@ -5,7 +5,7 @@ use Prim.Native.Nat.{ℕ, _+_, _≤_}
 use native.Mathlib.Omega.{arith}
 use lib.ListN.{length, take, drop, set, replicate, length-append, length-drop}
 use lib.Seq.{take-length, length-take-le, take-at, drop-append-add, drop-drop, sets-eq}
-use Rattle.lent_call.specs.LentCall.{bitOf}
+use Rattle.exported_call.specs.LentCall.{bitOf}
 use Rattle.two_wire.specs.declared.Sensor.{Sensor}
 use Rattle.message_data.specs.Registers.{registerCount}
 use Rattle.fluturenc_two_wire.specs.SensorBytes.{indexPlace, flagPlace, sensorLength, withSensor}

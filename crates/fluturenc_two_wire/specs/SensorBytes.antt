@@ -6,7 +6,7 @@ use Prim.Native.Nat.{ℕ, _+_}
 use lib.Dec.{eqb, leb}
 use lib.ListN.{length, getD, take, drop}
 use Rattle.refusal.specs.Refusal.{badState, noRoom}
-use Rattle.lent_call.specs.LentCall.{bitOf, Called}
+use Rattle.exported_call.specs.LentCall.{bitOf, Called}
 use Rattle.two_wire.specs.declared.Sensor.{Sensor}
 use Rattle.message_data.specs.Registers.{registerCount, lastIndex}
 use Rattle.two_wire.specs.Messages.{fresh, Acceptance, accepted, refused, messageOn}

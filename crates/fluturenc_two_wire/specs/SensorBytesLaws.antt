@@ -11,8 +11,8 @@ use lib.ListN.{length, getD, take, drop, length-append, length-drop, length-repl
 use lib.Seq.{take-at, getD-at, getD-append-add}
 use Rattle.bits.specs.Every.{and-left, and-both}
 use Rattle.lent_buffer.specs.Filled.{used}
-use Rattle.lent_call.specs.LentCall.{bitOf, Called}
-use Rattle.lent_call.specs.LentCallLaws.{bit-back, bit-tag}
+use Rattle.exported_call.specs.LentCall.{bitOf, Called}
+use Rattle.exported_call.specs.LentCallLaws.{bit-back, bit-tag}
 use Rattle.two_wire.specs.declared.Sensor.{Sensor}
 use Rattle.message_data.specs.Registers.{registerCount, lastIndex}
 use Rattle.two_wire.specs.Messages.{fresh, Acceptance, accepted, refused, sensorAfter, messageOn, messagesOn}

@@ -13,10 +13,10 @@
 ghost use mathlib.Core.Path.{_≡_};
 ghost use Prim.Native.Nat.{_≤_};
 ghost use lib.ListN.{length};
-ghost use Rattle.lent_call.specs.LentCall.{StateGives, WriteGives};
+ghost use Rattle.exported_call.specs.LentCall.{StateGives, WriteGives};
 ghost use Rattle.two_wire_write.specs.Writing.{writeOf};
 ghost use Rattle.fluturenc_two_wire.specs.SensorBytes.{sensorLength, withSensor, sensorIn, holdsSensor, resetCall, messageCall};
-use two_wire::Answer;
+use two_wire::MessageAnswer;
 use two_wire::Sensor;
 
 // The places of index and flag among a sensor's bytes, and how many there are.
@@ -59,11 +59,11 @@ pub extern "C" fn fluturenc_sensor_message(sensor: &mut [u8], message: &[u8]) ->
         let next = seen.sensor;
         let answer = seen.answer;
         match answer {
-            Answer::Accepted => {
+            MessageAnswer::Accepted => {
                 store(next, sensor);
                 return 0;
             }
-            Answer::Refused(n) => {
+            MessageAnswer::Refused(n) => {
                 return n;
             }
         }
@@ -78,7 +78,7 @@ pub extern "C" fn fluturenc_messages(pairs: &[u8], messages: &mut [u8], written:
     ensures { λ r. ⌜ WriteGives (writeOf (now (pairs .entry)) (length (now (messages .entry)))) r (now (written .exit)) (now (messages .entry)) (now (messages .exit)) ⌝ }
 {
     let filled = two_wire_write::write(pairs, messages);
-    lent_call::number_written(filled, written)
+    exported_call::number_written(filled, written)
 }
 
 // Whether the bytes hold a sensor: their length, an index up to 127, and a flag.
@@ -115,5 +115,5 @@ fn store(s: Sensor, sensor: &mut [u8])
     let registers = s.registers;
     bytes::copy(&registers, sensor);
     sensor[INDEX] = s.index;
-    sensor[FLAG] = lent_call::bit(s.increment);
+    sensor[FLAG] = exported_call::bit(s.increment);
 }

@@ -1,7 +1,7 @@
 -- A reason in numbers (02, A9): the number, and up to two values in places of their own, of those that crate reason gives each reason.
 use mathlib.Core.Path.{_≡_}
 use Prim.Native.Nat.{ℕ, _+_, _*_}
-use Rattle.lent_call.specs.LentCall.{bitOf}
+use Rattle.exported_call.specs.LentCall.{bitOf}
 use Rattle.reason.specs.declared.FailedSums.{FailedSums}
 use Rattle.reason.specs.Valued.{Values, no-values, one-value, two-values, byte-and-sums, Valued, good-line, good-gap, numbered, refused}
 

@@ -16,7 +16,7 @@
 ghost use mathlib.Core.Path.{_≡_};
 ghost use Rattle.reason.specs.Valued.{valued, explanationValues};
 ghost use Rattle.fluturenc_why.specs.Why.{valuedNumber, valuedFirst, valuedSecond, sumBits, WhyGives};
-use lent_call::bit;
+use exported_call::bit;
 use reason::FailedSums;
 use reason::Reason;
 

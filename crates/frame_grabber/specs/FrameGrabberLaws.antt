@@ -20,7 +20,7 @@ use Rattle.mark_answer.specs.Sound.{Sound, sound-nothing, sound-line, sound-gap
 use Rattle.reader.specs.ReaderLaws.{take-profile, take-sound}
 use Rattle.reader_laws.specs.Passes.{passes-test, fresh-ok, Feeding, feed-state, feed-nibble, feed-room, feed-taken, feeding}
 use Rattle.frame_handing.specs.declared.Handed.the-variants as hand
-use Rattle.frame.specs.Frame.{brokenKind}
+use Rattle.frame_judge.specs.Frame.{brokenKind}
 use Rattle.frame_handing.specs.Handing.{isBrokenLine, asLines, handedLines}
 use Rattle.frame_row.specs.declared.Order.{Order}
 use Rattle.frame_row.specs.declared.Keeping.{Keeping}
@@ -28,7 +28,7 @@ use Rattle.frame_row.specs.declared.Keeping.the-variants.{VisiblePixels}
 use Rattle.frame_row.specs.FrameRow.{isVisible}
 use Rattle.frame_rows.specs.FrameRows.{Shown, complete}
 use Rattle.frame_rows.specs.FrameRows as rows
-use Rattle.frame_rows_laws.specs.Gathering.{call, start, isRefused, unlessRefused, shown, taken, Laid, Every}
+use Rattle.frame_rows_laws.specs.Gathering.{call, start, isRefusedCall, unlessRefused, shown, taken, Laid, Every}
 use Rattle.frame_rows_laws.specs.FrameRowsLaws.{complete-rows}
 use Rattle.frame_rows_laws.specs.PictureLaws.{rows-written}
 use Rattle.frame_grabber.specs.FrameGrabber.{freshGrabber, blank, given, seek, After, grabOf}
@@ -93,7 +93,7 @@ givens-laid (n ∷ w) r x e =
     let q = fed-laid r n e in
     let y = call x (given t) in
     every-append Laid (unlessRefused (y .output) (shown (handedLines (given t .answer)) (given t .held))) (taken y (givens (t .reader) w))
-    (kept-laid (isRefused (y .output)) _ (q .0)) (givens-laid w (t .reader) y (q .1))
+    (kept-laid (isRefusedCall (y .output)) _ (q .0)) (givens-laid w (t .reader) y (q .1))
 
 -- The frame.
 

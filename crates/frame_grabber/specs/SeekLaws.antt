@@ -11,12 +11,12 @@ use Rattle.profile.specs.declared.Profile.the-variants.{VV5404}
 use Rattle.profile.specs.Profile.{longest}
 use Rattle.reader.specs.declared.Reader.{Reader}
 use Rattle.reader.specs.Reader.{Took, feedOf}
-use Rattle.frame.specs.declared.Judge.{Judge}
-use Rattle.frame.specs.declared.Judge.the-variants.{Waiting, Due}
-use Rattle.frame.specs.declared.Ruling.{Ruling}
-use Rattle.frame.specs.declared.Ruling.the-variants as ruling
-use Rattle.frame.specs.Calls.{called}
-use Rattle.frame.specs.Frame.{breaksFrame}
+use Rattle.frame_judge.specs.declared.Judge.{Judge}
+use Rattle.frame_judge.specs.declared.Judge.the-variants.{Waiting, Due}
+use Rattle.frame_judge.specs.declared.Ruling.{Ruling}
+use Rattle.frame_judge.specs.declared.Ruling.the-variants as ruling
+use Rattle.frame_judge.specs.Calls.{called}
+use Rattle.frame_judge.specs.Frame.{breaksFrame}
 use Rattle.frame_handing.specs.Handing.{handedLines}
 use Rattle.frame_rows.specs.declared.Gatherer.{Gatherer}
 use Rattle.frame_rows.specs.FrameRows.{Output, Shown, nothing, complete, refused, quiet}

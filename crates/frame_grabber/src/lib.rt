@@ -3,7 +3,7 @@
 // In: the bytes of a capture, piece after piece, each byte its two nibbles, the high one first; the place of a nibble from which a piece is
 // taken; and a lent buffer for rows, the same one each time. Each answer of the reader goes to the gatherer of rows. Out: beside the next
 // grabber, how many nibbles were taken, and nothing yet, or the length of a complete frame's rows, which stand at the front of the buffer;
-// `pgm::write` or `line_diff::compare` takes them. A piece is taken up to the nibble at which a frame is complete or something is refused. Refused: 11 where the reader
+// `pgm::write` or `diff_lines::compare` takes them. A piece is taken up to the nibble at which a frame is complete or something is refused. Refused: 11 where the reader
 // fails its own test, before anything is taken; else as the gatherer refuses: 11 and 14 of the judge, 12 of the rows' buffer. A buffer of
 // pgm::MOST_PIXELS has room for every frame. Cost: that of the reader's runs, and linear in the rows; memory does not grow with the capture.
 ghost use mathlib.Core.Path.{_≡_};

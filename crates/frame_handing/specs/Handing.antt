@@ -8,8 +8,8 @@ use Rattle.stream.specs.declared.Answer.{Answer}
 use Rattle.stream.specs.declared.Answer.the-variants as answer
 use Rattle.frame_handing.specs.declared.Handed.{Handed}
 use Rattle.frame_handing.specs.declared.Handed.the-variants as hand
-use Rattle.frame.specs.Frame.{within, brokenKind}
-use Rattle.frame.specs.Calls.{Line, line}
+use Rattle.frame_judge.specs.Frame.{within, brokenKind}
+use Rattle.frame_judge.specs.Calls.{Line, line}
 
 -- answers 1 to 7
 unfoldable pub isBrokenLine : ℕ → Bool

@@ -4,7 +4,7 @@
 // answer. Nothing is refused. Cost: constant.
 ghost use mathlib.Core.Path.{_≡_};
 ghost use Rattle.frame_handing.specs.Handing.{isBrokenLine, handedOver};
-use frame::Judge;
+use frame_judge::Judge;
 use stream::Answer;
 
 // What of an answer is handed to the judge: nothing, or a kind number and a number.

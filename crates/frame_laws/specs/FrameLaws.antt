@@ -19,18 +19,18 @@ use Rattle.profile.specs.declared.Profile.{Profile}
 use Rattle.profile.specs.declared.Profile.the-variants.{VV5404, VV5300}
 use Rattle.frame_layout.specs.declared.Borders.{Borders}
 use Rattle.frame_layout.specs.declared.Borders.the-variants.{On, Off}
-use Rattle.frame.specs.declared.KnownBorders.{KnownBorders}
-use Rattle.frame.specs.declared.KnownBorders.the-variants.{Unsettled, Settled}
-use Rattle.frame.specs.declared.Judge.{Judge}
-use Rattle.frame.specs.declared.Judge.the-variants.{Waiting, Due}
-use Rattle.frame.specs.declared.Ruling.{Ruling}
-use Rattle.frame.specs.declared.Ruling.the-variants as ruling
-use Rattle.frame.specs.declared.Judged.{Judged}
+use Rattle.frame_judge.specs.declared.KnownBorders.{KnownBorders}
+use Rattle.frame_judge.specs.declared.KnownBorders.the-variants.{Unsettled, Settled}
+use Rattle.frame_judge.specs.declared.Judge.{Judge}
+use Rattle.frame_judge.specs.declared.Judge.the-variants.{Waiting, Due}
+use Rattle.frame_judge.specs.declared.Ruling.{Ruling}
+use Rattle.frame_judge.specs.declared.Ruling.the-variants as ruling
+use Rattle.frame_judge.specs.declared.Judged.{Judged}
 use Rattle.frame_layout.specs.FrameLayout.{layout, kindsOf, lastPlace, endPlace, settlingPlace, kindAtPlace, standsAt, numberDue, dueAt}
-use Rattle.frame.specs.Frame.{within, passes, lineDue, settledBy, gives, refuses, opens, begun, brokenKind, broken, onward, whole, judgeOf}
+use Rattle.frame_judge.specs.Frame.{within, passes, lineDue, settledBy, gives, refuses, opens, begun, brokenKind, broken, dueTaken, whole, judgeOf}
 use Rattle.frame_layout.specs.PlaceLaws.{blank-after, sof-only-first}
 use Rattle.frame_layout.specs.FrameLength.{frame-length}
-use Rattle.frame.specs.Calls.{Line, line, called, after, rulings, isComplete, accepts, acceptedOne, accepted, fits, laidFrom, FirstLines, IsFrame, numberedFrom, frameLines}
+use Rattle.frame_judge.specs.Calls.{Line, line, called, after, rulings, isComplete, accepts, acceptedOne, accepted, isLaidOutAt, laidFrom, FirstLines, IsFrame, numberedFrom, frameLines}
 use Rattle.bits.specs.Agree.{agree}
 use Rattle.frame_laws.specs.CompleteFrames.{toComplete, Completes}
 
@@ -95,7 +95,7 @@ sof-not-due p s place n = by s
     by (Settled b) = with-borders b
 
 -- a line that fits at a later place opens no frame
-pub later-opens-none : (p : Profile) (b : Borders) (place : ℕ) (l : Line) → fits p b (suc place) l ≡ true → opens (l .kind) (l .number) ≡ false
+pub later-opens-none : (p : Profile) (b : Borders) (place : ℕ) (l : Line) → isLaidOutAt p b (suc place) l ≡ true → opens (l .kind) (l .number) ≡ false
 later-opens-none p b place l f = by (eqb (l .kind) (kindNumber SOF)) refl
   where
     by : (t : Bool) → eqb (l .kind) (kindNumber SOF) ≡ t → (t && eqb (l .number) 0) ≡ false
@@ -108,7 +108,7 @@ later-opens-none p b place l f = by (eqb (l .kind) (kindNumber SOF)) refl
 
 -- a line of the kind at a place, with a number that is due there
 kind-fits : (p : Profile) (b : Borders) (place : ℕ) (k : Kind) (n : ℕ) → kindAtPlace p b place ≡ k → numberDue p b place n ≡ true → n ≤ greatest
-    → fits p b place (line (kindNumber k) n) ≡ true
+    → isLaidOutAt p b place (line (kindNumber k) n) ≡ true
 kind-fits p b place k n e d h = and-both _ _ (and-both _ _ (eq-eqb _ _ (ap kindNumber (sym e))) d) (le-leb n greatest h)
 
 -- a place's own number is due there
@@ -142,7 +142,7 @@ laid-append : (p : Profile) (b : Borders) (place end : ℕ) (ls ms : List Line) 
     → laidFrom p b place (ls ++ ms) ≡ true
 laid-append p b place end [] ms e h g = subst (λ (i : ℕ). laidFrom p b i ms ≡ true) (omega arith) g
 laid-append p b place end (l ∷ ls) ms e h g =
-    and-both (fits p b place l) _ (and-left (fits p b place l) _ h) (laid-append p b (suc place) end ls ms (omega arith) (and-right (fits p b place l) _ h) g)
+    and-both (isLaidOutAt p b place l) _ (and-left (isLaidOutAt p b place l) _ h) (laid-append p b (suc place) end ls ms (omega arith) (and-right (isLaidOutAt p b place l) _ h) g)
 
 length-numbered : (n : ℕ) (ks : List Kind) → length (numberedFrom n ks) ≡ length ks
 length-numbered n [] = refl
@@ -188,7 +188,7 @@ frame-held p b =
 abbrev lineAt : Profile → Borders → ℕ → Line
 lineAt p b place = line (kindNumber (kindAtPlace p b place)) place
 
-own-fits : (p : Profile) (b : Borders) (place : ℕ) → place ≤ greatest → fits p b place (lineAt p b place) ≡ true
+own-fits : (p : Profile) (b : Borders) (place : ℕ) → place ≤ greatest → isLaidOutAt p b place (lineAt p b place) ≡ true
 own-fits p b place h = kind-fits p b place (kindAtPlace p b place) place refl (own-number p b place) h
 
 abbrev linesBefore : Profile → Borders → ℕ → List Line
@@ -256,10 +256,10 @@ sof-within p zero s h = absurd (let z = passes-low p zero s h in omega arith)
 sof-within p (suc n) s h = simp (h, sof-not-due p s n 0)
 
 -- an SOF numbered 0 opens a frame from any judge
-opened : (p : Profile) (j : Judge) → passes p j ≡ true → called p j (line (kindNumber SOF) 0) .judge ≡ begun
+sof-opens : (p : Profile) (j : Judge) → passes p j ≡ true → called p j (line (kindNumber SOF) 0) .judge ≡ begun
 unfolding judgeOf
-opened p Waiting h = refl
-opened p (Due place s) h = ap (λ (r : Judged). r .judge) (sof-within p place s h)
+sof-opens p Waiting h = refl
+sof-opens p (Due place s) h = ap (λ (r : Judged). r .judge) (sof-within p place s h)
 
 pub opens-is : (l : Line) → opens (l .kind) (l .number) ≡ true → l ≡ line (kindNumber SOF) 0
 opens-is l h =
@@ -270,7 +270,7 @@ either : {P : Type 0} (a b : Bool) → (a || b) ≡ true → (a ≡ true → P) 
 either true b h f g = f refl
 either false b h f g = g h
 
-pub first-is : (p : Profile) (b : Borders) (l : Line) → fits p b 0 l ≡ true → l ≡ line (kindNumber SOF) 0
+pub first-is : (p : Profile) (b : Borders) (l : Line) → isLaidOutAt p b 0 l ≡ true → l ≡ line (kindNumber SOF) 0
 unfolding kindAtPlace
 first-is p b l h =
     let sof : Bool = eqb (l .kind) (kindNumber SOF) in
@@ -302,7 +302,7 @@ due-with p Unsettled place k n d = either (dueAt p On place k n) (dueAt p Off pl
 due-with p (Settled b) place k n d = (b, d)
 
 -- a line that fits is due, and the judge passes its own test, while the borders are unsettled and after
-fits-due : (p : Profile) (b : Borders) (place : ℕ) (l : Line) → 1 ≤ place → place ≤ lastPlace p → fits p b place l ≡ true
+fits-due : (p : Profile) (b : Borders) (place : ℕ) (l : Line) → 1 ≤ place → place ≤ lastPlace p → isLaidOutAt p b place l ≡ true
     → (passes p (Due place (knownAt p b place)) ≡ true) × (lineDue p (knownAt p b place) place (l .kind) (l .number) ≡ true)
 fits-due p b place l g h f = by (leb place (settlingPlace p)) refl
   where
@@ -315,7 +315,7 @@ fits-due p b place l g h f = by (leb place (settlingPlace p)) refl
     by false e = (within-holds (settlingPlace p + 1) (lastPlace p) place (omega (arith, leb-false place (settlingPlace p) e)) h, due)
 
 -- and it leaves the borders as the judge knows them at the next place
-settled-at : (p : Profile) (b : Borders) (place : ℕ) (l : Line) → fits p b place l ≡ true → settledBy p (knownAt p b place) place (l .kind) ≡ knownAt p b (suc place)
+settled-at : (p : Profile) (b : Borders) (place : ℕ) (l : Line) → isLaidOutAt p b place l ≡ true → settledBy p (knownAt p b place) place (l .kind) ≡ knownAt p b (suc place)
 settled-at p b place l h = by (leb place (settlingPlace p)) (ltb place (settlingPlace p)) refl refl
   where
     by : (t u : Bool) → leb place (settlingPlace p) ≡ t → ltb place (settlingPlace p) ≡ u
@@ -327,8 +327,8 @@ settled-at p b place l h = by (leb place (settlingPlace p)) (ltb place (settling
     by false true e f = absurd (omega (arith, leb-false place (settlingPlace p) e, ltb-true place (settlingPlace p) f))
     by false false e f = refl
 
-fitting : (p : Profile) (b : Borders) (n : ℕ) (l : Line) → suc n ≤ lastPlace p → fits p b (suc n) l ≡ true
-    → called p (judgeAt p b (suc n)) l ≡ onward p (suc n) (knownAt p b (suc n)) (l .kind)
+fitting : (p : Profile) (b : Borders) (n : ℕ) (l : Line) → suc n ≤ lastPlace p → isLaidOutAt p b (suc n) l ≡ true
+    → called p (judgeAt p b (suc n)) l ≡ dueTaken p (suc n) (knownAt p b (suc n)) (l .kind)
 unfolding judgeOf
 fitting p b n l h f =
     let d = fits-due p b (suc n) l (omega arith) h f in
@@ -346,10 +346,10 @@ fitting p b n l h f =
 abbrev goesOn : Profile → Borders → ℕ → Judged
 goesOn p b place = gives (judgeAt p b (suc place)) ruling.Going
 
-fitting-going : (p : Profile) (b : Borders) (n : ℕ) (l : Line) → n < lastPlace p - 1 → fits p b (suc n) l ≡ true → called p (judgeAt p b (suc n)) l ≡ goesOn p b (suc n)
+fitting-going : (p : Profile) (b : Borders) (n : ℕ) (l : Line) → n < lastPlace p - 1 → isLaidOutAt p b (suc n) l ≡ true → called p (judgeAt p b (suc n)) l ≡ goesOn p b (suc n)
 fitting-going p b n l h f = fitting p b n l (omega arith) f ∙ simp (lt-ltb (suc n) (lastPlace p) (omega arith), settled-at p b (suc n) l f, add-one (suc n))
 
-fitting-last : (p : Profile) (b : Borders) (n : ℕ) (l : Line) → suc n ≡ lastPlace p → fits p b (suc n) l ≡ true → called p (judgeAt p b (suc n)) l ≡ gives Waiting ruling.Complete
+fitting-last : (p : Profile) (b : Borders) (n : ℕ) (l : Line) → suc n ≡ lastPlace p → isLaidOutAt p b (suc n) l ≡ true → called p (judgeAt p b (suc n)) l ≡ gives Waiting ruling.Complete
 fitting-last p b n l e f = fitting p b n l (omega (arith, e)) f ∙ simp (le-ltb (suc n) (lastPlace p) (omega (arith, e)))
 
 -- The states that calls reach.
@@ -388,7 +388,7 @@ rest-complete p b n l [] e h =
     from-call p (judgeAt p b (suc n)) l (gives Waiting ruling.Complete) [] (fitting-last p b n l (omega arith) (and-left _ _ h))
 rest-complete p b n l (m ∷ ls) e h =
     let f = from-call p (judgeAt p b (suc n)) l (goesOn p b (suc n)) (m ∷ ls) (fitting-going p b n l (omega arith) (and-left _ _ h)) in
-    let r = rest-complete p b (suc n) m ls (omega arith) (and-right (fits p b (suc n) l) _ h) in
+    let r = rest-complete p b (suc n) m ls (omega arith) (and-right (isLaidOutAt p b (suc n) l) _ h) in
     (f .0 ∙ ap (λ (vs : List Ruling). ruling.Going ∷ vs) (r .0), f .1 ∙ r .1)
 
 -- a whole frame is Complete wherever the judge is: in another frame its first line is refused, and opens it
@@ -399,9 +399,9 @@ frame-complete-anywhere p j h b (l ∷ m ∷ ls) f =
     let s : Line = line (kindNumber SOF) 0 in
     let v : Ruling = called p j s .ruling in
     let e : length ls ≡ lastPlace p - 1 = (let e = f .0 in omega arith) in
-    let c = from-call p j s (gives begun v) (m ∷ ls) (ap (λ (x : Judge). gives x v) (opened p j h)) in
+    let c = from-call p j s (gives begun v) (m ∷ ls) (ap (λ (x : Judge). gives x v) (sof-opens p j h)) in
     let r = subst (λ (x : Judge). (rulings p x (m ∷ ls) ≡ toComplete (length ls)) × (after p x (m ∷ ls) ≡ Waiting)) (judge-begun p b)
-    (rest-complete p b 0 m ls (omega (arith, settling-early p)) (and-right (fits p b 0 l) _ (f .1))) in
+    (rest-complete p b 0 m ls (omega (arith, settling-early p)) (and-right (isLaidOutAt p b 0 l) _ (f .1))) in
     subst (λ (x : Line). Completes p j v (x ∷ m ∷ ls)) (sym (first-is p b l (and-left _ _ (f .1))))
     (c .0 ∙ ap (λ (vs : List Ruling). v ∷ vs) (r .0 ∙ ap toComplete e), c .1 ∙ r .1)
 
@@ -517,8 +517,8 @@ may-before p place (Settled c) k b o = o
 
 -- a line that is due fits with each setting that it leaves open
 due-fits : (p : Profile) (place : ℕ) (s : KnownBorders) (l : Line) (b : Borders) → passes p (Due place s) ≡ true → IsDue p s place l
-    → MayBe (settledBy p s place (l .kind)) b → fits p b place l ≡ true
-due-fits p place (Settled c) l b h d o = subst (λ (x : Borders). fits p x place l ≡ true) o (and-both _ _ (d .0) (d .1))
+    → MayBe (settledBy p s place (l .kind)) b → isLaidOutAt p b place l ≡ true
+due-fits p place (Settled c) l b h d o = subst (λ (x : Borders). isLaidOutAt p x place l ≡ true) o (and-both _ _ (d .0) (d .1))
 due-fits p place Unsettled l b h d o = and-both _ _ (by (ltb place (settlingPlace p)) refl o (due-with p Unsettled place (l .kind) (l .number) (d .0))) (d .1)
   where
     due : Borders → Bool
@@ -540,7 +540,7 @@ Traced p past Waiting = Unit {0}
 Traced p past (Due place s) = (earlier : List Line) × (ls : List Line) × (past ≡ earlier ++ ls) × ((b : Borders) → MayBe s b → FirstLines p b place ls)
 
 -- the first lines of a frame, one line longer
-first-longer : (p : Profile) (b : Borders) (place : ℕ) (ls : List Line) (l : Line) → fits p b place l ≡ true → FirstLines p b place ls → FirstLines p b (suc place) (ls ++ (l ∷ []))
+first-longer : (p : Profile) (b : Borders) (place : ℕ) (ls : List Line) (l : Line) → isLaidOutAt p b place l ≡ true → FirstLines p b place ls → FirstLines p b (suc place) (ls ++ (l ∷ []))
 first-longer p b place ls l h f =
     (simp length-append (omega (arith, f .0)), laid-append p b 0 place ls (l ∷ []) (omega (arith, f .0)) (f .1) (and-both _ _ h refl))
 

@@ -4,7 +4,7 @@ use Rattle.line_code.specs.LineCode.{kindNumber}
 use Rattle.profile.specs.declared.Profile.{Profile}
 use Rattle.stream.specs.Written.{Sent}
 use Rattle.frame_layout.specs.declared.Borders.{Borders}
-use Rattle.frame.specs.Calls.{Line, line, IsFrame}
+use Rattle.frame_judge.specs.Calls.{Line, line, IsFrame}
 
 -- lines that are sent, as they are handed to the judge
 abbrev pub judgedLine : Sent → Line

@@ -23,6 +23,7 @@ abbrev pub bordersOff : Profile → Layout
 bordersOff VV5404 = record { from = 12; to = 299; end = 300; last = 303 }
 bordersOff VV5300 = record { from = 13; to = 132; end = 145; last = 146 }
 
+-- by the border setting
 abbrev pub layout : Profile → Borders → Layout
 layout p On = bordersOn p
 layout p Off = bordersOff p

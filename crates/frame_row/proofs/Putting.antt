@@ -9,7 +9,7 @@ use lib.Seq.{take-all, take-length, drop-drop, sets-eq}
 use Rattle.lent_buffer.specs.Filled.{Output, used, bufferAfter}
 use Rattle.text.specs.Put.{Puts}
 use Rattle.profile.specs.Profile.{width}
-use Rattle.line_list.specs.Lines.{lineSize, inTwo}
+use Rattle.line_records.specs.Lines.{lineSize, inTwo}
 use Rattle.frame_row.specs.declared.Order.{Order}
 use Rattle.frame_row.specs.declared.Keeping.{Keeping}
 use Rattle.frame_row.specs.declared.Keeping.the-variants.{VisiblePixels, WholeLines}

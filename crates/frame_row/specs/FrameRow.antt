@@ -11,7 +11,7 @@ use Rattle.line_code.specs.LineCode.{kindNumber}
 use Rattle.profile.specs.Profile.{width}
 use Rattle.pixel_order.specs.declared.Way.the-variants.{ToPixels}
 use Rattle.pixel_order.specs.PixelOrder.{reordered}
-use Rattle.line_list.specs.Lines.{lineSize, inTwo}
+use Rattle.line_records.specs.Lines.{lineSize, inTwo}
 use Rattle.frame_row.specs.declared.Order.{Order}
 use Rattle.frame_row.specs.declared.Order.the-variants.{AsSent, OddFirst}
 use Rattle.frame_row.specs.declared.Keeping.{Keeping}
@@ -28,9 +28,9 @@ abbrev pub isVisible : ℕ → Bool
 isVisible k = eqb k (kindNumber VL)
 
 -- the row of the line at a place of its frame, of this kind and with this body
-abbrev pub rowOf : Keeping → ℕ → ℕ → List ℕ → List ℕ
-rowOf (VisiblePixels o) place kind body = cond (isVisible kind) (pixelsOf o body) []
-rowOf WholeLines place kind body = (kind ∷ inTwo place) ++ body
+abbrev pub keptRow : Keeping → ℕ → ℕ → List ℕ → List ℕ
+keptRow (VisiblePixels o) place kind body = cond (isVisible kind) (pixelsOf o body) []
+keptRow WholeLines place kind body = (kind ∷ inTwo place) ++ body
 
 -- how long it is, where the body has 356 bytes
 abbrev pub rowSize : Keeping → ℕ → ℕ
@@ -43,7 +43,7 @@ rowFits k kept kind body buffer = eqb (length body) width && leb (kept + rowSize
 
 -- a buffer with a line's row after the bytes kept
 unfoldable pub withRow : Keeping → ℕ → ℕ → ℕ → List ℕ → List ℕ → List ℕ
-withRow k kept place kind body buffer = take kept buffer ++ (rowOf k place kind body ++ drop (kept + rowSize k kind) buffer)
+withRow k kept place kind body buffer = take kept buffer ++ (keptRow k place kind body ++ drop (kept + rowSize k kind) buffer)
 
 -- a call that says whether a row fits, puts it where it does, and says where the rows end then
 pub record Keeps (k : Keeping) (kept place kind : ℕ) (body before : List ℕ) (answer : Row) (after : List ℕ) : Type 0 where

@@ -1,5 +1,5 @@
 // The row of a line of a profile 0 frame: what is kept of it (paper 02, A1, A2 and A13). For a picture that is a visible line's 356 pixels, as sent,
-// or in order where the head sends odd pixels first, and nothing of any other line; for a comparison every line whole, as crate line_list has it,
+// or in order where the head sends odd pixels first, and nothing of any other line; for a comparison every line whole, as crate line_records has it,
 // with its place in the frame for its number.
 //
 // In: what is kept; how many bytes of rows a lent buffer holds; the line's place and kind number; the line buffer, with its body in front. Out:
@@ -11,10 +11,10 @@ ghost use Prim.Native.Nat.{_+_, _≤_};
 ghost use lib.Dec.{leb};
 ghost use lib.ListN.{length, take, drop};
 ghost use Rattle.profile.specs.Profile.{width};
-ghost use Rattle.line_list.specs.Lines.{lineSize, inTwo};
+ghost use Rattle.line_records.specs.Lines.{lineSize, inTwo};
 ghost use Rattle.frame_row.specs.FrameRow.{pixelsOf, rowSize, withRow, Keeps};
 use line_code::Kind;
-use line_list::LINE;
+use line_records::LINE;
 use profile::Profile;
 
 // The order in which a head sends a line's pixels: from left to right, or the odd ones first.

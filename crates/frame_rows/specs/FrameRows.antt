@@ -10,12 +10,12 @@ use Rattle.profile.specs.Profile.{width}
 use Rattle.stream.specs.declared.Answer.{Answer}
 use Rattle.frame_handing.specs.declared.Handed.{Handed}
 use Rattle.frame_handing.specs.declared.Handed.the-variants as hand
-use Rattle.frame.specs.declared.Judge.{Judge}
-use Rattle.frame.specs.declared.Judge.the-variants.{Waiting, Due}
-use Rattle.frame.specs.declared.Ruling.{Ruling}
-use Rattle.frame.specs.declared.Ruling.the-variants as ruling
-use Rattle.frame.specs.Frame.{breaksFrame}
-use Rattle.frame.specs.Calls.{Line, line, called}
+use Rattle.frame_judge.specs.declared.Judge.{Judge}
+use Rattle.frame_judge.specs.declared.Judge.the-variants.{Waiting, Due}
+use Rattle.frame_judge.specs.declared.Ruling.{Ruling}
+use Rattle.frame_judge.specs.declared.Ruling.the-variants as ruling
+use Rattle.frame_judge.specs.Frame.{breaksFrame}
+use Rattle.frame_judge.specs.Calls.{Line, line, called}
 use Rattle.frame_handing.specs.Handing.{handedOver}
 use Rattle.frame_row.specs.declared.Keeping.{Keeping}
 use Rattle.frame_row.specs.FrameRow.{rowSize, rowFits, withRow}
@@ -83,8 +83,8 @@ placeDue Waiting = 0
 placeDue (Due place b) = place
 
 -- a line that was due, and not the last; 12 where its row does not fit
-unfoldable pub onward : Gatherer → Judge → ℕ → ℕ → ℕ → List ℕ → List ℕ → AfterCall
-onward s j kept place kind body buffer =
+unfoldable pub rowKept : Gatherer → Judge → ℕ → ℕ → ℕ → List ℕ → List ℕ → AfterCall
+rowKept s j kept place kind body buffer =
     cond (rowFits (s .keeping) kept kind body buffer)
     (quiet (moved s j (kept + rowSize (s .keeping) kind)) (withRow (s .keeping) kept place kind body buffer))
     (refuses s noRoom buffer)
@@ -103,7 +103,7 @@ completed s j place kind body buffer =
 -- a line that breaks a frame: its rows are dropped; an SOF numbered 0 opens a new frame at once, whose first row is that line's
 unfoldable pub afterBreak : Gatherer → Judge → ℕ → List ℕ → List ℕ → AfterCall
 afterBreak s Waiting kind body buffer = quiet (moved s Waiting 0) buffer
-afterBreak s (Due place b) kind body buffer = onward s (Due place b) 0 0 kind body buffer
+afterBreak s (Due place b) kind body buffer = rowKept s (Due place b) 0 0 kind body buffer
 
 -- 18 and 19 break the frame; 11, 13 and 14 change nothing
 unfoldable pub refusedBy : Gatherer → Judge → ℕ → ℕ → List ℕ → List ℕ → AfterCall
@@ -112,7 +112,7 @@ refusedBy s j n kind body buffer = cond (breaksFrame n) (afterBreak s j kind bod
 -- what becomes of the rows, by the judge's ruling
 abbrev pub byRuling : Gatherer → Shown → List ℕ → Judge → Ruling → AfterCall
 byRuling s l buffer j ruling.Waiting = quiet (moved s j 0) buffer
-byRuling s l buffer j ruling.Going = onward s j (s .kept) (placeDue (s .judge)) (l .given .kind) (l .body) buffer
+byRuling s l buffer j ruling.Going = rowKept s j (s .kept) (placeDue (s .judge)) (l .given .kind) (l .body) buffer
 byRuling s l buffer j ruling.Complete = completed s j (placeDue (s .judge)) (l .given .kind) (l .body) buffer
 byRuling s l buffer j (ruling.Refused n) = refusedBy s j n (l .given .kind) (l .body) buffer
 

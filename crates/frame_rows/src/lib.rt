@@ -4,18 +4,18 @@
 // In: the answer of each call to the reader, in order, with the line buffer as it is then, and a lent buffer for rows. What
 // frame_handing::handed_over has of an answer goes to the judge. A line that is due puts its row after the rows kept; a frame that breaks leaves none.
 // Out: beside the next gatherer, nothing yet, or at a frame's last line the length of its rows, which stand at the front of the buffer;
-// `pgm::write` takes a picture's, `line_diff::compare` the lines. Refused, and then nothing changes: 11 and 14 as the judge refuses them; 12
+// `pgm::write` takes a picture's, `diff_lines::compare` the lines. Refused, and then nothing changes: 11 and 14 as the judge refuses them; 12
 // where a line is due and the line buffer is shorter than 356, or the rows' buffer than the rows with its own. A buffer of pgm::MOST_PIXELS has
 // room for every picture, one of ALL_LINES for every frame's lines. Cost: linear in the row that is put.
 ghost use mathlib.Core.Path.{_≡_};
 ghost use lib.ListN.{take};
 ghost use Rattle.profile.specs.Profile.{width};
-ghost use Rattle.frame_rows.specs.FrameRows.{fresh, moved, saying, placeDue, shownAs, onward, completed, afterBreak, handed, takeOf, Gathers};
-use frame::Judge;
-use frame::Ruling;
+ghost use Rattle.frame_rows.specs.FrameRows.{fresh, moved, saying, placeDue, shownAs, rowKept, completed, afterBreak, handed, takeOf, Gathers};
 use frame_handing::Handed;
+use frame_judge::Judge;
+use frame_judge::Ruling;
 use frame_row::Keeping;
-use line_list::LINE;
+use line_records::LINE;
 use profile::Profile;
 use stream::Answer;
 
@@ -79,10 +79,10 @@ impl Gatherer {
         let ruling = judged.ruling;
         match ruling {
             Ruling::Waiting => quiet(self.moved(judge, 0)),
-            Ruling::Going => self.onward(judge, self.kept, place, kind, line, rows),
+            Ruling::Going => self.keep_row(judge, self.kept, place, kind, line, rows),
             Ruling::Complete => self.completed(judge, place, kind, line, rows),
             Ruling::Refused(refusal) => {
-                if frame::breaks_frame(refusal) {
+                if frame_judge::breaks_frame(refusal) {
                     return self.after_break(judge, kind, line, rows);
                 }
                 refused(self, refusal)
@@ -103,7 +103,7 @@ impl Gatherer {
     }
 
     // A line that was due, and not the last: its row stands after the bytes kept.
-    fn onward(
+    fn keep_row(
         self,
         judge: Judge,
         kept: usize,
@@ -112,7 +112,7 @@ impl Gatherer {
         line: &[u8],
         rows: &mut [u8],
     ) -> Gathered
-        ensures { λ r. ⌜ Gathers (onward self judge kept place kind (take width (now (line .entry))) (now (rows .entry))) r (now (rows .exit)) ⌝ }
+        ensures { λ r. ⌜ Gathers (rowKept self judge kept place kind (take width (now (line .entry))) (now (rows .entry))) r (now (rows .exit)) ⌝ }
     {
         let keeping = self.keeping;
         let row = frame_row::keep(keeping, kept, place, kind, line, rows);
@@ -142,7 +142,7 @@ impl Gatherer {
     {
         match judge {
             Judge::Waiting => quiet(self.moved(judge, 0)),
-            Judge::Due(_, _) => self.onward(judge, 0, 0, kind, line, rows),
+            Judge::Due(_, _) => self.keep_row(judge, 0, 0, kind, line, rows),
         }
     }
 }

@@ -21,31 +21,31 @@ use Rattle.frame_layout.specs.declared.Borders.{Borders}
 use Rattle.frame_layout.specs.declared.Borders.the-variants.{On, Off}
 use Rattle.frame_handing.specs.declared.Handed.{Handed}
 use Rattle.frame_handing.specs.declared.Handed.the-variants as hand
-use Rattle.frame.specs.declared.KnownBorders.{KnownBorders}
-use Rattle.frame.specs.declared.KnownBorders.the-variants.{Unsettled}
-use Rattle.frame.specs.declared.Judge.{Judge}
-use Rattle.frame.specs.declared.Judge.the-variants.{Waiting, Due}
-use Rattle.frame.specs.declared.Judged.{Judged}
-use Rattle.frame.specs.declared.Ruling.{Ruling}
-use Rattle.frame.specs.declared.Ruling.the-variants as ruling
+use Rattle.frame_judge.specs.declared.KnownBorders.{KnownBorders}
+use Rattle.frame_judge.specs.declared.KnownBorders.the-variants.{Unsettled}
+use Rattle.frame_judge.specs.declared.Judge.{Judge}
+use Rattle.frame_judge.specs.declared.Judge.the-variants.{Waiting, Due}
+use Rattle.frame_judge.specs.declared.Judged.{Judged}
+use Rattle.frame_judge.specs.declared.Ruling.{Ruling}
+use Rattle.frame_judge.specs.declared.Ruling.the-variants as ruling
 use Rattle.frame_layout.specs.FrameLayout.{layout, kindsOf, lastPlace, kindAtPlace, standsAt}
-use Rattle.frame.specs.Frame.{opens, begun, passes, gives}
-use Rattle.frame.specs.Calls.{Line, called, after, isBreak, accepts, accepted, fits, laidFrom, IsFrame}
+use Rattle.frame_judge.specs.Frame.{opens, begun, passes, gives}
+use Rattle.frame_judge.specs.Calls.{Line, called, after, isBreak, accepts, accepted, isLaidOutAt, laidFrom, IsFrame}
 use Rattle.frame_layout.specs.FrameLength.{frame-length}
 use Rattle.frame_laws.specs.FrameLaws.{passes-high, after-snoc, accepted-snoc, opens-is, first-is, later-opens-none, due-with, sof-within, IsDue, Effect, wrongKind, wrongNumber, waits, breaks, strays, starts, restarts, goes, ends, effect, reached-passes, complete-frame}
 use Rattle.frame_handing.specs.Handing.{handedOver, asLines, handedLines}
 use Rattle.pixel_order.specs.declared.Way.the-variants.{ToPixels}
 use Rattle.pixel_order.specs.PixelOrderLaws.{reordered-length}
 use Rattle.picture_file.specs.PictureFile.{size}
-use Rattle.line_list.specs.Lines.{lineSize}
+use Rattle.line_records.specs.Lines.{lineSize}
 use Rattle.frame_row.specs.declared.Order.{Order}
 use Rattle.frame_row.specs.declared.Order.the-variants.{AsSent, OddFirst}
 use Rattle.frame_row.specs.declared.Keeping.{Keeping}
 use Rattle.frame_row.specs.declared.Keeping.the-variants.{VisiblePixels, WholeLines}
 use Rattle.frame_rows.specs.declared.Gatherer.{Gatherer}
-use Rattle.frame_row.specs.FrameRow.{pixelsOf, isVisible, rowOf, rowSize, rowFits, withRow}
-use Rattle.frame_rows.specs.FrameRows.{Shown, Output, nothing, complete, refused, AfterCall, moved, quiet, refuses, placeDue, onward, completing, completed, afterBreak, refusedBy, byRuling, handed, shownAs, handing, takeOf}
-use Rattle.frame_rows_laws.specs.Gathering.{rowsFrom, rowsOf, Given, call, calls, start, unlessRefused, shown, taken, linesOf, pictureOf, frameSize, CompletesRows, Every, WholeBody}
+use Rattle.frame_row.specs.FrameRow.{pixelsOf, isVisible, keptRow, rowSize, rowFits, withRow}
+use Rattle.frame_rows.specs.FrameRows.{Shown, Output, nothing, complete, refused, AfterCall, moved, quiet, refuses, placeDue, rowKept, completing, completed, afterBreak, refusedBy, byRuling, handed, shownAs, handing, takeOf}
+use Rattle.frame_rows_laws.specs.Gathering.{keptRowsFrom, rowsOf, Given, call, calls, start, unlessRefused, shown, taken, linesOf, pictureOf, frameSize, CompletesRows, Every, WholeBody}
 
 -- Lists of lines.
 
@@ -53,15 +53,15 @@ lines-append : (a b : List Shown) → linesOf (a ++ b) ≡ linesOf a ++ linesOf 
 lines-append [] b = refl
 lines-append (l ∷ a) b = ap (λ (x : List Line). l .given ∷ x) (lines-append a b)
 
-rows-append : (k : Keeping) (place : ℕ) (a b : List Shown) → rowsFrom k place (a ++ b) ≡ rowsFrom k place a ++ rowsFrom k (place + length a) b
+rows-append : (k : Keeping) (place : ℕ) (a b : List Shown) → keptRowsFrom k place (a ++ b) ≡ keptRowsFrom k place a ++ keptRowsFrom k (place + length a) b
 rows-append k place [] b =
     let e : place ≡ place + 0 = omega arith in
-    ap (λ (n : ℕ). rowsFrom k n b) e
+    ap (λ (n : ℕ). keptRowsFrom k n b) e
 rows-append k place (l ∷ a) b =
-    let row : List ℕ = rowOf k place (l .given .kind) (l .body) in
+    let row : List ℕ = keptRow k place (l .given .kind) (l .body) in
     let e : suc place + length a ≡ place + suc (length a) = omega arith in
-    ap (λ (x : List ℕ). row ++ x) (rows-append k (suc place) a b ∙ ap (λ (n : ℕ). rowsFrom k (suc place) a ++ rowsFrom k n b) e)
-    ∙ sym (append-assoc row (rowsFrom k (suc place) a) (rowsFrom k (place + suc (length a)) b))
+    ap (λ (x : List ℕ). row ++ x) (rows-append k (suc place) a b ∙ ap (λ (n : ℕ). keptRowsFrom k (suc place) a ++ keptRowsFrom k n b) e)
+    ∙ sym (append-assoc row (keptRowsFrom k (suc place) a) (keptRowsFrom k (place + suc (length a)) b))
 
 lines-length : (ls : List Shown) → length (linesOf ls) ≡ length ls
 lines-length [] = refl
@@ -103,14 +103,14 @@ since-append own (l ∷ a) b = since-append (cond (isFirst l) [] own ++ (l ∷ [
 latest-snoc : (ls : List Shown) (l : Shown) (t : Bool) → isFirst l ≡ t → latest (ls ++ (l ∷ [])) ≡ cond t [] (latest ls) ++ (l ∷ [])
 latest-snoc ls l t e = since-append [] ls (l ∷ []) ∙ ap (λ (x : Bool). cond x [] (latest ls) ++ (l ∷ [])) e
 
-pub stands : (b : Borders) (place : ℕ) (l : Line) → fits VV5404 b place l ≡ true → l .kind ≡ kindNumber (kindAtPlace VV5404 b place)
+pub stands : (b : Borders) (place : ℕ) (l : Line) → isLaidOutAt VV5404 b place l ≡ true → l .kind ≡ kindNumber (kindAtPlace VV5404 b place)
 stands b place l h = eqb-true (l .kind) _ (and-left _ _ (and-left _ _ h))
 
 since-laid : (b : Borders) (n : ℕ) (own ls : List Shown) → laidFrom VV5404 b (suc n) (linesOf ls) ≡ true → since own ls ≡ own ++ ls
 since-laid b n own [] h = sym (append-nil own)
 since-laid b n own (l ∷ ls) h =
     ap (λ (t : Bool). since (cond t [] own ++ (l ∷ [])) ls) (later-opens-none VV5404 b n (l .given) (and-left _ _ h))
-    ∙ since-laid b (suc n) (own ++ (l ∷ [])) ls (and-right (fits VV5404 b (suc n) (l .given)) _ h)
+    ∙ since-laid b (suc n) (own ++ (l ∷ [])) ls (and-right (isLaidOutAt VV5404 b (suc n) (l .given)) _ h)
     ∙ append-assoc own (l ∷ []) ls
 
 -- where lines end in a whole frame, that is the latest
@@ -119,7 +119,7 @@ frame-latest b earlier [] f = absurd (let e = f .0 in omega arith)
 frame-latest b earlier (l ∷ ls) f =
     since-append [] earlier (l ∷ ls)
     ∙ ap (λ (t : Bool). since (cond t [] (latest earlier) ++ (l ∷ [])) ls) (ap (λ (x : Line). opens (x .kind) (x .number)) (first-is VV5404 b (l .given) (and-left _ _ (f .1))))
-    ∙ since-laid b 0 (l ∷ []) ls (and-right (fits VV5404 b 0 (l .given)) _ (f .1))
+    ∙ since-laid b 0 (l ∷ []) ls (and-right (isLaidOutAt VV5404 b 0 (l .given)) _ (f .1))
 
 -- the last line of a frame is blank
 last-blank : (b : Borders) (k : ℕ) → standsAt VV5404 b (lastPlace VV5404) k ≡ true → k ≡ kindNumber BL
@@ -145,7 +145,7 @@ visibles [] = 0
 visibles (l ∷ ls) = counted (isVisible (l .kind)) + visibles ls
 
 -- a row is as long as its size says
-pub row-length : (k : Keeping) (place kind : ℕ) (body : List ℕ) → length body ≡ width → length (rowOf k place kind body) ≡ rowSize k kind
+pub row-length : (k : Keeping) (place kind : ℕ) (body : List ℕ) → length body ≡ width → length (keptRow k place kind body) ≡ rowSize k kind
 row-length (VisiblePixels o) place kind body h = either (isVisible kind)
   where
     either : (t : Bool) → length (cond t (pixelsOf o body) []) ≡ cond t width 0
@@ -153,24 +153,24 @@ row-length (VisiblePixels o) place kind body h = either (isVisible kind)
     either false = refl
 row-length WholeLines place kind body h = omega (arith, h)
 
-pixel-rows-length : (o : Order) (place : ℕ) (ls : List Shown) → Every WholeBody ls → length (rowsFrom (VisiblePixels o) place ls) ≡ visibles (linesOf ls) * width
+pixel-rows-length : (o : Order) (place : ℕ) (ls : List Shown) → Every WholeBody ls → length (keptRowsFrom (VisiblePixels o) place ls) ≡ visibles (linesOf ls) * width
 pixel-rows-length o place [] w = refl
 pixel-rows-length o place (l ∷ ls) w =
     let a = row-length (VisiblePixels o) place (l .given .kind) (l .body) (w .0) in
     let b = pixel-rows-length o (suc place) ls (w .1) in
     let c = counted-width (isVisible (l .given .kind)) in
-    length-append (rowOf (VisiblePixels o) place (l .given .kind) (l .body)) (rowsFrom (VisiblePixels o) (suc place) ls) ∙ omega (arith, a, b, c)
+    length-append (keptRow (VisiblePixels o) place (l .given .kind) (l .body)) (keptRowsFrom (VisiblePixels o) (suc place) ls) ∙ omega (arith, a, b, c)
   where
     counted-width : (t : Bool) → cond t width 0 ≡ counted t * width
     counted-width true = refl
     counted-width false = refl
 
-line-rows-length : (place : ℕ) (ls : List Shown) → Every WholeBody ls → length (rowsFrom WholeLines place ls) ≡ lineSize * length ls
+line-rows-length : (place : ℕ) (ls : List Shown) → Every WholeBody ls → length (keptRowsFrom WholeLines place ls) ≡ lineSize * length ls
 line-rows-length place [] w = refl
 line-rows-length place (l ∷ ls) w =
     let a = row-length WholeLines place (l .given .kind) (l .body) (w .0) in
     let b = line-rows-length (suc place) ls (w .1) in
-    length-append (rowOf WholeLines place (l .given .kind) (l .body)) (rowsFrom WholeLines (suc place) ls) ∙ omega (arith, a, b)
+    length-append (keptRow WholeLines place (l .given .kind) (l .body)) (keptRowsFrom WholeLines (suc place) ls) ∙ omega (arith, a, b)
 
 -- the visible lines of a layout
 abbrev visibleKinds : List Kind → ℕ
@@ -183,7 +183,7 @@ laid-visibles b place [] e h = sym (ap visibleKinds (drop-of-length-le (kindsOf 
 laid-visibles b place (l ∷ ls) e h =
     let g : place < length (kindsOf (layout VV5404 b)) = omega (arith, frame-length VV5404 b) in
     ap (λ (k : ℕ). counted (isVisible k) + visibles ls) (stands b place l (and-left _ _ h))
-    ∙ ap (λ (m : ℕ). counted (isVisible (kindNumber (kindAtPlace VV5404 b place))) + m) (laid-visibles b (suc place) ls (omega arith) (and-right (fits VV5404 b place l) _ h))
+    ∙ ap (λ (m : ℕ). counted (isVisible (kindNumber (kindAtPlace VV5404 b place))) + m) (laid-visibles b (suc place) ls (omega arith) (and-right (isLaidOutAt VV5404 b place l) _ h))
     ∙ sym (ap visibleKinds (drop-cons (kindsOf (layout VV5404 b)) place BL g))
 
 frame-visibles : (b : Borders) → visibleKinds (kindsOf (layout VV5404 b)) * width ≡ size (pictureOf b)
@@ -230,22 +230,22 @@ pub with-row-length : (k : Keeping) (kept place kind : ℕ) (body buffer : List 
 unfolding withRow
 with-row-length k kept place kind body buffer e =
     let q = row-fits k kept kind body buffer e in
-    put-length kept (rowSize k kind) buffer (rowOf k place kind body) (row-length k place kind body (q .0)) (q .1)
+    put-length kept (rowSize k kind) buffer (keptRow k place kind body) (row-length k place kind body (q .0)) (q .1)
 
 row-more : (k : Keeping) (own : List Shown) (place kept : ℕ) (buffer : List ℕ) (l : Shown) → KeptRows k own place kept buffer → rowFits k kept (l .given .kind) (l .body) buffer ≡ true
     → KeptRows k (own ++ (l ∷ [])) (place + 1) (kept + rowSize k (l .given .kind)) (withRow k kept place (l .given .kind) (l .body) buffer)
 unfolding withRow
 row-more k own place kept buffer l h e =
     let q = row-fits k kept (l .given .kind) (l .body) buffer e in
-    let row : List ℕ = rowOf k place (l .given .kind) (l .body) in
+    let row : List ℕ = keptRow k place (l .given .kind) (l .body) in
     let n : length row ≡ rowSize k (l .given .kind) = row-length k place (l .given .kind) (l .body) (q .0) in
     let here : place ≡ 0 + length own = omega (arith, h .count) in
     record {
       front =
           put-rows kept (rowSize k (l .given .kind)) buffer row n (q .1)
           ∙ ap (λ (t : List ℕ). t ++ row) (h .front)
-          ∙ ap (λ (i : ℕ). rowsOf k own ++ rowOf k i (l .given .kind) (l .body)) here
-          ∙ ap (λ (r : List ℕ). rowsOf k own ++ r) (sym (append-nil (rowOf k (0 + length own) (l .given .kind) (l .body))))
+          ∙ ap (λ (i : ℕ). rowsOf k own ++ keptRow k i (l .given .kind) (l .body)) here
+          ∙ ap (λ (r : List ℕ). rowsOf k own ++ r) (sym (append-nil (keptRow k (0 + length own) (l .given .kind) (l .body))))
           ∙ sym (rows-append k 0 own (l ∷ []));
       inside = omega (arith, q .1, with-row-length k kept place (l .given .kind) (l .body) buffer e);
       bodies = every-snoc WholeBody own l (h .bodies) (q .0);
@@ -350,8 +350,8 @@ module _ (k : Keeping) (ls : List Shown) (x : AfterCall) (h : HoldsRows k ls x) 
   going : (own : List Shown) (place kept : ℕ) (r : Judged) → called VV5404 (x .gatherer .judge) (l .given) ≡ r → accepts (r .ruling) ≡ true
       → KeptRows (x .gatherer .keeping) own place kept (x .buffer)
       → ((n : ℕ) (buffer : List ℕ) → KeptRows (x .gatherer .keeping) (own ++ (l ∷ [])) (place + 1) n buffer → Rows k (ls ++ (l ∷ [])) (r .judge) n buffer)
-      → HoldsNext k ls l (onward (x .gatherer) (r .judge) kept place (l .given .kind) (l .body) (x .buffer))
-  unfolding onward
+      → HoldsNext k ls l (rowKept (x .gatherer) (r .judge) kept place (l .given .kind) (l .body) (x .buffer))
+  unfolding rowKept
   going own place kept r e a rows then = by (rowFits (x .gatherer .keeping) kept (l .given .kind) (l .body) (x .buffer)) refl
     where
       n : ℕ
@@ -367,18 +367,18 @@ module _ (k : Keeping) (ls : List Shown) (x : AfterCall) (h : HoldsRows k ls x) 
 
   -- so the first line of a frame
   opening : (v : Ruling) → isFirst l ≡ true → called VV5404 (x .gatherer .judge) (l .given) ≡ gives begun v → accepts v ≡ true
-      → HoldsNext k ls l (onward (x .gatherer) begun 0 0 (l .given .kind) (l .body) (x .buffer))
+      → HoldsNext k ls l (rowKept (x .gatherer) begun 0 0 (l .given .kind) (l .body) (x .buffer))
   opening v f e a =
       going [] 0 0 (gives begun v) e a (no-rows (x .gatherer .keeping) (x .buffer))
       (λ n buffer r. first-rows f Unsettled 1 n buffer (subst (λ (m : Keeping). KeptRows m (l ∷ []) 1 n buffer) (h .keeping) r))
 
   -- and a line within one
   mid-frame : (place : ℕ) (b c : KnownBorders) → x .gatherer .judge ≡ Due place b → called VV5404 (x .gatherer .judge) (l .given) ≡ gives (Due (place + 1) c) ruling.Going
-      → HoldsNext k ls l (onward (x .gatherer) (Due (place + 1) c) (x .gatherer .kept) (placeDue (x .gatherer .judge)) (l .given .kind) (l .body) (x .buffer))
+      → HoldsNext k ls l (rowKept (x .gatherer) (Due (place + 1) c) (x .gatherer .kept) (placeDue (x .gatherer .judge)) (l .given .kind) (l .body) (x .buffer))
   mid-frame place b c q e =
       let s : Gatherer = x .gatherer in
       let later : isFirst l ≡ false = not-first-within place b (gives (Due (place + 1) c) ruling.Going) q e refl in
-      subst (λ (i : ℕ). HoldsNext k ls l (onward s (Due (place + 1) c) (s .kept) i (l .given .kind) (l .body) (x .buffer))) (sym (ap placeDue q))
+      subst (λ (i : ℕ). HoldsNext k ls l (rowKept s (Due (place + 1) c) (s .kept) i (l .given .kind) (l .body) (x .buffer))) (sym (ap placeDue q))
       (going (latest ls) place (s .kept) (gives (Due (place + 1) c) ruling.Going) e refl
       (subst (λ (m : Keeping). KeptRows m (latest ls) place (s .kept) (x .buffer)) (sym (h .keeping)) (kept-rows place b q))
       (λ n buffer r. later-rows later c (place + 1) n buffer (subst (λ (m : Keeping). KeptRows m (latest ls ++ (l ∷ [])) (place + 1) n buffer) (h .keeping) r)))
@@ -463,8 +463,8 @@ module _ (k : Keeping) (ls : List Shown) (x : AfterCall) (h : HoldsRows k ls x) 
       by _ strays e = takes _ 0 (x .buffer) e refl refl
       by _ (starts q f) e =
           let z : x .gatherer .kept ≡ 0 = subst (λ (j : Judge). Rows k ls j (x .gatherer .kept) (x .buffer)) q (h .rows) in
-          subst (λ (j : Judge). HoldsNext k ls l (onward (x .gatherer) begun (x .gatherer .kept) (placeDue j) (l .given .kind) (l .body) (x .buffer))) (sym q)
-          (subst (λ (n : ℕ). HoldsNext k ls l (onward (x .gatherer) begun n 0 (l .given .kind) (l .body) (x .buffer))) (sym z) (opening ruling.Going f e refl))
+          subst (λ (j : Judge). HoldsNext k ls l (rowKept (x .gatherer) begun (x .gatherer .kept) (placeDue j) (l .given .kind) (l .body) (x .buffer))) (sym q)
+          (subst (λ (n : ℕ). HoldsNext k ls l (rowKept (x .gatherer) begun n 0 (l .given .kind) (l .body) (x .buffer))) (sym z) (opening ruling.Going f e refl))
       by _ (restarts f) e = opening (ruling.Refused notTheLineDue) f e refl
       by _ (goes place b q d g) e = mid-frame place b _ q e
       by _ (ends place b q d g) e = ending place b q d g e

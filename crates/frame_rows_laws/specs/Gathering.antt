@@ -12,27 +12,27 @@ use Rattle.stream.specs.declared.Answer.{Answer}
 use Rattle.frame_layout.specs.declared.Borders.{Borders}
 use Rattle.frame_layout.specs.declared.Borders.the-variants.{On, Off}
 use Rattle.frame_layout.specs.FrameLayout.{lastPlace}
-use Rattle.frame.specs.Calls.{Line, IsFrame}
+use Rattle.frame_judge.specs.Calls.{Line, IsFrame}
 use Rattle.frame_handing.specs.Handing.{handedLines}
 use Rattle.picture_file.specs.PictureFile.{size}
 use Rattle.picture_file.specs.declared.Format.{Format}
 use Rattle.picture_file.specs.declared.Format.the-variants.{Bordered, Plain}
-use Rattle.line_list.specs.Lines.{lineSize}
+use Rattle.line_records.specs.Lines.{lineSize}
 use Rattle.frame_row.specs.declared.Keeping.{Keeping}
 use Rattle.frame_row.specs.declared.Keeping.the-variants.{VisiblePixels, WholeLines}
-use Rattle.frame_row.specs.FrameRow.{isVisible, rowOf}
+use Rattle.frame_row.specs.FrameRow.{isVisible, keptRow}
 use Rattle.frame_rows.specs.FrameRows.{Shown, Output, nothing, complete, refused, AfterCall, fresh, quiet, shownAs, takeOf}
 
 -- The rows of lines.
 
 -- the rows of lines from a place of the frame on, top to bottom and end to end
-abbrev pub rowsFrom : Keeping → ℕ → List Shown → List ℕ
-rowsFrom k place [] = []
-rowsFrom k place (l ∷ ls) = rowOf k place (l .given .kind) (l .body) ++ rowsFrom k (suc place) ls
+abbrev pub keptRowsFrom : Keeping → ℕ → List Shown → List ℕ
+keptRowsFrom k place [] = []
+keptRowsFrom k place (l ∷ ls) = keptRow k place (l .given .kind) (l .body) ++ keptRowsFrom k (suc place) ls
 
 -- the rows of a frame's lines
 abbrev pub rowsOf : Keeping → List Shown → List ℕ
-rowsOf k ls = rowsFrom k 0 ls
+rowsOf k ls = keptRowsFrom k 0 ls
 
 -- Calls.
 
@@ -57,14 +57,14 @@ start k buffer = quiet (fresh k) buffer
 -- The lines taken: those that 01 hands to the judge, of the calls that are not refused.
 
 -- a call that is refused
-abbrev pub isRefused : Output → Bool
-isRefused nothing = false
-isRefused (complete n rows) = false
-isRefused (refused n) = true
+abbrev pub isRefusedCall : Output → Bool
+isRefusedCall nothing = false
+isRefusedCall (complete n rows) = false
+isRefusedCall (refused n) = true
 
 -- lines, but none of a refused call
 abbrev pub unlessRefused : Output → List Shown → List Shown
-unlessRefused o ls = cond (isRefused o) [] ls
+unlessRefused o ls = cond (isRefusedCall o) [] ls
 
 -- lines, each with the body in the line buffer
 abbrev pub shown : List Line → List ℕ → List Shown

@@ -23,9 +23,9 @@ use Rattle.picture_file.specs.PictureFileLaws.{size-tells, picture-written}
 use Rattle.frame_row.specs.declared.Order.{Order}
 use Rattle.frame_row.specs.declared.Order.the-variants.{AsSent, OddFirst}
 use Rattle.frame_row.specs.declared.Keeping.the-variants.{VisiblePixels}
-use Rattle.frame_row.specs.FrameRow.{pixelsOf, isVisible, rowOf}
+use Rattle.frame_row.specs.FrameRow.{pixelsOf, isVisible, keptRow}
 use Rattle.frame_rows.specs.FrameRows.{Shown}
-use Rattle.frame_rows_laws.specs.Gathering.{rowsFrom, pictureOf, CompletesRows, Laid, Every}
+use Rattle.frame_rows_laws.specs.Gathering.{keptRowsFrom, pictureOf, CompletesRows, Laid, Every}
 
 -- Pixels.
 
@@ -56,17 +56,17 @@ order-pixels AsSent body e h = h
 order-pixels OddFirst body e h =
     pixels-listed (λ i. getD body (sourceOf ToPixels i) 0) width (λ i g. pixel-at body (sourceOf ToPixels i) (omega (arith, source-inside ToPixels i g)) h)
 
-row-pixels : (o : Order) (place : ℕ) (l : Shown) → Laid l → pixels (rowOf (VisiblePixels o) place (l .given .kind) (l .body)) ≡ true
+row-pixels : (o : Order) (place : ℕ) (l : Shown) → Laid l → pixels (keptRow (VisiblePixels o) place (l .given .kind) (l .body)) ≡ true
 row-pixels o place l h = by (isVisible (l .given .kind)) h
   where
     by : (t : Bool) → (t ≡ true → fits (rules VV5404 VL) (l .body) ≡ true) → pixels (cond t (pixelsOf o (l .body)) []) ≡ true
     by true f = order-pixels o (l .body) (fits-length (rules VV5404 VL) (l .body) (f refl) ∙ rules-length VV5404 VL) (fits-pixels width (l .body) (f refl))
     by false f = refl
 
-rows-pixels : (o : Order) (place : ℕ) (ls : List Shown) → Every Laid ls → pixels (rowsFrom (VisiblePixels o) place ls) ≡ true
+rows-pixels : (o : Order) (place : ℕ) (ls : List Shown) → Every Laid ls → pixels (keptRowsFrom (VisiblePixels o) place ls) ≡ true
 rows-pixels o place [] h = refl
 rows-pixels o place (l ∷ ls) h =
-    pixels-append (rowOf (VisiblePixels o) place (l .given .kind) (l .body)) (rowsFrom (VisiblePixels o) (suc place) ls) (row-pixels o place l (h .0))
+    pixels-append (keptRow (VisiblePixels o) place (l .given .kind) (l .body)) (keptRowsFrom (VisiblePixels o) (suc place) ls) (row-pixels o place l (h .0))
     (rows-pixels o (suc place) ls (h .1))
 
 every-back : (P : Shown → Type 0) (a b : List Shown) → Every P (a ++ b) → Every P b

@@ -12,22 +12,22 @@ use Rattle.line_code.specs.LineCode.{kindNumber}
 use Rattle.profile.specs.declared.Profile.the-variants.{VV5404}
 use Rattle.profile.specs.Profile.{width}
 use Rattle.frame_layout.specs.declared.Borders.{Borders}
-use Rattle.frame.specs.declared.Judge.{Judge}
-use Rattle.frame.specs.declared.Judge.the-variants.{Waiting, Due}
-use Rattle.frame.specs.declared.Judged.{Judged}
-use Rattle.frame.specs.declared.Ruling.{Ruling}
-use Rattle.frame.specs.declared.Ruling.the-variants as ruling
+use Rattle.frame_judge.specs.declared.Judge.{Judge}
+use Rattle.frame_judge.specs.declared.Judge.the-variants.{Waiting, Due}
+use Rattle.frame_judge.specs.declared.Judged.{Judged}
+use Rattle.frame_judge.specs.declared.Ruling.{Ruling}
+use Rattle.frame_judge.specs.declared.Ruling.the-variants as ruling
 use Rattle.frame_layout.specs.FrameLayout.{lastPlace}
-use Rattle.frame.specs.Frame.{begun, passes, judgeOf}
-use Rattle.frame.specs.Calls.{Line, line, called, rulings, IsFrame}
+use Rattle.frame_judge.specs.Frame.{begun, passes, judgeOf}
+use Rattle.frame_judge.specs.Calls.{Line, line, called, rulings, IsFrame}
 use Rattle.frame_laws.specs.CompleteFrames.{toComplete}
 use Rattle.frame_laws.specs.FrameLaws.{first-is, sof-within, Effect, wrongKind, wrongNumber, waits, breaks, strays, starts, restarts, goes, ends, effect, passes-after, reached-passes, frame-complete}
 use Rattle.frame_handing.specs.Handing.{handedLines}
 use Rattle.frame_row.specs.declared.Keeping.{Keeping}
 use Rattle.frame_rows.specs.declared.Gatherer.{Gatherer}
-use Rattle.frame_row.specs.FrameRow.{rowOf, rowSize, rowFits, withRow}
-use Rattle.frame_rows.specs.FrameRows.{Shown, complete, AfterCall, moved, quiet, placeDue, onward, completed, afterBreak, refusedBy, byRuling, handed}
-use Rattle.frame_rows_laws.specs.Gathering.{rowsFrom, rowsOf, Given, call, calls, start, shown, taken, linesOf, frameSize, Every, shownAll, WholeBody}
+use Rattle.frame_row.specs.FrameRow.{keptRow, rowSize, rowFits, withRow}
+use Rattle.frame_rows.specs.FrameRows.{Shown, complete, AfterCall, moved, quiet, placeDue, rowKept, completed, afterBreak, refusedBy, byRuling, handed}
+use Rattle.frame_rows_laws.specs.Gathering.{keptRowsFrom, rowsOf, Given, call, calls, start, shown, taken, linesOf, frameSize, Every, shownAll, WholeBody}
 use Rattle.frame_rows_laws.specs.FrameRowsLaws.{row-length, frame-size, put-rows, put-length, Rows, HoldsRows, Hands, none, one, hands, holds-calls, holds-start}
 
 -- The call that brings a line.
@@ -52,9 +52,9 @@ module _ (s : Gatherer) (l : Shown) (buffer : List ℕ) where
   fits-there kept e g = simp (eq-eqb _ _ e, le-leb _ _ g)
 
   goes-onward : (j : Judge) (kept place : ℕ) → length (l .body) ≡ width → kept + rowSize (s .keeping) (l .given .kind) ≤ length buffer
-      → onward s j kept place (l .given .kind) (l .body) buffer
+      → rowKept s j kept place (l .given .kind) (l .body) buffer
       ≡ quiet (moved s j (kept + rowSize (s .keeping) (l .given .kind))) (withRow (s .keeping) kept place (l .given .kind) (l .body) buffer)
-  unfolding onward
+  unfolding rowKept
   goes-onward j kept place e g = simp (fits-there kept e g)
 
   shows : called VV5404 (s .judge) (l .given) .ruling ≡ ruling.Complete → length (l .body) ≡ width → s .kept + rowSize (s .keeping) (l .given .kind) ≤ length buffer
@@ -102,7 +102,7 @@ only v (suc (suc m)) e = absurd (let z : _≡_ {A = ℕ} 1 (suc (suc (length (to
 -- what is said after these lines and a last one, the rows of the lines being put after those kept
 abbrev Said : Keeping → List Shown → Shown → Gatherer → List ℕ → AfterCall → Type 0
 Said k ls l s buffer y =
-    let rows : List ℕ = rowsFrom k (placeDue (s .judge)) (ls ++ (l ∷ [])) in
+    let rows : List ℕ = keptRowsFrom k (placeDue (s .judge)) (ls ++ (l ∷ [])) in
     y .output ≡ complete (s .kept + length rows) (take (s .kept) buffer ++ rows)
 
 -- the lines are due, up to the last one, and there is room for their rows
@@ -112,23 +112,23 @@ record Ready (k : Keeping) (ls : List Shown) (l : Shown) (s : Gatherer) (buffer 
   count : ℕ
   due : rulings VV5404 (s .judge) (linesOf (ls ++ (l ∷ []))) ≡ toComplete count
   bodies : Every WholeBody (ls ++ (l ∷ []))
-  room : s .kept + length (rowsFrom k (placeDue (s .judge)) (ls ++ (l ∷ []))) ≤ length buffer
+  room : s .kept + length (keptRowsFrom k (placeDue (s .judge)) (ls ++ (l ∷ []))) ≤ length buffer
 
 -- one line of them, whose row is put after those kept
 module _ (k : Keeping) (a : Shown) (ls : List Shown) (l : Shown) (s : Gatherer) (buffer : List ℕ) (j : Judge) (kept place : ℕ) (f : AfterCall → AfterCall) where
   row : List ℕ
-  row = rowOf k place (a .given .kind) (a .body)
+  row = keptRow k place (a .given .kind) (a .body)
 
   n : ℕ
   n = kept + rowSize k (a .given .kind)
 
   rest-rows : List ℕ
-  rest-rows = rowsFrom k (suc place) (ls ++ (l ∷ []))
+  rest-rows = keptRowsFrom k (suc place) (ls ++ (l ∷ []))
 
   after-row : s .keeping ≡ k → passes VV5404 j ≡ true → placeDue j ≡ suc place → (count : ℕ) → rulings VV5404 j (linesOf (ls ++ (l ∷ []))) ≡ toComplete count
       → length (a .body) ≡ width → Every WholeBody (ls ++ (l ∷ [])) → kept + length (row ++ rest-rows) ≤ length buffer
       → ((next : Gatherer) (held : List ℕ) → Ready k ls l next held → Said k ls l next held (f (quiet next held)))
-      → f (onward s j kept place (a .given .kind) (a .body) buffer) .output ≡ complete (kept + length (row ++ rest-rows)) (take kept buffer ++ (row ++ rest-rows))
+      → f (rowKept s j kept place (a .given .kind) (a .body) buffer) .output ≡ complete (kept + length (row ++ rest-rows)) (take kept buffer ++ (row ++ rest-rows))
   unfolding withRow row n rest-rows
   after-row e p d count due w ws room rest =
       let lengths : length (row ++ rest-rows) ≡ length row + length rest-rows = length-append row rest-rows in
@@ -136,7 +136,7 @@ module _ (k : Keeping) (a : Shown) (ls : List Shown) (l : Shown) (s : Gatherer) 
       let g : n ≤ length buffer = omega (arith, room, lengths, m) in
       let next : Gatherer = moved s j n in
       let held : List ℕ = withRow k kept place (a .given .kind) (a .body) buffer in
-      let here : rowsFrom k (placeDue j) (ls ++ (l ∷ [])) ≡ rest-rows = ap (λ (i : ℕ). rowsFrom k i (ls ++ (l ∷ []))) d in
+      let here : keptRowsFrom k (placeDue j) (ls ++ (l ∷ [])) ≡ rest-rows = ap (λ (i : ℕ). keptRowsFrom k i (ls ++ (l ∷ []))) d in
       let q : Ready k ls l next held = record {
         keeping = e;
         passing = p;
@@ -145,7 +145,7 @@ module _ (k : Keeping) (a : Shown) (ls : List Shown) (l : Shown) (s : Gatherer) 
         bodies = ws;
         room = omega (arith, room, lengths, m, ap length here, put-length kept (rowSize k (a .given .kind)) buffer row m g);
       } in
-      let same : onward s j kept place (a .given .kind) (a .body) buffer ≡ quiet next held =
+      let same : rowKept s j kept place (a .given .kind) (a .body) buffer ≡ quiet next held =
       goes-onward s a buffer j kept place w (subst (λ (o : Keeping). kept + rowSize o (a .given .kind) ≤ length buffer) (sym e) g)
       ∙ ap (λ (o : Keeping). quiet (moved s j (kept + rowSize o (a .given .kind))) (withRow o kept place (a .given .kind) (a .body) buffer)) e in
       ap (λ (z : AfterCall). f z .output) same
@@ -176,7 +176,7 @@ rest-shown : (on : AfterCall → List Given → AfterCall) → KeepsCalling on �
 unfolding withRow
 rest-shown on way k [] g l s buffer e r =
     let place : ℕ = placeDue (s .judge) in
-    let row : List ℕ = rowOf k place (l .given .kind) (l .body) in
+    let row : List ℕ = keptRow k place (l .given .kind) (l .body) in
     let m : length row ≡ rowSize k (l .given .kind) = row-length k place (l .given .kind) (l .body) (r .bodies .0) in
     let n : ℕ = s .kept + rowSize k (l .given .kind) in
     let room : n ≤ length buffer = omega (arith, r .room, m, ap length (append-nil row)) in
@@ -203,20 +203,20 @@ rest-shown on way k (a ∷ gs) g l s buffer e r =
 abbrev Clear : Gatherer → Type 0
 Clear s = s .judge ≡ Waiting → s .kept ≡ 0
 
-opened : (s : Gatherer) (l : Shown) (buffer : List ℕ) → passes VV5404 (s .judge) ≡ true → Clear s → l .given ≡ line (kindNumber SOF) 0
-    → handed s l buffer ≡ onward s begun 0 0 (l .given .kind) (l .body) buffer
+sof-begins-rows : (s : Gatherer) (l : Shown) (buffer : List ℕ) → passes VV5404 (s .judge) ≡ true → Clear s → l .given ≡ line (kindNumber SOF) 0
+    → handed s l buffer ≡ rowKept s begun 0 0 (l .given .kind) (l .body) buffer
 unfolding handed refusedBy afterBreak judgeOf
-opened s l buffer p c e = by (s .judge) refl p
+sof-begins-rows s l buffer p c e = by (s .judge) refl p
   where
     at : Judge → Line → AfterCall
     at j a = byRuling s l buffer (called VV5404 j a .judge) (called VV5404 j a .ruling)
 
-    by : (j : Judge) → s .judge ≡ j → passes VV5404 j ≡ true → handed s l buffer ≡ onward s begun 0 0 (l .given .kind) (l .body) buffer
+    by : (j : Judge) → s .judge ≡ j → passes VV5404 j ≡ true → handed s l buffer ≡ rowKept s begun 0 0 (l .given .kind) (l .body) buffer
     by Waiting q h =
         ap (λ (j : Judge). at j (l .given)) q
         ∙ ap (at Waiting) e
-        ∙ ap (λ (n : ℕ). onward s begun n (placeDue (s .judge)) (l .given .kind) (l .body) buffer) (c q)
-        ∙ ap (λ (j : Judge). onward s begun 0 (placeDue j) (l .given .kind) (l .body) buffer) q
+        ∙ ap (λ (n : ℕ). rowKept s begun n (placeDue (s .judge)) (l .given .kind) (l .body) buffer) (c q)
+        ∙ ap (λ (j : Judge). rowKept s begun 0 (placeDue j) (l .given .kind) (l .body) buffer) q
     by (Due place b) q h =
         ap (λ (j : Judge). at j (l .given)) q
         ∙ ap (at (Due place b)) e
@@ -245,7 +245,7 @@ first-line k b a ls l s buffer f r rest =
     let d : rulings VV5404 begun (linesOf (ls ++ (l ∷ []))) ≡ toComplete (lastPlace VV5404 - 1) =
     ap (λ (x : Line). rulings VV5404 (called VV5404 Waiting x .judge) (linesOf (ls ++ (l ∷ [])))) (sym i)
     ∙ tail-eq-of-cons-eq (frame-complete VV5404 b (linesOf ((a ∷ ls) ++ (l ∷ []))) (r .frame) .0) in
-    ap (λ (z : AfterCall). f z .output) (opened s a buffer (r .passing) (r .clear) i)
+    ap (λ (z : AfterCall). f z .output) (sof-begins-rows s a buffer (r .passing) (r .clear) i)
     ∙ after-row k a ls l s buffer begun 0 0 f (r .keeping) refl refl (lastPlace VV5404 - 1) d (r .bodies .0) (r .bodies .1) (omega (arith, n, r .room)) rest
     ∙ ap (λ (m : ℕ). complete m (rowsOf k ((a ∷ ls) ++ (l ∷ [])))) (omega (arith, n))
 

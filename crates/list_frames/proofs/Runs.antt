@@ -22,7 +22,7 @@ use Rattle.findings.specs.Findings.{takeOf}
 use Rattle.findings.specs.FindingsLaws.{nothing-found}
 use Rattle.list_news.specs.NewsLines.{newsLine, newsRoom}
 use Rattle.text.specs.Put.{Put}
-use Rattle.listers.specs.RunLaws.{ByReader, Along, ran, head-is, body-is, answer-is, along-next, along-end}
+use Rattle.lister_laws.specs.RunLaws.{ByReader, Along, ran, head-is, body-is, answer-is, along-next, along-end}
 use Rattle.list_frames.specs.declared.FrameLister.{FrameLister}
 use Rattle.list_frames.specs.declared.FramesListed.{FramesListed}
 use Rattle.list_frames.specs.FrameLister.{withOutcome, outcomeLine, afterNibble, nibbleText, frameLists, listedOf, ListsFrames}

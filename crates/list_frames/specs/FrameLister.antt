@@ -15,9 +15,9 @@ use Rattle.findings.specs.declared.Found.{Found}
 use Rattle.verdict.specs.declared.Verdict.{Verdict}
 use Rattle.findings.specs.Findings.{noFindings, takeOf, closeOf}
 use Rattle.verdict.specs.Verdict.{isLost, verdictOf}
-use Rattle.report.specs.Report.{reportRoom, reportOf}
+use Rattle.verdict_report.specs.Report.{reportRoom, reportOf}
 use Rattle.text.specs.Put.{onFront}
-use Rattle.listers.specs.Lists.{Lists, listerAfter, textAfter, takenFrom, ListedText, listedUpTo}
+use Rattle.lister_laws.specs.Lists.{Lists, listerAfter, textAfter, takenFrom, ListedText, listedUpTo}
 use Rattle.list_news.specs.NewsLines.{newsLine, newsRoom}
 use Rattle.list_frames.specs.declared.FrameLister.{FrameLister}
 use Rattle.list_frames.specs.declared.FramesListed.{FramesListed}

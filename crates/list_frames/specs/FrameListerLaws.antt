@@ -5,8 +5,8 @@ use Prim.Native.Nat.{ℕ, _≤_}
 use lib.ListN.{length}
 use Rattle.stream.specs.Written.{nibbles}
 use Rattle.reader_head.specs.Head.{passes}
-use Rattle.listers.specs.Lists.{listedUpTo, endToEnd, PieceCalls}
-use Rattle.listers.specs.ListsLaws.{from-within, none-within, pieces-listed}
+use Rattle.lister_laws.specs.Lists.{listedUpTo, endToEnd, PieceCalls}
+use Rattle.lister_laws.specs.ListsLaws.{from-within, none-within, pieces-listed}
 use Rattle.list_frames.specs.declared.FrameLister.{FrameLister}
 use Rattle.list_frames.specs.FrameLister.{frameLists, listAfter, listText, takenOf, listedOf}
 

@@ -9,14 +9,14 @@ ghost use Prim.Native.Nat.{_+_, _≤_};
 ghost use lib.ListN.{length, drop};
 ghost use Rattle.stream.specs.Written.{nibbles};
 ghost use Rattle.verdict.specs.Verdict.{verdictOf};
-ghost use Rattle.report.specs.Report.{reportRoom, reportOf};
+ghost use Rattle.verdict_report.specs.Report.{reportRoom, reportOf};
 ghost use Rattle.list_news.specs.NewsLines.{newsLine, newsRoom};
 ghost use Rattle.text.specs.Put.{Put};
 ghost use Rattle.list_frames.specs.FrameLister.{ListsFrames, freshLister, listedOf, finishedOf};
 use findings::Findings;
+use frame_tally::News;
 use profile::Profile;
 use reader::Reader;
-use tally::News;
 use verdict::Verdict;
 
 // A reader, and what was found in its answers.
@@ -54,7 +54,7 @@ impl FrameLister {
             let mut findings = self.findings;
             let mut used: usize = 0;
             let mut at = from;
-            while listers::goes_on(input.len(), at, list_news::ROOM, out.len() - used) {
+            while lister_laws::goes_on(input.len(), at, list_news::ROOM, out.len() - used) {
                 let t = capture_bytes::run(head, &mut body, input, at, &mut line);
                 head = t.head;
                 let answer = t.answer;
@@ -115,7 +115,7 @@ impl FrameLister {
 }
 
 // Room for the last text: the last line, and the report.
-pub const END: usize = list_news::ROOM + report::ROOM;
+pub const END: usize = list_news::ROOM + verdict_report::ROOM;
 
 // Puts the line on a frame at a place, and gives the place after it.
 fn put_news(news: News, out: &mut [u8], at: usize) -> usize
@@ -131,5 +131,5 @@ fn put_findings(findings: Findings, lost: bool, out: &mut [u8], at: usize) -> us
     ensures { λ r. ⌜ Put (now (out .entry)) at (reportOf findings lost (verdictOf findings lost)) r (now (out .exit)) ⌝ }
 {
     let verdict = Verdict::of(findings, lost);
-    at + report::put_report(findings, lost, verdict, &mut out[at..])
+    at + verdict_report::put_report(findings, lost, verdict, &mut out[at..])
 }

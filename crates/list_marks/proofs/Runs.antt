@@ -18,7 +18,7 @@ use Rattle.run.specs.Gives.{LentRunGives}
 use Rattle.reader_laws.specs.ByRuns.{took}
 use Rattle.list_rows.specs.Rows.{rowRoom, rowOf}
 use Rattle.text.specs.Put.{Put}
-use Rattle.listers.specs.RunLaws.{ByReader, Along, ran, head-is, body-is, answer-is, along-next, along-end}
+use Rattle.lister_laws.specs.RunLaws.{ByReader, Along, ran, head-is, body-is, answer-is, along-next, along-end}
 use Rattle.list_marks.specs.declared.MarkLister.{MarkLister}
 use Rattle.list_marks.specs.declared.MarksListed.{MarksListed}
 use Rattle.list_marks.specs.MarkLister.{marksWith, withOutcome, outcomeRow, afterNibble, nibbleText, markLists, listedOf, ListsMarks}

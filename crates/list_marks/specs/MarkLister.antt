@@ -13,7 +13,7 @@ use Rattle.stream.specs.Answers.{Outcome, answerFor, isAnswer}
 use Rattle.reader_head.specs.Head.{passes}
 use Rattle.reader.specs.Reader.{Took, freshReader, feedOf, finishOf}
 use Rattle.text.specs.Put.{onFront}
-use Rattle.listers.specs.Lists.{Lists, listerAfter, textAfter, takenFrom, ListedText, listedUpTo}
+use Rattle.lister_laws.specs.Lists.{Lists, listerAfter, textAfter, takenFrom, ListedText, listedUpTo}
 use Rattle.list_rows.specs.Rows.{rowRoom, rowOf}
 use Rattle.list_marks.specs.declared.MarkLister.{MarkLister}
 use Rattle.list_marks.specs.declared.MarksListed.{MarksListed}

@@ -5,9 +5,9 @@
 ghost use lib.ListN.{length};
 ghost use Rattle.text.specs.Put.{Puts, AtFront};
 ghost use Rattle.list_news.specs.NewsLines.{frameWords, bordersWord, brokenLineWords, reasonWords, completeLine, brokenLineOf, newsLine, newsIfRoom};
-use frame::KnownBorders;
+use frame_judge::KnownBorders;
 use frame_layout::Borders;
-use tally::News;
+use frame_tally::News;
 use text::put;
 use text::put_decimal;
 

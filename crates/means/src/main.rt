@@ -1,10 +1,10 @@
 // A table of half-line means (paper 02, A10): reads the bytes of a VV5300 capture from a file or from standard input, and writes a row for each
-// visible line, as mean_lister says it. A capture without one has the names of the columns alone, and a line on standard error says so.
+// visible line, as list_means says it. A capture without one has the names of the columns alone, and a line on standard error says so.
 // Arguments that are not understood print the usage on standard error, and nothing else. An open, a read or a write that fails is told once,
 // on standard error, and ends the table.
 use command_words::Asked;
 use libc::STDOUT_FILENO;
-use mean_lister::MeanLister;
+use list_means::MeanLister;
 use profile::Profile;
 
 fn main() {

@@ -12,29 +12,29 @@ use lib.Dec.{ltb, leb·zero, leb·suc-suc}
 use lib.ListN.{length, drop, getD}
 use lib.Seq.{drop-cons}
 use Rattle.bits.specs.Tests.{or-left, or-right}
-use Rattle.message_data.specs.Registers.{registerCount, lastIndex, next, passes, reached, put, stored, differs, someDiffers}
+use Rattle.message_data.specs.Registers.{registerCount, lastIndex, next, runsPast, reached, put, stored, differs, someDiffers}
 
 -- Where data ends.
 
-pub passes-counts : (i : ℕ) (bytes : List ℕ) → i ≤ registerCount → passes true i bytes ≡ ltb (registerCount - i) (length bytes)
+pub runs-past-counts : (i : ℕ) (bytes : List ℕ) → i ≤ registerCount → runsPast true i bytes ≡ ltb (registerCount - i) (length bytes)
 unfolding next
-passes-counts i [] h = sym (le-ltb (registerCount - i) 0 (omega arith))
-passes-counts i (b ∷ bytes) h =
+runs-past-counts i [] h = sym (le-ltb (registerCount - i) 0 (omega arith))
+runs-past-counts i (b ∷ bytes) h =
     ⊎-elim (λ (e : i ≡ registerCount). rw e (sym (leb·suc-suc 0 (length bytes) ∙ leb·zero (length bytes))))
     (λ (l : i < registerCount).
     let e : registerCount - i ≡ suc (registerCount - (i + 1)) = omega arith in
-    rw (le-ltb lastIndex i (omega arith), e) (passes-counts (i + 1) bytes (omega arith) ∙ sym (leb·suc-suc (suc (registerCount - (i + 1))) (length bytes))))
+    rw (le-ltb lastIndex i (omega arith), e) (runs-past-counts (i + 1) bytes (omega arith) ∙ sym (leb·suc-suc (suc (registerCount - (i + 1))) (length bytes))))
     (eq-or-lt-of-le h)
 
 -- from an index past 127 on, the first byte does
-pub passes-past : (increment : Bool) (i : ℕ) (bytes : List ℕ) → lastIndex < i → passes increment i bytes ≡ ltb 0 (length bytes)
-passes-past increment i [] h = sym (le-ltb 0 0 (omega arith))
-passes-past increment i (b ∷ bytes) h = rw (lt-ltb lastIndex i h) (sym (lt-ltb 0 (length (b ∷ bytes)) (omega arith)))
+pub runs-past-beyond : (increment : Bool) (i : ℕ) (bytes : List ℕ) → lastIndex < i → runsPast increment i bytes ≡ ltb 0 (length bytes)
+runs-past-beyond increment i [] h = sym (le-ltb 0 0 (omega arith))
+runs-past-beyond increment i (b ∷ bytes) h = rw (lt-ltb lastIndex i h) (sym (lt-ltb 0 (length (b ∷ bytes)) (omega arith)))
 
-pub passes-still : (i : ℕ) (bytes : List ℕ) → i ≤ lastIndex → passes false i bytes ≡ false
+pub runs-past-still : (i : ℕ) (bytes : List ℕ) → i ≤ lastIndex → runsPast false i bytes ≡ false
 unfolding next
-passes-still i [] h = refl
-passes-still i (b ∷ bytes) h = rw (le-ltb lastIndex i h) (passes-still i bytes h)
+runs-past-still i [] h = refl
+runs-past-still i (b ∷ bytes) h = rw (le-ltb lastIndex i h) (runs-past-still i bytes h)
 
 pub reached-counts : (i : ℕ) (bytes : List ℕ) → reached true i bytes ≡ i + length bytes
 unfolding next
@@ -65,15 +65,15 @@ past-alike increment i (b ∷ bytes) registers h =
 -- One byte after another.
 
 module _ (increment : Bool) (bytes : List ℕ) (i : ℕ) (h : i < length bytes) where
-  pub passes-step : (at : ℕ) → passes increment at (drop i bytes) ≡ (ltb lastIndex at || passes increment (next increment at) (drop (i + 1) bytes))
-  passes-step at = rw (add-one i, drop-cons bytes i 0)
+  pub runs-past-step : (at : ℕ) → runsPast increment at (drop i bytes) ≡ (ltb lastIndex at || runsPast increment (next increment at) (drop (i + 1) bytes))
+  runs-past-step at = rw (add-one i, drop-cons bytes i 0)
 
   -- data that does not pass the last index: neither does its first byte, nor the rest
-  pub passes-here : (at : ℕ) → passes increment at (drop i bytes) ≡ false → at ≤ lastIndex
-  passes-here at e = ltb-false lastIndex at (or-left (ltb lastIndex at) (passes increment (next increment at) (drop (i + 1) bytes)) (sym (passes-step at) ∙ e))
+  pub runs-past-here : (at : ℕ) → runsPast increment at (drop i bytes) ≡ false → at ≤ lastIndex
+  runs-past-here at e = ltb-false lastIndex at (or-left (ltb lastIndex at) (runsPast increment (next increment at) (drop (i + 1) bytes)) (sym (runs-past-step at) ∙ e))
 
-  pub passes-after : (at : ℕ) → passes increment at (drop i bytes) ≡ false → passes increment (next increment at) (drop (i + 1) bytes) ≡ false
-  passes-after at e = or-right (ltb lastIndex at) _ (sym (passes-step at) ∙ e)
+  pub runs-past-after : (at : ℕ) → runsPast increment at (drop i bytes) ≡ false → runsPast increment (next increment at) (drop (i + 1) bytes) ≡ false
+  runs-past-after at e = or-right (ltb lastIndex at) _ (sym (runs-past-step at) ∙ e)
 
   pub stored-step : (at : ℕ) (registers : List ℕ)
       → stored increment at (drop i bytes) registers ≡ stored increment (next increment at) (drop (i + 1) bytes) (put registers at (getD bytes i 0))

@@ -24,9 +24,9 @@ unfoldable pub next : Bool → ℕ → ℕ
 next increment i = cond increment (i + 1) i
 
 -- some byte would stand at an index past 127
-abbrev pub passes : Bool → ℕ → List ℕ → Bool
-passes increment i [] = false
-passes increment i (b ∷ bytes) = ltb lastIndex i || passes increment (next increment i) bytes
+abbrev pub runsPast : Bool → ℕ → List ℕ → Bool
+runsPast increment i [] = false
+runsPast increment i (b ∷ bytes) = ltb lastIndex i || runsPast increment (next increment i) bytes
 
 -- the index behind the data
 abbrev pub reached : Bool → ℕ → List ℕ → ℕ
@@ -48,7 +48,7 @@ stored increment i (b ∷ bytes) registers = stored increment (next increment i)
 
 -- a write's data stored whole, or where it would pass 127 not at all
 unfoldable pub storedWhole : Bool → ℕ → List ℕ → List ℕ → List ℕ
-storedWhole increment i bytes registers = cond (passes increment i bytes) registers (stored increment i bytes registers)
+storedWhole increment i bytes registers = cond (runsPast increment i bytes) registers (stored increment i bytes registers)
 
 -- a byte read at an index differs: a read of the sensor's own is not compared, and neither is one past 127
 unfoldable pub differs : List ℕ → ℕ → ℕ → Bool

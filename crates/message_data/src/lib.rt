@@ -6,7 +6,7 @@
 ghost use mathlib.Core.Path.{_≡_};
 ghost use mathlib.Core.Bool.{false};
 ghost use Prim.Native.Nat.{_≤_};
-ghost use Rattle.message_data.specs.Registers.{lastIndex, next, passes, reached, left, put, stored, storedWhole, differs, someDiffers};
+ghost use Rattle.message_data.specs.Registers.{lastIndex, next, runsPast, reached, left, put, stored, storedWhole, differs, someDiffers};
 
 // How many registers there are, and the last one's index.
 const REGISTERS: u8 = 128;
@@ -17,8 +17,8 @@ pub const LAST_INDEX: u8 = 127;
 const FIRST_SETTABLE: u8 = 5;
 
 // Whether a byte of the data would stand past the last index.
-pub fn passes(increment: bool, index: u8, bytes: &[u8]) -> bool
-    ensures { λ r. ⌜ r ≡ passes increment index (now (bytes .entry)) ⌝ }
+pub fn runs_past(increment: bool, index: u8, bytes: &[u8]) -> bool
+    ensures { λ r. ⌜ r ≡ runsPast increment index (now (bytes .entry)) ⌝ }
 {
     if LAST_INDEX < index {
         return 0 < bytes.len();
@@ -47,9 +47,9 @@ pub fn left(increment: bool, index: u8, bytes: &[u8]) -> u8
 
 // Stores a write's data whole, or where a byte of it would stand past the last index, none of it: whether it would.
 pub fn store(registers: &mut [u8; 128], increment: bool, index: u8, bytes: &[u8]) -> bool
-    ensures { λ r. ⌜ (r ≡ passes increment index (now (bytes .entry))) × (now (registers .exit) ≡ storedWhole increment index (now (bytes .entry)) (now (registers .entry))) ⌝ }
+    ensures { λ r. ⌜ (r ≡ runsPast increment index (now (bytes .entry))) × (now (registers .exit) ≡ storedWhole increment index (now (bytes .entry)) (now (registers .entry))) ⌝ }
 {
-    if passes(increment, index, bytes) {
+    if runs_past(increment, index, bytes) {
         return true;
     }
     put_all(registers, increment, index, bytes);
@@ -77,7 +77,7 @@ pub fn some_differs(registers: &[u8; 128], increment: bool, index: u8, bytes: &[
 
 // Stores data that does not pass the last index.
 fn put_all(registers: &mut [u8; 128], increment: bool, index: u8, bytes: &[u8])
-    requires { ⌜ passes increment index (now bytes) ≡ false ⌝ }
+    requires { ⌜ runsPast increment index (now bytes) ≡ false ⌝ }
     ensures { λ _. ⌜ now (registers .exit) ≡ stored increment index (now (bytes .entry)) (now (registers .entry)) ⌝ }
 {
     let mut at = index;

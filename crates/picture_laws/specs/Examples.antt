@@ -12,9 +12,9 @@ use Rattle.stream.specs.Written.{stream}
 use Rattle.stream.specs.Nibbles.{AllNibbles, no-nibble, and-nibble}
 use Rattle.frame_layout.specs.declared.Borders.{Borders}
 use Rattle.frame_layout.specs.FrameLayout.{layout, kindsOf}
-use Rattle.frame.specs.Calls.{Line, line, IsFrame, numberedFrom}
+use Rattle.frame_judge.specs.Calls.{Line, line, IsFrame, numberedFrom}
 use Rattle.frame_laws.specs.FrameLaws.{frame-counted}
-use Rattle.slip.specs.Examples.{samplesFrom, sampleFrame, frame-writable}
+use Rattle.slip_laws.specs.Examples.{samplesFrom, sampleFrame, frame-writable}
 use Rattle.picture_file.specs.PictureFile.{size}
 use Rattle.frame_row.specs.declared.Order.{Order}
 use Rattle.frame_row.specs.declared.Keeping.the-variants.{VisiblePixels}

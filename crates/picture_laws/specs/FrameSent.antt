@@ -12,10 +12,10 @@ use Rattle.stream.specs.Written.{Sent, AllWritable}
 use Rattle.recovery.specs.Calls.{LineOut}
 use Rattle.lent_buffer.specs.Filled.{used}
 use Rattle.frame_layout.specs.declared.Borders.{Borders}
-use Rattle.frame.specs.Frame.{opens}
-use Rattle.frame.specs.Calls.{line, IsFrame}
+use Rattle.frame_judge.specs.Frame.{opens}
+use Rattle.frame_judge.specs.Calls.{line, IsFrame}
 use Rattle.picture_file.specs.PictureFile.{imageOf, writeOf}
-use Rattle.line_list.specs.Lines.{inTwo}
+use Rattle.line_records.specs.Lines.{inTwo}
 use Rattle.frame_row.specs.declared.Order.{Order}
 use Rattle.frame_row.specs.declared.Keeping.{Keeping}
 use Rattle.frame_row.specs.declared.Keeping.the-variants.{VisiblePixels, WholeLines}

@@ -35,12 +35,12 @@ use Rattle.refinement.specs.Refine.{Follows}
 use Rattle.refinement.specs.RefineLaws.{fresh-follows, feed-steps}
 use Rattle.frame_layout.specs.declared.Borders.{Borders}
 use Rattle.frame_handing.specs.declared.Handed.the-variants as hand
-use Rattle.frame.specs.declared.Judge.{Judge}
-use Rattle.frame.specs.declared.Judge.the-variants.{Waiting, Due}
-use Rattle.frame.specs.declared.Judged.{Judged}
-use Rattle.frame.specs.Frame.{passes, refuses, brokenKind, judgeOf}
-use Rattle.frame.specs.Calls.{called, IsFrame}
-use Rattle.frame.specs.Calls as calls
+use Rattle.frame_judge.specs.declared.Judge.{Judge}
+use Rattle.frame_judge.specs.declared.Judge.the-variants.{Waiting, Due}
+use Rattle.frame_judge.specs.declared.Judged.{Judged}
+use Rattle.frame_judge.specs.Frame.{passes, refuses, brokenKind, judgeOf}
+use Rattle.frame_judge.specs.Calls.{called, IsFrame}
+use Rattle.frame_judge.specs.Calls as calls
 use Rattle.frame_laws.specs.FrameLaws.{reached-passes}
 use Rattle.frame_handing.specs.Handing.{isBrokenLine, handedLines}
 use Rattle.picture_file.specs.PictureFile.{size}
@@ -48,10 +48,10 @@ use Rattle.frame_row.specs.declared.Order.{Order}
 use Rattle.frame_row.specs.declared.Keeping.{Keeping}
 use Rattle.frame_row.specs.declared.Keeping.the-variants.{VisiblePixels, WholeLines}
 use Rattle.frame_rows.specs.declared.Gatherer.{Gatherer}
-use Rattle.frame_row.specs.FrameRow.{rowOf}
+use Rattle.frame_row.specs.FrameRow.{keptRow}
 use Rattle.frame_rows.specs.FrameRows.{Shown, complete, AfterCall, quiet, afterBreak, refusedBy, byRuling, handed, handing, takeOf}
 use Rattle.frame_rows.specs.FrameRows as rows
-use Rattle.frame_rows_laws.specs.Gathering.{rowsFrom, rowsOf, Given, call, start, shown, taken, shownAll, linesOf, pictureOf, frameSize, CompletesRows, Every, WholeBody, Laid}
+use Rattle.frame_rows_laws.specs.Gathering.{keptRowsFrom, rowsOf, Given, call, start, shown, taken, shownAll, linesOf, pictureOf, frameSize, CompletesRows, Every, WholeBody, Laid}
 use Rattle.frame_rows_laws.specs.Gathering as gathering
 use Rattle.frame_rows_laws.specs.FrameRowsLaws.{frame-size, holds-calls, holds-start}
 use Rattle.frame_rows_laws.specs.PictureLaws.{rows-written}
@@ -219,7 +219,7 @@ regroup a u g t l =
 
 -- The rows.
 
-row-sent : (k : Keeping) (place : ℕ) (kind : Kind) (body : List ℕ) → rowOf k place (kindNumber kind) body ≡ sentRow k place kind body
+row-sent : (k : Keeping) (place : ℕ) (kind : Kind) (body : List ℕ) → keptRow k place (kindNumber kind) body ≡ sentRow k place kind body
 row-sent (VisiblePixels o) place BL body = refl
 row-sent (VisiblePixels o) place BK body = refl
 row-sent (VisiblePixels o) place VL body = refl
@@ -227,7 +227,7 @@ row-sent (VisiblePixels o) place SOF body = refl
 row-sent (VisiblePixels o) place EOF body = refl
 row-sent WholeLines place kind body = refl
 
-rows-sent-from : (k : Keeping) (place : ℕ) (ss : List Sent) → rowsFrom k place (map shownLine ss) ≡ sentFrom k place ss
+rows-sent-from : (k : Keeping) (place : ℕ) (ss : List Sent) → keptRowsFrom k place (map shownLine ss) ≡ sentFrom k place ss
 rows-sent-from k place [] = refl
 rows-sent-from k place (s ∷ ss) = ap₂ _++_ (row-sent k place (s .kind) (s .body)) (rows-sent-from k (suc place) ss)
 

@@ -31,13 +31,13 @@ use Rattle.stream.specs.Stream.{Completed, not-yet, mark, detect, State, answer
 use Rattle.recovery.specs.Calls.{LineOut, lineIn}
 use Rattle.recovery.specs.Collected.{lines}
 use Rattle.frame_handing.specs.declared.Handed.the-variants as hand
-use Rattle.frame.specs.declared.Judge.{Judge}
-use Rattle.frame.specs.declared.Judge.the-variants.{Waiting}
-use Rattle.frame.specs.declared.Judged.{Judged}
-use Rattle.frame.specs.declared.Ruling.the-variants as ruling
-use Rattle.frame.specs.Frame.{brokenKind, opens, gives, judgeOf}
-use Rattle.frame.specs.Calls.{called}
-use Rattle.frame.specs.Calls as judged
+use Rattle.frame_judge.specs.declared.Judge.{Judge}
+use Rattle.frame_judge.specs.declared.Judge.the-variants.{Waiting}
+use Rattle.frame_judge.specs.declared.Judged.{Judged}
+use Rattle.frame_judge.specs.declared.Ruling.the-variants as ruling
+use Rattle.frame_judge.specs.Frame.{brokenKind, opens, gives, judgeOf}
+use Rattle.frame_judge.specs.Calls.{called}
+use Rattle.frame_judge.specs.Calls as judged
 use Rattle.frame_handing.specs.Handing.{isBrokenLine}
 use Rattle.frame_rows.specs.declared.Gatherer.{Gatherer}
 use Rattle.frame_rows.specs.FrameRows.{Shown, AfterCall, byRuling, handed, shownAs, handing, takeOf}

@@ -10,16 +10,16 @@ use Rattle.profile.specs.Profile.{longest}
 use Rattle.stream.specs.Answers.{Outcome, answerFor, bufferAfter}
 use Rattle.reader.specs.declared.Reader.{Reader}
 use Rattle.reader.specs.Reader.{Took, feedOf}
-use Rattle.frame.specs.declared.Judge.{Judge}
-use Rattle.frame.specs.declared.Judge.the-variants.{Waiting, Due}
-use Rattle.frame.specs.declared.Ruling.{Ruling}
-use Rattle.frame.specs.declared.Ruling.the-variants as ruling
-use Rattle.frame.specs.Calls.{called}
-use Rattle.frame.specs.Frame.{breaksFrame}
+use Rattle.frame_judge.specs.declared.Judge.{Judge}
+use Rattle.frame_judge.specs.declared.Judge.the-variants.{Waiting, Due}
+use Rattle.frame_judge.specs.declared.Ruling.{Ruling}
+use Rattle.frame_judge.specs.declared.Ruling.the-variants as ruling
+use Rattle.frame_judge.specs.Calls.{called}
+use Rattle.frame_judge.specs.Frame.{breaksFrame}
 use Rattle.frame_handing.specs.Handing.{handedLines}
 use Rattle.frame_rows.specs.declared.Gatherer.{Gatherer}
 use Rattle.frame_row.specs.FrameRow.{rowSize, rowFits, withRow}
-use Rattle.frame_rows.specs.FrameRows.{Shown, Output, nothing, AfterCall, moved, quiet, refuses, placeDue, onward, completing, completed, afterBreak, refusedBy, byRuling, handed}
+use Rattle.frame_rows.specs.FrameRows.{Shown, Output, nothing, AfterCall, moved, quiet, refuses, placeDue, rowKept, completing, completed, afterBreak, refusedBy, byRuling, handed}
 use Rattle.frame_rows_laws.specs.Gathering.{Given, call, calls, shown}
 use Rattle.frame_rows_laws.specs.FrameRowsLaws.{with-row-length, Hands, none, one, hands}
 use Rattle.frame_rows_laws.specs.WholeFrameLaws.{KeepsCalling}
@@ -94,8 +94,8 @@ either-long : (b : Bool) (x y : AfterCall) (n : ℕ) → (b ≡ true → length 
 either-long true x y n h g = h refl
 either-long false x y n h g = g
 
-row-long : (s : Gatherer) (j : Judge) (kept place kind : ℕ) (body held : List ℕ) → length (onward s j kept place kind body held .buffer) ≡ length held
-unfolding onward
+row-long : (s : Gatherer) (j : Judge) (kept place kind : ℕ) (body held : List ℕ) → length (rowKept s j kept place kind body held .buffer) ≡ length held
+unfolding rowKept
 row-long s j kept place kind body held =
     either-long (rowFits (s .keeping) kept kind body held) (quiet (moved s j (kept + rowSize (s .keeping) kind)) (withRow (s .keeping) kept place kind body held)) (refuses s noRoom held)
     (length held) (with-row-length (s .keeping) kept place kind body held) refl

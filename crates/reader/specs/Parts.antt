@@ -4,14 +4,14 @@ use Prim.Native.Nat.{ℕ}
 use lib.ListN.{take, drop}
 use Rattle.stream.specs.Answers.{isLine}
 use Rattle.reader.specs.declared.Reader.{Reader}
-use Rattle.reader_head.specs.Head.{opened}
+use Rattle.reader_head.specs.Head.{openedBy}
 use Rattle.reader.specs.Reader.{Took, readerOf, completeOutcome}
 
 -- a mark with this code is complete, with the body as it then is: the mark before it is answered
 abbrev pub completing : Reader → ℕ → Took
 completing r code =
     record {
-      reader = readerOf (opened (r .head) code (isLine (completeOutcome (r .head) (r .body) code))) (r .body);
+      reader = readerOf (openedBy (r .head) code (isLine (completeOutcome (r .head) (r .body) code))) (r .body);
       outcome = completeOutcome (r .head) (r .body) code;
     }
 

@@ -16,7 +16,7 @@ use Rattle.stream.specs.Answers.{Outcome, nothing, refused, isLine}
 use Rattle.mark_text.specs.MarkText.{nothingKept}
 use Rattle.mark_answer.specs.KeptAnswer.{keptAnswer}
 use Rattle.reader_head.specs.declared.Head.{Head}
-use Rattle.reader_head.specs.Head.{isMark, slide, leaveKept, leaveBody, shifted, opened, passes, flushed}
+use Rattle.reader_head.specs.Head.{showsMark, slide, leaveKept, leaveBody, shifted, openedBy, passes, flushed}
 use Rattle.reader.specs.declared.Reader.{Reader}
 
 -- a reader after a call, and what the call answered
@@ -53,11 +53,11 @@ completeOutcome h body code = keptAnswer (h .profile) (h .at) (h .count - 7) (le
 
 -- the state after a nibble that is taken, and what is answered: a mark is complete, or not
 unfoldable pub takeHead : Head → Bool → ℕ → Head
-takeHead h handed n = cond (isMark (slide (h .window) n)) (opened h (slide (h .window) n % 256) handed) (shifted h n)
+takeHead h handed n = cond (showsMark (slide (h .window) n)) (openedBy h (slide (h .window) n % 256) handed) (shifted h n)
 
 -- what taking a nibble brings: a mark's answer where it completes the next mark
 unfoldable pub takeOutcome : Head → List ℕ → ℕ → Outcome
-takeOutcome h body n = cond (isMark (slide (h .window) n)) (completeOutcome h (leaveBody h body) (slide (h .window) n % 256)) nothing
+takeOutcome h body n = cond (showsMark (slide (h .window) n)) (completeOutcome h (leaveBody h body) (slide (h .window) n % 256)) nothing
 
 -- a nibble taken
 abbrev pub taking : Reader → ℕ → Took

@@ -13,20 +13,20 @@ use Rattle.mark_answer.specs.Sound.{Sound, sound-nothing, Legible}
 use Rattle.mark_answer.specs.SoundLaws.{kept-sound, legible}
 use Rattle.reader_head.specs.declared.Head.{Head}
 use Rattle.reader.specs.declared.Reader.{Reader}
-use Rattle.reader_head.specs.Head.{isMark, slide, leaveKept, leaveBody, shifted, opened, passes}
+use Rattle.reader_head.specs.Head.{showsMark, slide, leaveKept, leaveBody, shifted, openedBy, passes}
 use Rattle.reader.specs.Reader.{refusing, completeOutcome, takeHead, takeOutcome, taking, feedOf}
 
 pub take-profile : (h : Head) (handed : Bool) (n : ℕ) → takeHead h handed n .profile ≡ h .profile
 unfolding takeHead
-take-profile h handed n = go (isMark (slide (h .window) n)) (slide (h .window) n % 256)
+take-profile h handed n = go (showsMark (slide (h .window) n)) (slide (h .window) n % 256)
   where
-    go : (b : Bool) (c : ℕ) → cond b (opened h c handed) (shifted h n) .profile ≡ h .profile
+    go : (b : Bool) (c : ℕ) → cond b (openedBy h c handed) (shifted h n) .profile ≡ h .profile
     go true c = refl
     go false c = refl
 
 pub take-sound : (h : Head) (body : List ℕ) (n : ℕ) → Sound (h .profile) (takeOutcome h body n)
 unfolding takeOutcome
-take-sound h body n = go (isMark w)
+take-sound h body n = go (showsMark w)
   where
     w : ℕ
     w = slide (h .window) n

@@ -26,8 +26,8 @@ abbrev pub groupNumber : ℕ
 groupNumber = 0xFFFF00
 
 -- a window's newest two nibbles are the code of a mark
-unfoldable pub isMark : ℕ → Bool
-isMark w = eqb (w / 256) groupNumber
+unfoldable pub showsMark : ℕ → Bool
+showsMark w = eqb (w / 256) groupNumber
 
 -- a window with one nibble more, and its oldest gone
 unfoldable pub slide : ℕ → ℕ → ℕ
@@ -60,8 +60,8 @@ abbrev pub openedAfter : Head → Before → ℕ → Head
 openedAfter h before code = record { profile = h .profile; at = Open before code; count = 2; window = code; kept = nothingKept }
 
 -- by the kind of the mark before, and whether that was handed out as a line
-abbrev pub opened : Head → ℕ → Bool → Head
-opened h code handed = openedAfter h (beforeBy (kindAt (h .at)) handed) code
+abbrev pub openedBy : Head → ℕ → Bool → Head
+openedBy h code handed = openedAfter h (beforeBy (kindAt (h .at)) handed) code
 
 -- the window's nibbles leave it, the oldest first: k zeros push them out
 abbrev pub flushed : ℕ → Head → Head
@@ -93,6 +93,6 @@ handedFits (Open (HandedOut k) code) = isEnd (readingOf code)
 unfoldable pub passes : Head → Bool
 passes h =
     leb (h .count) countStop
-    && (not (isMark (h .window))
+    && (not (showsMark (h .window))
     && (handedFits (h .at)
     && (windowFits (h .at) (h .count) (h .window) && (not (h .kept .stray) || ltb (gapStart (h .profile) + 8) (h .count)))))

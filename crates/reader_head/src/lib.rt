@@ -6,7 +6,7 @@ ghost use mathlib.Core.Path.{_≡_};
 ghost use Prim.Native.Nat.{_≤_, _<_, _/_, _%_};
 ghost use Rattle.stream.specs.declared.Before.{Before};
 ghost use Rattle.stream.specs.declared.Mark.the-variants.{NoMark, Open};
-ghost use Rattle.reader_head.specs.Head.{topPlace, isMark, slide, bump, leaveKept, leaveBody, shifted, openedAfter, aged, windowFits, handedFits, passes, flushed};
+ghost use Rattle.reader_head.specs.Head.{topPlace, showsMark, slide, bump, leaveKept, leaveBody, shifted, openedAfter, aged, windowFits, handedFits, passes, flushed};
 use mark_text::Kept;
 use period::Nibbles;
 use profile::Profile;
@@ -70,7 +70,7 @@ const GROUP: u32 = 0xFFFF00;
 
 // A window's newest two nibbles are the code of a mark.
 pub fn is_mark(window: u32) -> bool
-    ensures { λ r. ⌜ r ≡ isMark window ⌝ }
+    ensures { λ r. ⌜ r ≡ showsMark window ⌝ }
 {
     window / 256 == GROUP
 }

@@ -23,7 +23,7 @@ use Rattle.mark_text.specs.MarkText.{strayAt, keptAt}
 use Rattle.mark_answer.specs.KeptAnswer.{keptAnswer}
 use Rattle.reader_head.specs.declared.Head.{Head}
 use Rattle.reader.specs.declared.Reader.{Reader}
-use Rattle.reader_head.specs.Head.{topPlace, groupNumber, isMark, slide, countStop, bump, leaveKept, leaveBody, shifted, opened, aged, windowFits, handedFits, passes, flushed}
+use Rattle.reader_head.specs.Head.{topPlace, groupNumber, showsMark, slide, countStop, bump, leaveKept, leaveBody, shifted, openedBy, aged, windowFits, handedFits, passes, flushed}
 use Rattle.reader.specs.Reader.{Took, freshReader, refusing, takeHead, takeOutcome, taking, feedOf, finishOf}
 use Rattle.reader_laws.specs.Passing.{Fits, Passed, Byte, Ok, finished}
 use Rattle.mark_text.specs.MarkTextLaws.{gap-start-small}
@@ -86,12 +86,12 @@ pub passed : (h : Head) → passes h ≡ true → Passed h
 unfolding passes
 passed h e =
     let f = and-right (leb (h .count) countStop) _ e in
-    let g = and-right (not (isMark (h .window))) _ f in
+    let g = and-right (not (showsMark (h .window))) _ f in
     let j = and-right (handedFits (h .at)) _ g in
     let i = and-right (windowFits (h .at) (h .count) (h .window)) _ j in
     record {
       count-small = leb-true (h .count) countStop (and-left (leb (h .count) countStop) _ e);
-      no-mark-there = not-true (isMark (h .window)) (and-left (not (isMark (h .window))) _ f);
+      no-mark-there = not-true (showsMark (h .window)) (and-left (not (showsMark (h .window))) _ f);
       handed-fits = and-left (handedFits (h .at)) _ g;
       window-fits = fits-fact (h .at) (h .count) (h .window) (and-left (windowFits (h .at) (h .count) (h .window)) _ j);
       stray-late = λ q. ltb-true (gapStart (h .profile) + 8) (h .count) (not-then (h .kept .stray) _ i q);
@@ -101,7 +101,7 @@ pub passes-test : (h : Head) → Passed h → passes h ≡ true
 unfolding passes
 passes-test h f =
     and-both (leb (h .count) countStop) _ (le-leb (h .count) countStop (f .count-small))
-    (and-both (not (isMark (h .window))) _ (ap not (f .no-mark-there))
+    (and-both (not (showsMark (h .window))) _ (ap not (f .no-mark-there))
     (and-both (handedFits (h .at)) _ (f .handed-fits)
     (and-both (windowFits (h .at) (h .count) (h .window)) _ (fact-fits (h .at) (h .count) (h .window) (f .window-fits))
     (then-not (h .kept .stray) _ (λ e. lt-ltb (gapStart (h .profile) + 8) (h .count) (f .stray-late e))))))
@@ -273,7 +273,7 @@ finishing r = go (passes (r .head)) refl
 -- What holds of every state that calls reach: the test, and that the code is a byte.
 
 pub fresh-ok : (p : Profile) → Ok (freshReader p .head)
-unfolding isMark
+unfolding showsMark
 fresh-ok p =
     record {
       byte = tt;
@@ -286,8 +286,8 @@ opened-fits NotLine handed code h = refl
 opened-fits (LineOf k) true code h = h refl
 opened-fits (LineOf k) false code h = refl
 
-opened-ok : (h : Head) (code : ℕ) (handed : Bool) → code < 256 → (handed ≡ true → isEnd (readingOf code) ≡ true) → Ok (opened h code handed)
-unfolding isMark
+opened-ok : (h : Head) (code : ℕ) (handed : Bool) → code < 256 → (handed ≡ true → isEnd (readingOf code) ≡ true) → Ok (openedBy h code handed)
+unfolding showsMark
 opened-ok h code handed l q =
     record {
       byte = l;
@@ -301,7 +301,7 @@ opened-ok h code handed l q =
           };
     }
 
-shifted-ok : (h : Head) (n : ℕ) → n < 16 → isMark (slide (h .window) n) ≡ false → Ok h → Ok (shifted h n)
+shifted-ok : (h : Head) (n : ℕ) → n < 16 → showsMark (slide (h .window) n) ≡ false → Ok h → Ok (shifted h n)
 shifted-ok h n l e f =
     record {
       byte = f .byte;
@@ -318,7 +318,7 @@ shifted-ok h n l e f =
 -- a nibble that is taken
 pub take-ok : (r : Reader) (n : ℕ) → n < 16 → Ok (r .head) → Ok (taking r n .reader .head)
 unfolding takeHead takeOutcome
-take-ok r n l f = go (isMark w) refl
+take-ok r n l f = go (showsMark w) refl
   where
     h : Head
     h = r .head
@@ -329,7 +329,7 @@ take-ok r n l f = go (isMark w) refl
     o : Outcome
     o = keptAnswer (h .profile) (h .at) (h .count - 7) (leaveKept h) (leaveBody h (r .body)) (some (w % 256))
 
-    go : (b : Bool) → isMark w ≡ b → Ok (cond b (opened h (w % 256) (isLine (cond b o nothing))) (shifted h n))
+    go : (b : Bool) → showsMark w ≡ b → Ok (cond b (openedBy h (w % 256) (isLine (cond b o nothing))) (shifted h n))
     go true e =
         opened-ok h (w % 256) (isLine o) (omega arith)
         (line-ends (h .profile) (h .at) (h .count - 7) (leaveKept h) (leaveBody h (r .body)) (w % 256))

@@ -7,7 +7,7 @@ use Rattle.profile.specs.Profile.{gapStart}
 use Rattle.stream.specs.declared.Mark.{Mark}
 use Rattle.stream.specs.declared.Mark.the-variants.{NoMark, Open}
 use Rattle.reader_head.specs.declared.Head.{Head}
-use Rattle.reader_head.specs.Head.{isMark, countStop, aged, handedFits, flushed}
+use Rattle.reader_head.specs.Head.{showsMark, countStop, aged, handedFits, flushed}
 use mathlib.Core.Option.{none}
 use Rattle.mark_answer.specs.KeptAnswer.{keptAnswer}
 use Rattle.reader.specs.declared.Reader.{Reader}
@@ -29,7 +29,7 @@ Fits (Open before code) c w = MarkFits code c w
 -- what a state that passes the reader's own test has
 pub record Passed (h : Head) : Type 0 where
   pub count-small : h .count ≤ countStop
-  pub no-mark-there : isMark (h .window) ≡ false
+  pub no-mark-there : showsMark (h .window) ≡ false
   pub handed-fits : handedFits (h .at) ≡ true
   pub window-fits : Fits (h .at) (h .count) (h .window)
   pub stray-late : h .kept .stray ≡ true → gapStart (h .profile) + 8 < h .count

@@ -15,7 +15,7 @@ use Rattle.stream.specs.Answers.{require, goodGap}
 use Rattle.stream.specs.Written.{nibbles, markOf}
 use Rattle.mark_text.specs.MarkText.{keptAt, strayAt}
 use Rattle.mark_answer.specs.KeptAnswer.{keptAnswer}
-use Rattle.reader_head.specs.Head.{isMark, slide, bump, leaveKept, passes}
+use Rattle.reader_head.specs.Head.{showsMark, slide, bump, leaveKept, passes}
 use Rattle.reader.specs.Reader.{freshReader, takeHead, takeOutcome}
 use Rattle.run.specs.Run.{runOf}
 use Rattle.refinement.specs.Runs.{RunCall, run, runsTaken, no-call, run-first}
@@ -113,7 +113,7 @@ abbrev twoRuns : List RunCall
 twoRuns = run (markOf 0x9D ++ markOf 0x80) (replicate 356 0) ∷ run (markOf 0x9D) (replicate 356 0) ∷ []
 
 two-runs-take : runsTaken (freshReader VV5404) twoRuns ≡ markOf 0x9D ++ (markOf 0x80 ++ markOf 0x9D)
-unfolding runOf passes isMark slide bump leaveKept takeHead takeOutcome keptAt strayAt keptAnswer require goodGap readingOf meaningOf kindNumbered
+unfolding runOf passes showsMark slide bump leaveKept takeHead takeOutcome keptAt strayAt keptAnswer require goodGap readingOf meaningOf kindNumbered
 two-runs-take = refl
 
 pub without-a-finish : inShort (callsGive VV5404 (markOf 0x9D) (markOf 0x80 ++ markOf 0x9D) twoRuns) ≡ good-gap

@@ -36,7 +36,7 @@ use Rattle.line_answer.specs.KeptLine.{keptLine}
 use Rattle.mark_answer.specs.KeptAnswer.{keptByMeaning, keptByReading, keptAnswer}
 use Rattle.reader_head.specs.declared.Head.{Head}
 use Rattle.reader.specs.declared.Reader.{Reader}
-use Rattle.reader_head.specs.Head.{topPlace, isMark, slide, countStop, bump, leaveKept, leaveBody, shifted, opened, flushed}
+use Rattle.reader_head.specs.Head.{topPlace, showsMark, slide, countStop, bump, leaveKept, leaveBody, shifted, openedBy, flushed}
 use Rattle.reader.specs.Reader.{Took, freshReader, refusing, takeHead, takeOutcome, taking, feedOf, finishOf}
 use Rattle.profile.specs.LayoutLaws.{body-small}
 use Rattle.refinement.specs.Window.{num}
@@ -234,7 +234,7 @@ module _ (p : Profile) (r : Reader) (s : State) (n : ℕ) (small-n : n < 16) (sa
   abbrev took : Bool → Took
   took b =
       record {
-        reader = record { head = cond b (opened h (w % 256) (isLine (told b))) (shifted h n); body = leaveBody h (r .body) };
+        reader = record { head = cond b (openedBy h (w % 256) (isLine (told b))) (shifted h n); body = leaveBody h (r .body) };
         outcome = told b;
       }
 
@@ -288,15 +288,15 @@ module _ (p : Profile) (r : Reader) (s : State) (n : ℕ) (small-n : n < 16) (sa
 
   pub taking-sim : Sim p (taking r n) (step p s n)
   unfolding takeHead takeOutcome
-  taking-sim = go (isMark w) refl
+  taking-sim = go (showsMark w) refl
     where
       all-small : AllNibbles t′
       all-small = and-nibble small-n (same .head-same .small)
 
-      is-window : (b : Bool) → isMark w ≡ b → isMark (num (take 8 t′)) ≡ b
-      is-window b e = ap isMark (sym (slide-same (same .head-same) n)) ∙ e
+      is-window : (b : Bool) → showsMark w ≡ b → showsMark (num (take 8 t′)) ≡ b
+      is-window b e = ap showsMark (sym (slide-same (same .head-same) n)) ∙ e
 
-      go : (b : Bool) → isMark w ≡ b → Sim p (took b) (advance p (s .at) t′ (detect t′))
+      go : (b : Bool) → showsMark w ≡ b → Sim p (took b) (advance p (s .at) t′ (detect t′))
       go false e =
           subst (λ (d : Completed). Sim p (took false) (advance p (s .at) t′ d)) (sym (no-mark-yet t′ all-small (is-window false e))) sim-not-yet
       go true e =

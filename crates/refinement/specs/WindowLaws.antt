@@ -10,7 +10,7 @@ use lib.ListN.{length, take, drop, getD}
 use borrow.Author.Tests.{eqb-true, eqb-false, ne-eqb, eq-eqb}
 use Rattle.stream.specs.Stream.{group, strip, not-yet, mark, markIf, detect}
 use Rattle.stream.specs.Nibbles.{AllNibbles, and-nibble}
-use Rattle.reader_head.specs.Head.{topPlace, groupNumber, isMark, slide}
+use Rattle.reader_head.specs.Head.{topPlace, groupNumber, showsMark, slide}
 use Rattle.refinement.specs.Window.{num}
 
 -- 16 ^ k
@@ -109,13 +109,13 @@ code-of : (y x n : ℕ) → y < 16 → x < 16 → 16 * x + y ≡ (y + 16 * (x + 
 code-of y x n hy hx = omega arith
 
 detect-num : (y x : ℕ) (u : List ℕ) → AllNibbles (y ∷ x ∷ u)
-    → detect (y ∷ x ∷ u) ≡ markIf x y (found (isMark (num (take 8 (y ∷ x ∷ u)))) (drop 6 u))
-unfolding isMark
+    → detect (y ∷ x ∷ u) ≡ markIf x y (found (showsMark (num (take 8 (y ∷ x ∷ u)))) (drop 6 u))
+unfolding showsMark
 detect-num y x u (and-nibble hy (and-nibble hx s)) =
     ap (markIf x y) (strip-num group-pattern u s ∙ ap (λ (n : ℕ). found (eqb n groupNumber) (drop 6 u)) (sym (six y x (num (take 6 u)) hy hx)))
 
 -- the newest nibble completes no mark
-pub no-mark-yet : (t : List ℕ) → AllNibbles t → isMark (num (take 8 t)) ≡ false → detect t ≡ not-yet
+pub no-mark-yet : (t : List ℕ) → AllNibbles t → showsMark (num (take 8 t)) ≡ false → detect t ≡ not-yet
 no-mark-yet [] s e = refl
 no-mark-yet (y ∷ []) s e = refl
 no-mark-yet (y ∷ x ∷ u) s e = detect-num y x u s ∙ ap (λ b. markIf x y (found b (drop 6 u))) e
@@ -129,8 +129,8 @@ pub record Complete (t : List ℕ) : Type 0 where
   pub is-mark : detect t ≡ mark high low (drop 8 t)
   pub is-code : 16 * high + low ≡ num (take 8 t) % 256
 
-pub complete : (t : List ℕ) → AllNibbles t → isMark (num (take 8 t)) ≡ true → Complete t
-unfolding isMark
+pub complete : (t : List ℕ) → AllNibbles t → showsMark (num (take 8 t)) ≡ true → Complete t
+unfolding showsMark
 complete [] s e = absurd (true≢false (sym e))
 complete (y ∷ []) (and-nibble h s) e = absurd (true≢false (sym e ∙ ne-eqb ((y + 16 * 0) / 256) groupNumber (λ z. omega arith)))
 complete (y ∷ x ∷ u) (and-nibble hy (and-nibble hx s)) e =

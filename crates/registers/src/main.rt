@@ -1,11 +1,11 @@
 // Settings and messages of a sensor's two-wire bus: reads a script of them from a file or standard input, and writes the text for each line
-// (crate script). Messages are read one after another against the state of one sensor, fresh at the start.
+// (crate register_script). Messages are read one after another against the state of one sensor, fresh at the start.
 // The sensor is the VV5404, or the VV5300 where an argument names it. Standard output has messages, and what is told of captured ones; a line
 // that is refused is told on standard error, where no bus takes it for a message. A failed read or write is told there too, and ends the run.
 use command_words::Asked;
 use libc::STDOUT_FILENO;
 use profile::Profile;
-use script::Script;
+use register_script::Script;
 
 fn main() {
     let asked = command::sensor_and_file();

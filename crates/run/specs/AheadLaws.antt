@@ -13,7 +13,7 @@ use Rattle.bits.specs.Every.{and-left, and-right}
 use Rattle.profile.specs.Profile.{longest}
 use Rattle.stream.specs.Answers.{nothing, answerFor, isAnswer}
 use Rattle.reader_head.specs.declared.Head.{Head}
-use Rattle.reader_head.specs.Head.{topPlace, groupNumber, isMark, slide, leaveBody, shifted}
+use Rattle.reader_head.specs.Head.{topPlace, groupNumber, showsMark, slide, leaveBody, shifted}
 use Rattle.reader.specs.declared.Reader.{Reader}
 use Rattle.reader.specs.Reader.{Took, takeHead, takeOutcome, taking, readerOf}
 use Rattle.run_ahead.specs.declared.Reached.{Reached}
@@ -31,12 +31,12 @@ near-is w e f = simp (eq-eqb _ _ e, eq-eqb _ _ f)
 not-both : (b : Bool) → b ≡ false → b ≡ true → ⊥
 not-both b e f = true≢false (sym f ∙ e)
 
-far-one : (w x : ℕ) → x ≤ 15 → isNear w ≡ false → isMark (slide w x) ≡ false
-unfolding isMark slide
+far-one : (w x : ℕ) → x ≤ 15 → isNear w ≡ false → showsMark (slide w x) ≡ false
+unfolding showsMark slide
 far-one w x l f = ne-eqb _ _ (λ (e : (w % topPlace * 16 + x) / 256 ≡ groupNumber). not-both _ f (near-is w (omega arith) (omega arith)))
 
-far-two : (w x y : ℕ) → x ≤ 15 → y ≤ 15 → isNear w ≡ false → isMark (slide (slide w x) y) ≡ false
-unfolding isMark slide
+far-two : (w x y : ℕ) → x ≤ 15 → y ≤ 15 → isNear w ≡ false → showsMark (slide (slide w x) y) ≡ false
+unfolding showsMark slide
 far-two w x y l m f =
     ne-eqb _ _ (λ (e : ((w % topPlace * 16 + x) % topPlace * 16 + y) / 256 ≡ groupNumber). not-both _ f (near-is w (omega arith) (omega arith)))
 
@@ -45,11 +45,11 @@ far-two w x y l m f =
 abbrev quietly : Reader → ℕ → Took
 quietly r n = record { reader = record { head = shifted (r .head) n; body = leaveBody (r .head) (r .body) }; outcome = nothing }
 
-quiet : (r : Reader) (n : ℕ) → isMark (slide (r .head .window) n) ≡ false → taking r n ≡ quietly r n
+quiet : (r : Reader) (n : ℕ) → showsMark (slide (r .head .window) n) ≡ false → taking r n ≡ quietly r n
 unfolding takeHead takeOutcome
 quiet r n e = simp e
 
-one-on : (r : Reader) (n : ℕ) (w : List ℕ) (i : ℕ) → leb n 15 ≡ true → isMark (slide (r .head .window) n) ≡ false
+one-on : (r : Reader) (n : ℕ) (w : List ℕ) (i : ℕ) → leb n 15 ≡ true → showsMark (slide (r .head .window) n) ≡ false
     → onward r (n ∷ w) i ≡ onward (quietly r n .reader) w (i + 1)
 one-on r n w i l e =
     let q = quiet r n e in

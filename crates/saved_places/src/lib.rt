@@ -2,7 +2,7 @@
 //
 // In: the eight places, the used ones first, oldest first, and a setting that is wanted or a version. Out: what is answered, and the places
 // afterwards. Refused, in this order, the places unchanged: 37 not in order, 29 gain, divisor or frame rate, 30 version not held, 31 no version
-// number left. Crate `saved_settings` has the same over a lent list. Cost: constant.
+// number left. Crate `saved_lent` has the same over a lent list. Cost: constant.
 ghost use mathlib.Core.Path.{_≡_};
 ghost use Rattle.saved_setting.specs.declared.Saved.the-variants.{Refused};
 ghost use Rattle.saved_setting.specs.SavedSettings.{heldReply, savedNext, savedWanted, foundIn, savedAgain, placesOf, Leaves};
@@ -17,7 +17,7 @@ use saved_setting::Wanted;
 pub fn save_in(places: EightPlaces, wanted: Wanted) -> SavedPlaces
     ensures { λ r. ⌜ Leaves (savedWanted (placesOf places) wanted) (r .answer) (placesOf (r .places)) ⌝ }
 {
-    if eight_places::in_order(places) {
+    if saved_search::in_order(places) {
         if saved_setting::is_allowed(wanted) {
             return save_next(places, saved_setting::clip(wanted));
         }
@@ -30,11 +30,11 @@ pub fn save_in(places: EightPlaces, wanted: Wanted) -> SavedPlaces
 pub fn find_in(places: EightPlaces, version: u16) -> Held
     ensures { λ r. ⌜ heldReply r ≡ foundIn (placesOf places) version ⌝ }
 {
-    if eight_places::in_order(places) {
+    if saved_search::in_order(places) {
         if version == 0 {
             return Held::Refused(refusal::VERSION_NOT_HELD);
         }
-        return eight_places::look_up(places, version);
+        return saved_search::look_up(places, version);
     }
     Held::Refused(refusal::NOT_SAVED_SETTINGS)
 }
@@ -57,14 +57,14 @@ const LAST_VERSION: u16 = 65535;
 fn save_next(places: EightPlaces, setting: SavedSetting) -> SavedPlaces
     ensures { λ r. ⌜ Leaves (savedNext (placesOf places) setting) (r .answer) (placesOf (r .places)) ⌝ }
 {
-    let newest = eight_places::newest_version(places);
+    let newest = saved_search::newest_version(places);
     if newest == LAST_VERSION {
         return refused(refusal::NO_VERSION_LEFT, places);
     }
     let version = newest + 1;
     SavedPlaces {
         answer: Saved::Version(version),
-        places: eight_places::save_into(places, saved_setting::renumber(setting, version)),
+        places: saved_search::save_into(places, saved_setting::renumber(setting, version)),
     }
 }
 

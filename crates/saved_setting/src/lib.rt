@@ -1,7 +1,7 @@
 // A saved exposure setting (02, A11), and the eight places of a list of them.
 //
 // In: a setting that is wanted, or one that is saved. Out: whether it may be saved, what is saved of it, the same under another version. Nothing is
-// refused: crate `saved_places` answers what is asked of eight places, `saved_settings` of a lent list. Cost: constant.
+// refused: crate `saved_places` answers what is asked of eight places, `saved_lent` of a lent list. Cost: constant.
 ghost use mathlib.Core.Path.{_≡_};
 ghost use Rattle.saved_setting.specs.SavedSettings.{isAllowed, lesser, clipped, renumbered};
 

@@ -11,7 +11,7 @@ use Rattle.saved_lines.specs.SavedLines.{unused, settingsText}
 use Rattle.saved_text.specs.declared.FieldName.{FieldName}
 use Rattle.saved_text.specs.declared.FieldName.the-variants.{Version, Fine, Coarse, Gain, Divisor}
 use Rattle.saved_text.specs.declared.Fields.{Fields}
-use Rattle.saved_text.specs.declared.Gathered.{Gathered}
+use Rattle.saved_text.specs.declared.LinesGathered.{LinesGathered}
 use Rattle.saved_text.specs.declared.Restored.{Restored}
 
 -- The numbers of a text.
@@ -22,7 +22,7 @@ LineFields = Fields
 
 -- what is gathered of a text, under a name for laws elsewhere
 abbrev pub TextGathered : Type 0
-TextGathered = Gathered
+TextGathered = LinesGathered
 
 -- at a line's start
 abbrev pub noFields : Fields
@@ -74,24 +74,24 @@ abbrev pub settingOfFields : Fields → SavedSetting
 settingOfFields f = record { version = f .version; fine = f .fine; coarse = f .coarse; gain = f .gain % 256; divisor = f .divisor % 256 }
 
 -- a line's setting in its place; lines past the eighth have none
-abbrev pub withSettingLine : Gathered → Gathered
+abbrev pub withSettingLine : LinesGathered → LinesGathered
 withSettingLine g =
     cond (ltb (g .count) 8)
     (record { list = set (g .list) (g .count) (settingOfFields (g .fields)); count = g .count + 1; fields = noFields })
     (record { list = g .list; count = g .count; fields = noFields })
 
 -- after one character more
-unfoldable pub gatheredAfter : Gathered → ℕ → Gathered
+unfoldable pub gatheredAfter : LinesGathered → ℕ → LinesGathered
 gatheredAfter g c =
     cond (eqb c newline) (withSettingLine g) (record { list = g .list; count = g .count; fields = fieldsAfter (g .fields) c })
 
 -- after a text
-abbrev pub gatheredOver : Gathered → List ℕ → Gathered
+abbrev pub gatheredOver : LinesGathered → List ℕ → LinesGathered
 gatheredOver g [] = g
 gatheredOver g (c ∷ text) = gatheredOver (gatheredAfter g c) text
 
 -- before a text
-abbrev pub nothingGathered : Gathered
+abbrev pub nothingGathered : LinesGathered
 nothingGathered = record { list = replicate 8 unused; count = 0; fields = noFields }
 
 -- the list of a text's numbers; its end ends its last line

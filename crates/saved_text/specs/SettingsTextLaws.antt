@@ -12,13 +12,13 @@ use Rattle.refusal.specs.Refusal.{versionNotHeld, notSavedSettings}
 use Rattle.text.specs.Text.{newline}
 use Rattle.saved_setting.specs.declared.SavedSetting.{SavedSetting}
 use Rattle.saved_setting.specs.SavedSettings.{Reply, yields, refused, isSavedList, foundIn}
-use Rattle.saved_text.specs.declared.Gathered.{Gathered}
+use Rattle.saved_text.specs.declared.LinesGathered.{LinesGathered}
 use Rattle.saved_text.specs.SettingsText.{gatheredAfter, gatheredOver, startsBy, coverOf, mayStand, atMostNewline, isLike}
 
 -- Read.
 
 module _ (text : List ℕ) (i : ℕ) (h : i < length text) where
-  pub gathered-step : (g : Gathered) → gatheredOver g (drop i text) ≡ gatheredOver (gatheredAfter g (getD text i 0)) (drop (i + 1) text)
+  pub gathered-step : (g : LinesGathered) → gatheredOver g (drop i text) ≡ gatheredOver (gatheredAfter g (getD text i 0)) (drop (i + 1) text)
   gathered-step g = rw (add-one i, drop-cons text i 0)
 
   pub starts-at : (c : ℕ) → startsBy c (drop i text) ≡ eqb (getD text i 0) c

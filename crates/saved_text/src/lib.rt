@@ -9,7 +9,7 @@ ghost use lib.ListN.{drop};
 ghost use Rattle.saved_setting.specs.SavedSettings.{isSavedList};
 ghost use Rattle.saved_lines.specs.SavedLines.{settingsText};
 ghost use Rattle.saved_text.specs.SettingsText.{withOneMore, withDigit, nextName, withField, fieldsAfter, settingOfFields, noFields, withSettingLine, nothingGathered, gatheredAfter, numbersOf, coverOf, mayStand, atMostNewline, isLike, restored};
-use held_settings::find_held;
+use saved_held::find_held;
 use saved_lines::put_settings;
 use saved_setting::Held;
 use saved_setting::SavedSetting;
@@ -46,7 +46,7 @@ struct Fields {
 }
 
 // The settings of the lines so far, how many they are, and the numbers of the line that stands open.
-struct Gathered {
+struct LinesGathered {
     list: [SavedSetting; 8],
     count: usize,
     fields: Fields,
@@ -98,7 +98,7 @@ fn gather(text: &[u8]) -> [SavedSetting; 8]
     all.list
 }
 
-fn gather_next(gathered: Gathered, c: u8) -> Gathered
+fn gather_next(gathered: LinesGathered, c: u8) -> LinesGathered
     ensures { λ r. ⌜ r ≡ gatheredAfter gathered c ⌝ }
 {
     if c == b'\n' {
@@ -106,14 +106,14 @@ fn gather_next(gathered: Gathered, c: u8) -> Gathered
     }
     let list = gathered.list;
     let fields = read_field(gathered.fields, c);
-    Gathered {
+    LinesGathered {
         list,
         count: gathered.count,
         fields,
     }
 }
 
-fn nothing_gathered() -> Gathered
+fn nothing_gathered() -> LinesGathered
     ensures { λ r. ⌜ r ≡ nothingGathered ⌝ }
 {
     let unused = SavedSetting {
@@ -123,7 +123,7 @@ fn nothing_gathered() -> Gathered
         gain: 0,
         divisor: 0,
     };
-    Gathered {
+    LinesGathered {
         list: [unused; 8],
         count: 0,
         fields: no_fields(),
@@ -131,20 +131,20 @@ fn nothing_gathered() -> Gathered
 }
 
 // With the open line's setting in its place; lines past the eighth have none.
-fn end_line(gathered: Gathered) -> Gathered
+fn end_line(gathered: LinesGathered) -> LinesGathered
     ensures { λ r. ⌜ r ≡ withSettingLine gathered ⌝ }
 {
     let mut list = gathered.list;
     let count = gathered.count;
     if count < PLACES {
         list[count] = setting_of(gathered.fields);
-        return Gathered {
+        return LinesGathered {
             list,
             count: count + 1,
             fields: no_fields(),
         };
     }
-    Gathered {
+    LinesGathered {
         list,
         count,
         fields: no_fields(),

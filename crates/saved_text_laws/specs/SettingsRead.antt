@@ -7,7 +7,7 @@ use lib.Dec.{eqb}
 use Rattle.text.specs.Text.{newline}
 use Rattle.saved_setting.specs.declared.SavedSetting.{SavedSetting}
 use Rattle.saved_setting.specs.SavedSettings.{isUnused}
-use Rattle.saved_settings_laws.specs.Histories.{usedOf}
+use Rattle.saved_laws.specs.Histories.{usedOf}
 use Rattle.saved_lines.specs.SavedLines.{unused, settingsText}
 use Rattle.saved_text.specs.SettingsText.{carriageReturn, isLike, restored}
 

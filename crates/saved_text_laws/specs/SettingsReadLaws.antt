@@ -14,8 +14,8 @@ use Rattle.bits.specs.Tests.{sides, by-test}
 use Rattle.text.specs.Text.{ascii, newline, digit, digits, decimal}
 use Rattle.saved_setting.specs.declared.SavedSetting.{SavedSetting}
 use Rattle.saved_setting.specs.SavedSettings.{isUnused, mayFollow, versionsInOrder, settingPlaces, isSavedList}
-use Rattle.saved_settings_laws.specs.Histories.{usedOf}
-use Rattle.saved_settings_laws.specs.OrderLaws.{unused-follows, order-tail, order-head}
+use Rattle.saved_laws.specs.Histories.{usedOf}
+use Rattle.saved_laws.specs.OrderLaws.{unused-follows, order-tail, order-head}
 use Rattle.saved_text.specs.declared.Restored.{Restored}
 use Rattle.saved_lines.specs.SavedLines.{settingLine, placeLine, unused, placeLines, settingsText}
 use Rattle.saved_text.specs.SettingsText.{TextGathered, noFields, fieldsAfter, withSettingLine, gatheredAfter, gatheredOver, nothingGathered, numbersOf, carriageReturn, coverOf, startsBy, mayStand, atMostNewline, isLike, isSettingsText, restored}

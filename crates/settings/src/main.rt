@@ -6,9 +6,9 @@
 // or the messages to send; a refusal goes to standard error, and the file is left alone. A file that does not exist holds no settings yet: `save` makes
 // it. A new list is written to FILE.new, which then takes the file's name, so that the file is replaced whole or not at all.
 use libc::STDOUT_FILENO;
-use request_words::Asked;
-use request_words::NumberWords;
 use settings_request::Request;
+use settings_typed::NumberWords;
+use settings_typed::TypedRequest;
 use text::put;
 
 // Room for what is said, and for a list's text.
@@ -32,7 +32,7 @@ fn main() {
 }
 
 // The request that the arguments make.
-fn words() -> Asked {
+fn words() -> TypedRequest {
     let mut verb = io::buffer();
     let n = os::arg(VERB, &mut verb);
     let count = os::arg_count();
@@ -44,7 +44,7 @@ fn words() -> Asked {
         fourth: number(6),
         fifth: number(7),
     };
-    request_words::read(&verb[..n], numbers)
+    settings_typed::read(&verb[..n], numbers)
 }
 
 // How many arguments stand after the verb.
@@ -199,7 +199,7 @@ fn read_open(fd: i32, name: &[u8], text: &mut [u8]) -> Contents {
 
 fn tell_not_settings() {
     let mut out = [0u8; 128];
-    let end = settings_words::put_refusal(refusal::NOT_SAVED_SETTINGS, &mut out, 0);
+    let end = settings_replies::put_refusal(refusal::NOT_SAVED_SETTINGS, &mut out, 0);
     if out.len() < end {
         return;
     }

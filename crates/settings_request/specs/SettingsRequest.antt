@@ -12,7 +12,7 @@ use Rattle.saved_setting.specs.SavedSettings as reply
 use Rattle.saved_setting.specs.SavedSettings.{Reply, isUnused, savedWanted, foundIn, savedAgain}
 use Rattle.saved_lines.specs.SavedLines.{settingLine, unused, settingsText}
 use Rattle.saved_text.specs.SettingsText.{numbersOf, isSettingsText}
-use Rattle.settings_words.specs.SettingsWords.{notes, refusedRequest, writesOf}
+use Rattle.settings_replies.specs.SettingsWords.{notes, refusedRequest, writesOf}
 use Rattle.settings_request.specs.declared.Request.{Request}
 use Rattle.settings_request.specs.declared.Request.the-variants.{Save, Find, Back, ListAll, Messages}
 use Rattle.settings_request.specs.declared.Response.{Response}

@@ -2,23 +2,23 @@
 //
 // In: a request, and the text of a list (crate saved_text). Out: the text of the list afterwards, and what is said of the request, each put at the
 // front of a lent buffer as far as there is room; whether the list is another; and whether the request is refused. A text that is no list's is
-// refused with 37, and nothing is put for it; for the others see crate saved_settings. What was clipped on saving is said. Cost: linear in the text.
+// refused with 37, and nothing is put for it; for the others see crate saved_lent. What was clipped on saving is said. Cost: linear in the text.
 ghost use Rattle.text.specs.Put.{Puts};
 ghost use Rattle.saved_setting.specs.SavedSettings.{foundIn};
 ghost use Rattle.settings_request.specs.declared.Request.the-variants.{Save, Find, Back, ListAll, Messages};
 ghost use Rattle.settings_request.specs.SettingsRequest.{refusingRequest, heldLine, listedText, requestEffect, Responds, service, Serves};
-use held_settings::back_held;
-use held_settings::find_held;
-use held_settings::save_held;
+use saved_held::back_held;
+use saved_held::find_held;
+use saved_held::save_held;
 use saved_lines::put_setting;
 use saved_lines::put_settings;
 use saved_setting::Held;
 use saved_setting::Saved;
 use saved_setting::SavedSetting;
 use saved_setting::Wanted;
-use settings_words::put_notes;
-use settings_words::put_refusal;
-use settings_words::put_writes;
+use settings_replies::put_notes;
+use settings_replies::put_refusal;
+use settings_replies::put_writes;
 use text::put;
 
 // What is asked for, of a version where it needs one.

@@ -5,7 +5,7 @@ use Prim.Native.Nat.{ℕ}
 use lib.Dec.{eqb}
 use lib.ListN.{getD}
 use Rattle.text.specs.Text.{ascii, decimal}
-use Rattle.signal.specs.declared.Signal.{Signal}
+use Rattle.signal_tally.specs.declared.Signal.{Signal}
 use Rattle.spacing.specs.declared.Spacing.{Spacing}
 
 -- a line with a count: the words before it, the count, the words after it

@@ -8,7 +8,7 @@ use lib.Dec.{eqb}
 use lib.ListN.{length, length-append, getD}
 use Rattle.text.specs.Text.{ascii, decimal}
 use Rattle.text.specs.TextLaws.{decimal-short}
-use Rattle.signal.specs.declared.Signal.{Signal}
+use Rattle.signal_tally.specs.declared.Signal.{Signal}
 use Rattle.spacing.specs.declared.Spacing.{Spacing}
 use Rattle.signal_report.specs.SignalReport.{countLine, numberedLine, refusedCount, refusedCodes, brokenLines, refusedEnds, refusedLines, bitLine, lowBits, highBits, repairedLines, rangeWords, othersLine, linesNoun, periodLine, periodLines, signalLines}
 

@@ -4,7 +4,7 @@
 // refused: where the buffer ends before the lines do, the rest is left out. Cost: linear in the lines.
 ghost use Rattle.text.specs.Put.{Puts};
 ghost use Rattle.signal_report.specs.SignalReport.{countLine, numberedLine, refusedCount, refusedCodes, brokenLines, refusedEnds, refusedLines, bitLine, lowBits, highBits, repairedLines, rangeWords, linesNoun, periodLine, periodLines, signalLines};
-use signal::Signal;
+use signal_tally::Signal;
 use spacing::Spacing;
 use text::put;
 use text::put_decimal;

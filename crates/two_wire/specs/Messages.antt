@@ -8,9 +8,9 @@ use lib.ListN.{getD, replicate}
 use Rattle.refusal.specs.Refusal.{badState, shortMessage, wrongAddress, wrongIndex, wrongData, pastLastRegister}
 use Rattle.two_wire.specs.declared.Sensor.{Sensor}
 use Rattle.two_wire.specs.declared.Seen.{Seen}
-use Rattle.two_wire.specs.declared.Answer.{Answer}
-use Rattle.two_wire.specs.declared.Answer.the-variants as answer
-use Rattle.message_data.specs.Registers.{registerCount, lastIndex, next, passes, reached, left, stored, someDiffers}
+use Rattle.two_wire.specs.declared.MessageAnswer.{MessageAnswer}
+use Rattle.two_wire.specs.declared.MessageAnswer.the-variants as answer
+use Rattle.message_data.specs.Registers.{registerCount, lastIndex, next, runsPast, reached, left, stored, someDiffers}
 
 -- registers, current index and increment flag, all 0 when fresh
 abbrev pub fresh : Sensor
@@ -46,7 +46,7 @@ pub data Acceptance : Type 0 where
   refused : ℕ → Acceptance
 
 -- the paper's number and values of each case of the program's answer, which comes beside the sensor
-abbrev pub acceptanceOf : Answer → Sensor → Acceptance
+abbrev pub acceptanceOf : MessageAnswer → Sensor → Acceptance
 acceptanceOf answer.Accepted s = accepted s
 acceptanceOf (answer.Refused n) s = refused n
 
@@ -56,8 +56,8 @@ sensorAfter (accepted s) before = s
 sensorAfter (refused n) before = before
 
 -- what a call says of an outcome
-abbrev pub Told : Acceptance → Sensor → Seen → Type 0
-Told o before seen = (acceptanceOf (seen .answer) (seen .sensor) ≡ o) × (seen .sensor ≡ sensorAfter o before)
+abbrev pub AnswersMessage : Acceptance → Sensor → Seen → Type 0
+AnswersMessage o before seen = (acceptanceOf (seen .answer) (seen .sensor) ≡ o) × (seen .sensor ≡ sensorAfter o before)
 
 -- a refusal where the test passes
 unfoldable pub refuseIf : Bool → ℕ → Acceptance → Acceptance
@@ -67,7 +67,7 @@ refuseIf false n o = o
 -- a write of data from an index on: 28, or the sensor with the data stored
 unfoldable pub writeData : Sensor → Bool → ℕ → List ℕ → Acceptance
 writeData s increment i bytes =
-    refuseIf (passes increment i bytes) pastLastRegister
+    refuseIf (runsPast increment i bytes) pastLastRegister
     (accepted
     (record { registers = stored increment i bytes (s .registers); index = left (reached increment i bytes); increment = increment }))
 
@@ -75,7 +75,7 @@ writeData s increment i bytes =
 unfoldable pub readData : Sensor → List ℕ → Acceptance
 readData s bytes =
     refuseIf (someDiffers (s .increment) (s .index) bytes (s .registers)) wrongData
-    (refuseIf (passes (s .increment) (s .index) bytes) pastLastRegister
+    (refuseIf (runsPast (s .increment) (s .index) bytes) pastLastRegister
     (accepted
     (record { registers = s .registers; index = left (reached (s .increment) (s .index) bytes); increment = s .increment })))
 
@@ -100,14 +100,14 @@ unfoldable pub messageOn : Sensor → List ℕ → Acceptance
 messageOn s message = refuseIf (not (leb (s .index) lastIndex)) badState (laidOut s message)
 
 -- the next message after an outcome: none follows a refusal
-abbrev pub onward : Acceptance → List ℕ → Acceptance
-onward (accepted s) message = messageOn s message
-onward (refused n) message = refused n
+abbrev pub nextMessage : Acceptance → List ℕ → Acceptance
+nextMessage (accepted s) message = messageOn s message
+nextMessage (refused n) message = refused n
 
 -- messages one after another
 abbrev pub messagesOn : List (List ℕ) → Acceptance → Acceptance
 messagesOn [] o = o
-messagesOn (m ∷ ms) o = messagesOn ms (onward o m)
+messagesOn (m ∷ ms) o = messagesOn ms (nextMessage o m)
 
 -- What a sensor sends.
 

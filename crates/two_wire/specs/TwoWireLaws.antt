@@ -10,8 +10,8 @@ use lib.Dec.{eqb, leb, ltb, lit≤}
 use lib.ListN.{length, getD, set, length-set}
 use lib.Seq.{getD-set-same, getD-set-other}
 use Rattle.two_wire.specs.declared.Sensor.{Sensor}
-use Rattle.message_data.specs.Registers.{registerCount, lastIndex, firstSettable, next, passes, reached, left, put, stored, differs, someDiffers}
-use Rattle.message_data.specs.RegisterLaws.{passes-counts, passes-still, reached-counts, reached-still}
+use Rattle.message_data.specs.Registers.{registerCount, lastIndex, firstSettable, next, runsPast, reached, left, put, stored, differs, someDiffers}
+use Rattle.message_data.specs.RegisterLaws.{runs-past-counts, runs-past-still, reached-counts, reached-still}
 use Rattle.two_wire.specs.Messages.{writeAddress, readAddress, incrementBit, indexByte, indexIn, incrementIn, Acceptance, accepted, refused, refuseIf, writeData, readData, readBack, addressed, laidOut, messageOn, messagesOn, contents, readMessage, behind}
 
 -- a test's two sides
@@ -72,14 +72,14 @@ length-stored increment i (b ∷ bytes) registers = length-stored increment (nex
 kept-write : (s : Sensor) (increment : Bool) (i : ℕ) (bytes : List ℕ) → Kept (length (s .registers)) (writeData s increment i bytes)
 unfolding writeData
 kept-write s increment i bytes =
-    kept-refuse _ (passes increment i bytes) _ _ (left-held (reached increment i bytes), length-stored increment i bytes (s .registers))
+    kept-refuse _ (runsPast increment i bytes) _ _ (left-held (reached increment i bytes), length-stored increment i bytes (s .registers))
 
 kept-read : (s : Sensor) (second : ℕ) (bytes : List ℕ) → Kept (length (s .registers)) (readBack s second bytes)
 unfolding readBack readData
 kept-read s second bytes =
     kept-refuse _ _ _ _
     (kept-refuse _ (someDiffers (s .increment) (s .index) bytes (s .registers)) _ _
-    (kept-refuse _ (passes (s .increment) (s .index) bytes) _ _ (left-held (reached (s .increment) (s .index) bytes), refl)))
+    (kept-refuse _ (runsPast (s .increment) (s .index) bytes) _ _ (left-held (reached (s .increment) (s .index) bytes), refl)))
 
 kept-addressed : (s : Sensor) (address second : ℕ) (bytes : List ℕ) → Kept (length (s .registers)) (addressed s address second bytes)
 unfolding addressed
@@ -110,9 +110,9 @@ contents-length increment i registers (suc n) = ap suc (contents-length incremen
 
 -- data within the registers, and where it ends
 fitting : (increment : Bool) (i : ℕ) (bytes : List ℕ) → i ≤ lastIndex → cond increment (i + length bytes) i ≤ registerCount
-    → (passes increment i bytes ≡ false) × (reached increment i bytes ≡ cond increment (i + length bytes) i)
-fitting true i bytes h l = (passes-counts i bytes (omega arith) ∙ le-ltb (registerCount - i) (length bytes) (omega arith), reached-counts i bytes)
-fitting false i bytes h l = (passes-still i bytes h, reached-still i bytes)
+    → (runsPast increment i bytes ≡ false) × (reached increment i bytes ≡ cond increment (i + length bytes) i)
+fitting true i bytes h l = (runs-past-counts i bytes (omega arith) ∙ le-ltb (registerCount - i) (length bytes) (omega arith), reached-counts i bytes)
+fitting false i bytes h l = (runs-past-still i bytes h, reached-still i bytes)
 
 -- a read with the index and the flag held, and data that does not differ
 module _ (s : Sensor) (bytes : List ℕ) (held : s .index ≤ lastIndex) where

@@ -10,10 +10,10 @@ pub mod register;
 ghost use mathlib.Core.Path.{_≡_};
 ghost use Prim.Native.Nat.{_≤_};
 ghost use Rattle.message_data.specs.Registers.{lastIndex};
-ghost use Rattle.two_wire.specs.Messages.{fresh, indexByte, refused, Told, writeData, readData, readBack, addressed, messageOn};
-ghost use Rattle.two_wire.specs.declared.Answer.the-variants as answer;
+ghost use Rattle.two_wire.specs.Messages.{fresh, indexByte, refused, AnswersMessage, writeData, readData, readBack, addressed, messageOn};
+ghost use Rattle.two_wire.specs.declared.MessageAnswer.the-variants as answer;
 use message_data::left;
-use message_data::passes;
+use message_data::runs_past;
 use message_data::some_differs;
 use message_data::store;
 
@@ -25,7 +25,7 @@ pub struct Sensor {
 }
 
 // What a message is answered.
-pub enum Answer {
+pub enum MessageAnswer {
     Accepted,
     Refused(u8),
 }
@@ -33,7 +33,7 @@ pub enum Answer {
 // The state after a message, and its answer.
 pub struct Seen {
     pub sensor: Sensor,
-    pub answer: Answer,
+    pub answer: MessageAnswer,
 }
 
 // The first byte of a write, and of a read.
@@ -61,7 +61,7 @@ impl Sensor {
 
     // The state after a message: `messageOn`.
     pub fn read(self, message: &[u8]) -> Seen
-        ensures { λ r. ⌜ Told (messageOn self (now (message .entry))) self r ⌝ }
+        ensures { λ r. ⌜ AnswersMessage (messageOn self (now (message .entry))) self r ⌝ }
     {
         let index = self.index;
         if LAST_INDEX < index {
@@ -76,7 +76,7 @@ impl Sensor {
     // By the address: a write, a read, or 25.
     fn addressed(self, address: u8, second: u8, bytes: &[u8]) -> Seen
         requires { ⌜ self .index ≤ lastIndex ⌝ }
-        ensures { λ r. ⌜ Told (addressed self address second (now (bytes .entry))) self r ⌝ }
+        ensures { λ r. ⌜ AnswersMessage (addressed self address second (now (bytes .entry))) self r ⌝ }
     {
         if address == WRITE_ADDRESS {
             return self.write_data(INCREMENT <= second, second % INCREMENT, bytes);
@@ -89,7 +89,7 @@ impl Sensor {
 
     // A write of data from an index on.
     fn write_data(self, increment: bool, index: u8, bytes: &[u8]) -> Seen
-        ensures { λ r. ⌜ Told (writeData self increment index (now (bytes .entry))) self r ⌝ }
+        ensures { λ r. ⌜ AnswersMessage (writeData self increment index (now (bytes .entry))) self r ⌝ }
     {
         let mut registers = self.registers;
         if store(&mut registers, increment, index, bytes) {
@@ -102,7 +102,7 @@ impl Sensor {
     // A read at the current index.
     fn read_back(self, second: u8, bytes: &[u8]) -> Seen
         requires { ⌜ self .index ≤ lastIndex ⌝ }
-        ensures { λ r. ⌜ Told (readBack self second (now (bytes .entry))) self r ⌝ }
+        ensures { λ r. ⌜ AnswersMessage (readBack self second (now (bytes .entry))) self r ⌝ }
     {
         let index = self.index;
         let increment = self.increment;
@@ -115,13 +115,13 @@ impl Sensor {
 
     // A read's data.
     fn read_data(self, bytes: &[u8]) -> Seen
-        ensures { λ r. ⌜ Told (readData self (now (bytes .entry))) self r ⌝ }
+        ensures { λ r. ⌜ AnswersMessage (readData self (now (bytes .entry))) self r ⌝ }
     {
         let registers = self.registers;
         let index = self.index;
         let increment = self.increment;
         let different = some_differs(&registers, increment, index, bytes);
-        let past = passes(increment, index, bytes);
+        let past = runs_past(increment, index, bytes);
         if different {
             return self.refused(refusal::WRONG_DATA);
         }
@@ -133,9 +133,9 @@ impl Sensor {
 
     // The same state, and a refusal.
     fn refused(self, number: u8) -> Seen
-        ensures { λ r. ⌜ Told (refused number) self r ⌝ }
+        ensures { λ r. ⌜ AnswersMessage (refused number) self r ⌝ }
     {
-        let answer = Answer::Refused(number);
+        let answer = MessageAnswer::Refused(number);
         Seen {
             sensor: self,
             answer,
@@ -154,7 +154,7 @@ fn accepted(registers: [u8; 128], index: u8, increment: bool) -> Seen
     };
     Seen {
         sensor,
-        answer: Answer::Accepted,
+        answer: MessageAnswer::Accepted,
     }
 }
 

@@ -10,7 +10,7 @@ use Rattle.text.specs.Put.{Puts}
 use Rattle.two_wire.specs.declared.Sensor.{Sensor}
 use Rattle.two_wire.specs.Messages.{Acceptance, accepted, refused, sensorAfter, messageOn}
 use Rattle.two_wire_words.specs.Words.{acceptedText, refusedText}
-use Rattle.two_wire_text.specs.declared.Told.{Told}
+use Rattle.two_wire_text.specs.declared.MessageTold.{MessageTold}
 use Rattle.two_wire_text.specs.Hex.{bytesOf}
 
 -- an accepted message, and one that is refused
@@ -31,9 +31,9 @@ unfoldable pub messageSensor : Sensor → List ℕ → Sensor
 messageSensor s line = cond (leb longestMessage (length line / 3)) s (sensorAfter (messageOn s (bytesOf line)) s)
 
 -- what a call tells: the state after, and a text, put at the front of a buffer as far as it has room
-abbrev pub TellsIn : Sensor → List ℕ → List ℕ → List ℕ → Told → Type 0
+abbrev pub TellsIn : Sensor → List ℕ → List ℕ → List ℕ → MessageTold → Type 0
 TellsIn s text before after told = (told .sensor ≡ s) × Puts before 0 text (told .length) after
 
 -- of a message with an outcome
-abbrev pub TellsOutcome : Acceptance → Sensor → List ℕ → List ℕ → List ℕ → Told → Type 0
+abbrev pub TellsOutcome : Acceptance → Sensor → List ℕ → List ℕ → List ℕ → MessageTold → Type 0
 TellsOutcome o s bytes = TellsIn (sensorAfter o s) (acceptanceText o bytes)

@@ -13,11 +13,11 @@ ghost use Rattle.two_wire_text.specs.Hex.{hexText, digitOf, charFits, is
 ghost use Rattle.two_wire_text.specs.Explained.{messageText, messageSensor, TellsIn, TellsOutcome};
 use text::put;
 use text::put_hex;
-use two_wire::Answer;
+use two_wire::MessageAnswer;
 use two_wire::Sensor;
 
 // The state after a line, and the length of its text.
-pub struct Told {
+pub struct MessageTold {
     pub sensor: Sensor,
     pub length: usize,
 }
@@ -26,35 +26,35 @@ pub struct Told {
 const LONGEST: usize = 256;
 
 // The text for a message's line, as far as the buffer has room, and the state after it.
-pub fn explain(sensor: Sensor, line: &[u8], out: &mut [u8]) -> Told
+pub fn explain(sensor: Sensor, line: &[u8], out: &mut [u8]) -> MessageTold
     ensures { λ r. ⌜ TellsIn (messageSensor sensor (now (line .entry))) (messageText sensor (now (line .entry))) (now (out .entry)) (now (out .exit)) r ⌝ }
 {
     if LONGEST <= line.len() / 3 {
         let length = two_wire_words::put_refused(refusal::NO_ROOM, out);
-        return Told { sensor, length };
+        return MessageTold { sensor, length };
     }
     let mut bytes = [0u8; 256];
     let n = decode(line, &mut bytes);
     read_message(sensor, &bytes[..n], out)
 }
 
-fn read_message(sensor: Sensor, bytes: &[u8], out: &mut [u8]) -> Told
+fn read_message(sensor: Sensor, bytes: &[u8], out: &mut [u8]) -> MessageTold
     ensures { λ r. ⌜ TellsOutcome (messageOn sensor (now (bytes .entry))) sensor (now (bytes .entry)) (now (out .entry)) (now (out .exit)) r ⌝ }
 {
     let seen = sensor.read(bytes);
     let after = seen.sensor;
     let answered = seen.answer;
     match answered {
-        Answer::Accepted => {
+        MessageAnswer::Accepted => {
             let length = two_wire_words::put_accepted(bytes, out);
-            Told {
+            MessageTold {
                 sensor: after,
                 length,
             }
         }
-        Answer::Refused(refusal) => {
+        MessageAnswer::Refused(refusal) => {
             let length = two_wire_words::put_refused(refusal, out);
-            Told {
+            MessageTold {
                 sensor: after,
                 length,
             }

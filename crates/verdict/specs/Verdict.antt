@@ -8,8 +8,8 @@ use Rattle.stream.specs.declared.Mark.{Mark}
 use Rattle.stream.specs.declared.Mark.the-variants.{NoMark, Open}
 use Rattle.stream.specs.Written.{mostText}
 use Rattle.frame_layout.specs.FrameLayout.{lastPlace}
-use Rattle.signal.specs.declared.First.{First}
-use Rattle.signal.specs.declared.First.the-variants.{Unseen, InsideLine, Other}
+use Rattle.signal_tally.specs.declared.First.{First}
+use Rattle.signal_tally.specs.declared.First.the-variants.{Unseen, InsideLine, Other}
 use Rattle.findings.specs.declared.Findings.{Findings}
 use Rattle.verdict.specs.declared.Verdict.{Verdict}
 use Rattle.verdict.specs.declared.Verdict.the-variants.{Good, CheckTheClip, NotGood, NoSignal}

@@ -9,7 +9,7 @@ ghost use Rattle.verdict.specs.Verdict.{isLost, inOrder, byFrames, verdi
 use findings::Findings;
 use profile::Profile;
 use reader_head::Head;
-use signal::First;
+use signal_tally::First;
 use stream::Mark;
 
 pub enum Verdict {

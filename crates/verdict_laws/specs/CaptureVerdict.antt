@@ -10,16 +10,16 @@ use Rattle.profile.specs.declared.Profile.{Profile}
 use Rattle.stream.specs.declared.Answer.{Answer}
 use Rattle.stream.specs.declared.Answer.the-variants as answer
 use Rattle.stream.specs.Answers.{isAnswer}
-use Rattle.signal.specs.Signal.{refusals}
-use Rattle.signal.specs.Seen.{answersOf, fromStart}
-use Rattle.frame.specs.declared.Judge.{Judge}
-use Rattle.frame.specs.declared.Judge.the-variants.{Waiting, Due}
-use Rattle.frame.specs.declared.Ruling.{Ruling}
+use Rattle.signal_tally.specs.Signal.{refusals}
+use Rattle.signal_tally.specs.Seen.{answersOf, fromStart}
+use Rattle.frame_judge.specs.declared.Judge.{Judge}
+use Rattle.frame_judge.specs.declared.Judge.the-variants.{Waiting, Due}
+use Rattle.frame_judge.specs.declared.Ruling.{Ruling}
 use Rattle.frame_layout.specs.FrameLayout.{lastPlace}
-use Rattle.frame.specs.Frame.{opens, brokenKind}
-use Rattle.frame.specs.Calls.{Line, called, rulings, isComplete, isBreak}
+use Rattle.frame_judge.specs.Frame.{opens, brokenKind}
+use Rattle.frame_judge.specs.Calls.{Line, called, rulings, isComplete, isBreak}
 use Rattle.frame_handing.specs.Handing.{allHanded}
-use Rattle.tally.specs.Tally.{isUnfinished}
+use Rattle.frame_tally.specs.Tally.{isUnfinished}
 use Rattle.findings.specs.declared.Findings.{Findings}
 use Rattle.verdict.specs.declared.Verdict.{Verdict}
 use Rattle.verdict.specs.declared.Verdict.the-variants.{Good, CheckTheClip, NotGood, NoSignal}

@@ -25,32 +25,32 @@ use Rattle.profile.specs.declared.Profile.the-variants.{VV5404, VV5300}
 use Rattle.stream.specs.declared.Answer.{Answer}
 use Rattle.stream.specs.declared.Answer.the-variants as answer
 use Rattle.stream.specs.Answers.{isAnswer, isLineAnswer}
-use Rattle.signal.specs.declared.First.the-variants.{InsideLine, Other}
-use Rattle.signal.specs.declared.Signal.{Signal}
-use Rattle.signal.specs.Signal.{refusals, freshSignal, isStart, isCut, withFirst, seen, refusalSeen}
-use Rattle.signal.specs.Signal as signal
-use Rattle.signal.specs.Seen.{signalled, captureSignal, answersOf, fromStart, isRefusal, firstOf}
-use Rattle.signal.specs.SignalLaws.{counts-answers}
+use Rattle.signal_tally.specs.declared.First.the-variants.{InsideLine, Other}
+use Rattle.signal_tally.specs.declared.Signal.{Signal}
+use Rattle.signal_tally.specs.Signal.{refusals, freshSignal, isStart, isCut, withFirst, seen, refusalSeen}
+use Rattle.signal_tally.specs.Signal as signal
+use Rattle.signal_tally.specs.Seen.{signalled, captureSignal, answersOf, fromStart, isRefusal, firstOf}
+use Rattle.signal_tally.specs.SignalLaws.{counts-answers}
 use Rattle.frame_handing.specs.declared.Handed.{Handed}
 use Rattle.frame_handing.specs.declared.Handed.the-variants as hand
-use Rattle.frame.specs.declared.Judge.{Judge}
-use Rattle.frame.specs.declared.Judge.the-variants.{Waiting, Due}
-use Rattle.frame.specs.declared.Ruling.{Ruling}
-use Rattle.frame.specs.declared.Ruling.the-variants as ruling
-use Rattle.frame.specs.declared.Judged.{Judged}
+use Rattle.frame_judge.specs.declared.Judge.{Judge}
+use Rattle.frame_judge.specs.declared.Judge.the-variants.{Waiting, Due}
+use Rattle.frame_judge.specs.declared.Ruling.{Ruling}
+use Rattle.frame_judge.specs.declared.Ruling.the-variants as ruling
+use Rattle.frame_judge.specs.declared.Judged.{Judged}
 use Rattle.frame_layout.specs.FrameLayout.{lastPlace}
-use Rattle.frame.specs.Frame.{gives, refuses, opens, begun, brokenKind, judgeOf, breaksFrame}
-use Rattle.frame.specs.Calls.{Line, line, called, after, rulings, isComplete, isBreak}
+use Rattle.frame_judge.specs.Frame.{gives, refuses, opens, begun, brokenKind, judgeOf, breaksFrame}
+use Rattle.frame_judge.specs.Calls.{Line, line, called, after, rulings, isComplete, isBreak}
 use Rattle.frame_handing.specs.Handing.{isBrokenLine, handedOver, asLines, handedLines, allHanded}
 use Rattle.frame_laws.specs.FrameLaws.{opens-is}
-use Rattle.tally.specs.declared.Tally.{Tally}
-use Rattle.tally.specs.declared.Told.{Told}
-use Rattle.tally.specs.declared.News.{News}
-use Rattle.tally.specs.declared.News.the-variants.{Nothing, Complete, Broken, Cut}
-use Rattle.tally.specs.Tally.{freshTally, marked, opening, moved, quiet, brokenBy, refusedBy, told, handed, handing, cutWithin, cutOf, isUnfinished, ended}
-use Rattle.tally.specs.Tally as tally
-use Rattle.tally.specs.Answered.{tallied, captureTally}
-use Rattle.tally.specs.TallyLaws.{judged-as-said}
+use Rattle.frame_tally.specs.declared.Tally.{Tally}
+use Rattle.frame_tally.specs.declared.Told.{Told}
+use Rattle.frame_tally.specs.declared.News.{News}
+use Rattle.frame_tally.specs.declared.News.the-variants.{Nothing, Complete, Broken, Cut}
+use Rattle.frame_tally.specs.Tally.{freshTally, marked, opening, moved, quiet, brokenBy, refusedBy, told, handed, handing, cutWithin, cutOf, isUnfinished, ended}
+use Rattle.frame_tally.specs.Tally as tally
+use Rattle.frame_tally.specs.Answered.{tallied, captureTally}
+use Rattle.frame_tally.specs.TallyLaws.{judged-as-said}
 use Rattle.findings.specs.declared.Outside.{Outside}
 use Rattle.findings.specs.declared.Findings.{Findings}
 use Rattle.verdict.specs.declared.Verdict.{Verdict}

@@ -24,17 +24,17 @@ use Rattle.recovery.specs.Collected.{collected}
 use Rattle.recovery.specs.CleanAnswers.{said}
 use Rattle.recovery.specs.CutStream.{cutOut, wholeBetween, Tidy, tidy-none, tidy-line, tidy-both, Orderly, all-tidy, began-within, LastAnswer, no-mark-read, within-line, within-gap, gap-closed, end-alone, TextShort}
 use Rattle.recovery.specs.CutStreamLaws.{cut-stream}
-use Rattle.signal.specs.Signal.{isCut}
-use Rattle.signal.specs.Seen.{fromStart}
+use Rattle.signal_tally.specs.Signal.{isCut}
+use Rattle.signal_tally.specs.Seen.{fromStart}
 use Rattle.frame_layout.specs.declared.Borders.{Borders}
 use Rattle.frame_layout.specs.declared.Borders.the-variants.{On}
-use Rattle.frame.specs.declared.Judge.the-variants.{Waiting}
+use Rattle.frame_judge.specs.declared.Judge.the-variants.{Waiting}
 use Rattle.frame_layout.specs.FrameLayout.{lastPlace}
-use Rattle.frame.specs.Calls.{Line, rulings, isComplete, isBreak, fits, laidFrom, IsFrame}
-use Rattle.frame.specs.Calls as calls
+use Rattle.frame_judge.specs.Calls.{Line, rulings, isComplete, isBreak, isLaidOutAt, laidFrom, IsFrame}
+use Rattle.frame_judge.specs.Calls as calls
 use Rattle.frame_handing.specs.Handing.{isBrokenLine, handedLines, allHanded}
 use Rattle.frame_laws.specs.SentFrames.{judgedLine, judgedLines, allLines, AllFrames, no-frames, and-frame}
-use Rattle.tally.specs.Tally.{isUnfinished}
+use Rattle.frame_tally.specs.Tally.{isUnfinished}
 use Rattle.findings.specs.declared.Findings.{Findings}
 use Rattle.findings.specs.declared.Found.{Found}
 use Rattle.verdict.specs.declared.Verdict.the-variants.{Good}
@@ -214,7 +214,7 @@ ends-within : (p : Profile) (b : Borders) (k : ℕ) (ss : List Sent) (fs : List 
 ends-within p b k [] fs h l e more m = more m
 ends-within p b k (s ∷ ss) fs h l e more zero = record { rest = s ∷ ss; frames = fs; is = refl; laid = (b, k, l, e); whole = h }
 ends-within p b k (s ∷ ss) fs h l e more (suc m) =
-    ends-within p b (suc k) ss fs h (and-right (fits p b (suc k) (judgedLine s)) _ l) (omega (arith, e)) more m
+    ends-within p b (suc k) ss fs h (and-right (isLaidOutAt p b (suc k) (judgedLine s)) _ l) (omega (arith, e)) more m
 
 ends-all : (p : Profile) {fs : List (List Sent)} → AllFrames p fs → (m : ℕ) → Ends p (drop m (allLines fs))
 ends-all p no-frames zero = ends-whole p [] no-frames
@@ -225,7 +225,7 @@ ends-all p (and-frame b {ss = ss} {fs = fs} f h) m = go ss f m (ends-all p h)
     go ss f zero more = ends-whole p (ss ∷ fs) (and-frame b f h)
     go [] f (suc m) more = absurd (let e = f .0 in omega arith)
     go (s ∷ ss) f (suc m) more =
-        ends-within p b 0 ss fs h (and-right (fits p b 0 (judgedLine s)) _ (f .1)) (let e = f .0 in omega arith) more m
+        ends-within p b 0 ss fs h (and-right (isLaidOutAt p b 0 (judgedLine s)) _ (f .1)) (let e = f .0 in omega arith) more m
 
 -- frames before, a frame, and frames after it
 record Split (p : Profile) (fs : List (List Sent)) (f : List Sent) (gs : List (List Sent)) : Type 0 where

@@ -16,7 +16,7 @@ use Rattle.stream.specs.Written.{Sent, AllWritable, no-lines, and-line, stream}
 use Rattle.recovery.specs.Examples.{sample, sample-writable}
 use Rattle.frame_layout.specs.declared.Borders.{Borders}
 use Rattle.frame_layout.specs.FrameLayout.{layout, kindsOf, lastPlace}
-use Rattle.frame.specs.Calls.{Line, line, IsFrame, numberedFrom}
+use Rattle.frame_judge.specs.Calls.{Line, line, IsFrame, numberedFrom}
 use Rattle.frame_layout.specs.FrameLength.{frame-length}
 use Rattle.frame_laws.specs.FrameLaws.{frame-counted}
 use Rattle.frame_laws.specs.SentFrames.{judgedLines, AllFrames, no-frames, and-frame}

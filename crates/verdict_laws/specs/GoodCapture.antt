@@ -6,11 +6,11 @@ use Prim.Native.Nat.{_≤_}
 use lib.ListN.{length}
 use Rattle.profile.specs.declared.Profile.{Profile}
 use Rattle.frame_layout.specs.declared.Borders.{Borders}
-use Rattle.frame.specs.declared.Judge.the-variants.{Waiting}
-use Rattle.frame.specs.declared.Ruling.{Ruling}
-use Rattle.frame.specs.declared.Ruling.the-variants as ruling
+use Rattle.frame_judge.specs.declared.Judge.the-variants.{Waiting}
+use Rattle.frame_judge.specs.declared.Ruling.{Ruling}
+use Rattle.frame_judge.specs.declared.Ruling.the-variants as ruling
 use Rattle.frame_layout.specs.FrameLayout.{lastPlace}
-use Rattle.frame.specs.Calls.{Line, rulings, IsFrame}
+use Rattle.frame_judge.specs.Calls.{Line, rulings, IsFrame}
 
 -- each ruling is Going
 abbrev pub isGoing : Ruling → Bool

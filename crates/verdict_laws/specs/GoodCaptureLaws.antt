@@ -18,22 +18,22 @@ use Rattle.line_number.specs.LineNumber.{greatest}
 use Rattle.profile.specs.declared.Profile.{Profile}
 use Rattle.stream.specs.declared.Answer.{Answer}
 use Rattle.stream.specs.declared.Answer.the-variants as answer
-use Rattle.signal.specs.Signal.{refusals, isCut}
-use Rattle.signal.specs.Seen.{fromStart}
+use Rattle.signal_tally.specs.Signal.{refusals, isCut}
+use Rattle.signal_tally.specs.Seen.{fromStart}
 use Rattle.frame_layout.specs.declared.Borders.{Borders}
-use Rattle.frame.specs.declared.KnownBorders.{KnownBorders}
-use Rattle.frame.specs.declared.Judge.{Judge}
-use Rattle.frame.specs.declared.Judge.the-variants.{Waiting, Due}
+use Rattle.frame_judge.specs.declared.KnownBorders.{KnownBorders}
+use Rattle.frame_judge.specs.declared.Judge.{Judge}
+use Rattle.frame_judge.specs.declared.Judge.the-variants.{Waiting, Due}
 use Rattle.frame_handing.specs.declared.Handed.the-variants as hand
-use Rattle.frame.specs.declared.Ruling.{Ruling}
-use Rattle.frame.specs.declared.Ruling.the-variants as ruling
-use Rattle.frame.specs.declared.Judged.{Judged}
+use Rattle.frame_judge.specs.declared.Ruling.{Ruling}
+use Rattle.frame_judge.specs.declared.Ruling.the-variants as ruling
+use Rattle.frame_judge.specs.declared.Judged.{Judged}
 use Rattle.frame_layout.specs.FrameLayout.{lastPlace}
-use Rattle.frame.specs.Frame.{passes, lineDue, settledBy, gives, refuses, opens, begun, brokenKind, judgeOf}
-use Rattle.frame.specs.Calls.{Line, line, called, after, rulings, isBreak, accepts, accepted, IsFrame}
+use Rattle.frame_judge.specs.Frame.{passes, lineDue, settledBy, gives, refuses, opens, begun, brokenKind, judgeOf}
+use Rattle.frame_judge.specs.Calls.{Line, line, called, after, rulings, isBreak, accepts, accepted, IsFrame}
 use Rattle.frame_handing.specs.Handing.{isBrokenLine, asLines, allHanded}
 use Rattle.frame_laws.specs.FrameLaws.{passes-high, rulings-append, after-snoc, accepted-snoc, Effect, wrongKind, wrongNumber, waits, breaks, strays, starts, restarts, goes, ends, effect, reached-passes, complete-frame}
-use Rattle.tally.specs.Tally.{isUnfinished}
+use Rattle.frame_tally.specs.Tally.{isUnfinished}
 use Rattle.verdict.specs.declared.Verdict.the-variants.{Good}
 use Rattle.verdict_laws.specs.CaptureVerdict.{captureVerdict, frameBroken, isOpening, beforeFirst, fromFirst, isWhole, isWaiting, someOutside, fewBefore, lineOutside, isRefused, markRefused}
 use Rattle.verdict_laws.specs.CaptureVerdictLaws.{whole-line, verdicts}

@@ -13,13 +13,13 @@ use Rattle.bits.specs.Tests.{or-left, or-right, or-neither}
 use Rattle.counts.specs.CountsLaws.{some}
 use Rattle.profile.specs.declared.Profile.{Profile}
 use Rattle.frame_layout.specs.declared.Borders.{Borders}
-use Rattle.frame.specs.declared.Judge.{Judge}
-use Rattle.frame.specs.declared.Judge.the-variants.{Waiting}
-use Rattle.frame.specs.declared.Ruling.{Ruling}
-use Rattle.frame.specs.declared.Ruling.the-variants as ruling
-use Rattle.frame.specs.declared.Judged.{Judged}
+use Rattle.frame_judge.specs.declared.Judge.{Judge}
+use Rattle.frame_judge.specs.declared.Judge.the-variants.{Waiting}
+use Rattle.frame_judge.specs.declared.Ruling.{Ruling}
+use Rattle.frame_judge.specs.declared.Ruling.the-variants as ruling
+use Rattle.frame_judge.specs.declared.Judged.{Judged}
 use Rattle.frame_layout.specs.FrameLayout.{lastPlace}
-use Rattle.frame.specs.Calls.{Line, called, after, rulings, isComplete, isBreak, fits, laidFrom, IsFrame}
+use Rattle.frame_judge.specs.Calls.{Line, called, after, rulings, isComplete, isBreak, isLaidOutAt, laidFrom, IsFrame}
 use Rattle.frame_laws.specs.CompleteFrames.{toComplete}
 use Rattle.frame_laws.specs.FrameLaws.{after-append, rulings-append, frame-complete, first-is, later-opens-none, Effect, wrongKind, wrongNumber, waits, breaks, strays, starts, restarts, goes, ends, effect, reached-passes, after-snoc}
 use Rattle.verdict_laws.specs.CaptureVerdict.{isOpening, beforeFirst, fromFirst, isWhole, wholeLines, isWaiting, someOutside}
@@ -126,7 +126,7 @@ Tail p ls = (b : Borders) × (k : ℕ) × (laidFrom p b (suc k) ls ≡ true) × 
 tail-opens-none : (p : Profile) (b : Borders) (k : ℕ) (ls : List Line) → laidFrom p b (suc k) ls ≡ true → some isOpening ls ≡ false
 tail-opens-none p b k [] h = refl
 tail-opens-none p b k (l ∷ ls) h =
-    or-neither (isOpening l) _ (later-opens-none p b k l (and-left (fits p b (suc k) l) _ h)) (tail-opens-none p b (suc k) ls (and-right (fits p b (suc k) l) _ h))
+    or-neither (isOpening l) _ (later-opens-none p b k l (and-left (isLaidOutAt p b (suc k) l) _ h)) (tail-opens-none p b (suc k) ls (and-right (isLaidOutAt p b (suc k) l) _ h))
 
 pub tail-waits : (p : Profile) (ls : List Line) → some isOpening ls ≡ false → (after p Waiting ls ≡ Waiting) × (some isBreak (rulings p Waiting ls) ≡ false)
 tail-waits p [] h = (refl, refl)
@@ -161,7 +161,7 @@ Begins ls = (beforeFirst ls ≡ []) × (fromFirst ls ≡ ls)
 pub frame-begins : (p : Profile) (b : Borders) (ls ms : List Line) → IsFrame p b ls → Begins (ls ++ ms)
 frame-begins p b [] ms f = absurd (let e = f .0 in omega arith)
 frame-begins p b (l ∷ ls) ms f =
-    let e : isOpening l ≡ true = ap isOpening (first-is p b l (and-left (fits p b 0 l) _ (f .1))) in
+    let e : isOpening l ≡ true = ap isOpening (first-is p b l (and-left (isLaidOutAt p b 0 l) _ (f .1))) in
     (ap (λ (c : Bool). cond c [] (l ∷ beforeFirst (ls ++ ms))) e, ap (λ (c : Bool). cond c (l ∷ (ls ++ ms)) (fromFirst (ls ++ ms))) e)
 
 -- of the lines handed to the judge: a frame is complete and none is broken; after the first opens no line is outside, and few come before it

@@ -1,5 +1,5 @@
 // Tells why marks of a capture are refused (paper 02, A9): the mark with the number given, as `list` counts them, or every refused mark. One
-// line for each: mark_finder finds the mark, reason_text says the line. The capture is read in pieces, from a file or from standard input, and
+// line for each: mark_finder finds the mark, why_line says the line. The capture is read in pieces, from a file or from standard input, and
 // of the open mark no more bytes are kept than are looked at. An open, a read or a write that fails is told once, on standard error, and ends
 // the search.
 use command_words::Asked;
@@ -52,7 +52,7 @@ struct Search {
 
 fn seek_all(profile: Profile, wanted: u64, fd: i32, name: &[u8]) {
     let mut buf = io::large_buffer();
-    let mut held = [0u8; reason_text::KEPT];
+    let mut held = [0u8; why_line::KEPT];
     seek_in(profile, wanted, fd, name, &mut buf, &mut held);
 }
 
@@ -203,7 +203,7 @@ fn tell(mark: Located, held: &[u8], n: usize) -> bool {
         return false;
     }
     let mut out = io::buffer();
-    let used = reason_text::tell(mark, &held[..n], &mut out);
+    let used = why_line::tell(mark, &held[..n], &mut out);
     write_front(&out, used)
 }
 

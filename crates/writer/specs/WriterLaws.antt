@@ -26,7 +26,7 @@ use Rattle.profile.specs.LayoutLaws.{rules-length, fits-length}
 use Rattle.stream.specs.Written.{Sent, Writable, mostNulls, nibbles, endMark, tail, written}
 use Rattle.stream.specs.NibblesLaws.{nibbles-length}
 use Rattle.writer.specs.Writer.{roomFor, bytesFit, writeLine, sent, writeKind, writeProfile, writeOf}
-use Rattle.writer.specs.WriterTable.{LineAnswer, number-too-large, wrong-body-length, byte-not-allowed, too-many-nulls, no-room, line, Answer, bad-profile, bad-kind, of-line, writeSent}
+use Rattle.writer.specs.WriterTable.{LineAnswer, number-too-large, wrong-body-length, byte-not-allowed, too-many-nulls, no-room, line, WriteAnswer, bad-profile, bad-kind, of-line, writeSent}
 
 -- Lengths.
 
@@ -76,21 +76,21 @@ line-answer p s room =
 
 module _ (profile kind number : ℕ) (body : List ℕ) (a b nulls room : ℕ) where
   by-kind : (p : Profile) → profileNumbered profile ≡ numbered.Profile p → (k : LineKind) → kindNumbered kind ≡ k
-      → Answer profile kind number body a b nulls room (writeKind p k number body a b nulls room)
+      → WriteAnswer profile kind number body a b nulls room (writeKind p k number body a b nulls room)
   by-kind p e NotLine f = bad-kind p e f
   by-kind p e (LineOf k) f = of-line p k e f (line-answer p (sent k number body a b nulls) room)
 
   by-profile : (n : Numbered) → profileNumbered profile ≡ n
-      → Answer profile kind number body a b nulls room (writeProfile n kind number body a b nulls room)
+      → WriteAnswer profile kind number body a b nulls room (writeProfile n kind number body a b nulls room)
   by-profile numbered.NoProfile e = bad-profile e
   by-profile (numbered.Profile p) e = by-kind p e (kindNumbered kind) refl
 
   -- the writer's answer is the table's, and there is no other
-  pub answer : Answer profile kind number body a b nulls room (writeOf profile kind number body a b nulls room)
+  pub answer : WriteAnswer profile kind number body a b nulls room (writeOf profile kind number body a b nulls room)
   unfolding writeOf
   answer = by-profile (profileNumbered profile) refl
 
-  pub answer-only : (o : Output) → Answer profile kind number body a b nulls room o → writeOf profile kind number body a b nulls room ≡ o
+  pub answer-only : (o : Output) → WriteAnswer profile kind number body a b nulls room o → writeOf profile kind number body a b nulls room ≡ o
   unfolding writeOf
   answer-only o (bad-profile e) = simp e
   answer-only o (bad-kind p e f) = simp (e, f)

@@ -28,13 +28,13 @@ pub data LineAnswer (p : Profile) (s : Sent) (room : ℕ) : Output → Type 0 wh
   line : Writable p s → roomFor p (s .nulls) ≤ room → LineAnswer p s room (used (length (written s)) (written s))
 
 -- to any call
-pub data Answer (profile kind number : ℕ) (body : List ℕ) (a b nulls room : ℕ) : Output → Type 0 where
-  bad-profile : profileNumbered profile ≡ numbered.NoProfile → Answer profile kind number body a b nulls room (refused badState)
+pub data WriteAnswer (profile kind number : ℕ) (body : List ℕ) (a b nulls room : ℕ) : Output → Type 0 where
+  bad-profile : profileNumbered profile ≡ numbered.NoProfile → WriteAnswer profile kind number body a b nulls room (refused badState)
   bad-kind : (p : Profile) → profileNumbered profile ≡ numbered.Profile p → kindNumbered kind ≡ NotLine
-      → Answer profile kind number body a b nulls room (refused badKind)
+      → WriteAnswer profile kind number body a b nulls room (refused badKind)
   of-line : (p : Profile) (k : Kind) {o : Output} → profileNumbered profile ≡ numbered.Profile p → kindNumbered kind ≡ LineOf k
       → LineAnswer p (sent k number body a b nulls) room o
-      → Answer profile kind number body a b nulls room o
+      → WriteAnswer profile kind number body a b nulls room o
 
 -- the writer's answer to a line, given by its profile's and its kind's number
 abbrev pub writeSent : Profile → Sent → ℕ → Output

@@ -5,7 +5,7 @@ use native.Mathlib.Omega.{arith}
 use lib.ListN.{length, length-drop}
 use lib.Seq.{length-take-le}
 use borrow.Author.Needs.{needs}
-use Rattle.line_list.specs.LinesLaws.{lent-from-is}
+use Rattle.line_records.specs.LinesLaws.{lent-from-is}
 use Rattle.compare.proofs.all_rows.Statement.{statement}
 use Rattle.compare.proofs.all_rows.Tie as tie
 

@@ -6,9 +6,9 @@ use native.Mathlib.Omega.{arith}
 use lib.Seq.{length-take-le}
 use borrow.Author.Needs.{needs}
 use Rattle.text.specs.PutLaws.{whole, front-text}
-use Rattle.difference.specs.ReadBack.{differencesIn}
-use Rattle.difference.specs.RestLaws.{puts-is}
-use Rattle.difference.specs.NextLaws.{next-is, stepped}
+use Rattle.diff_records.specs.ReadBack.{differencesIn}
+use Rattle.diff_records.specs.RestLaws.{puts-is}
+use Rattle.diff_records.specs.NextLaws.{next-is, stepped}
 use Rattle.diff_rows.specs.Rows.{rowsText}
 use Rattle.diff_rows.specs.RowsLaws.{next-back, next-few}
 use Rattle.diff_rows.proofs.next_rows.Statement.{statement}

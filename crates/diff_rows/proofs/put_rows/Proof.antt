@@ -4,12 +4,12 @@ use Prim.Native.Nat.{_≤_, _-_, _+_}
 use native.Mathlib.Omega.{arith}
 use lib.ListN.{length, drop}
 use borrow.Author.Needs.{needs}
-use Rattle.line_list.specs.LinesLaws.{lentFrom}
-use Rattle.difference.specs.ReadBack.{differencesIn}
-use Rattle.difference.specs.RestLaws.{Rest, rest-all, rest-put, rest-none, puts-is}
-use Rattle.difference.specs.ReadBack.{frontSize}
-use Rattle.change.specs.FrontLaws.{size-some}
-use Rattle.change_row.specs.ChangeRow.{changeRow}
+use Rattle.line_records.specs.LinesLaws.{lentFrom}
+use Rattle.diff_records.specs.ReadBack.{differencesIn}
+use Rattle.diff_records.specs.RestLaws.{Rest, rest-all, rest-put, rest-none, puts-is}
+use Rattle.diff_records.specs.ReadBack.{frontSize}
+use Rattle.diff_change.specs.FrontLaws.{size-some}
+use Rattle.diff_change_row.specs.ChangeRow.{changeRow}
 use Rattle.diff_rows.specs.Rows.{rowsText}
 use Rattle.diff_rows.specs.RowsLaws.{rows-at, rows-over}
 use Rattle.diff_rows.proofs.put_rows.Statement.{statement}

@@ -3,9 +3,9 @@ use mathlib.Core.Path.{_≡_, sym, ap, _∙_}
 use Prim.Native.Nat.{_≤_, _-_, _+_}
 use native.Mathlib.Omega.{arith}
 use lib.ListN.{length}
-use Rattle.line_list.specs.Lines.{fullLines}
-use Rattle.difference.specs.Difference.{differences}
-use Rattle.difference.specs.NextLaws.{in-first, in-second}
+use Rattle.line_records.specs.Lines.{fullLines}
+use Rattle.diff_records.specs.Difference.{differences}
+use Rattle.diff_records.specs.NextLaws.{in-first, in-second}
 use Rattle.diff_summary.specs.Summary.{withDifferences, summaryOf}
 use Rattle.diff_summary.specs.SummaryLaws.{differencesFrom, walk-counted, walk-end}
 use borrow.Author.Needs.{needs}

@@ -1,6 +1,6 @@
 -- 11 for a short state and for numbers no reader has; else a run is lent the body, and its head is stored where it took something.
-use Rattle.reader_state.specs.State.{stateLength, holdsReader}
-use Rattle.reader_state.specs.StateLaws.{held-head}
+use Rattle.exported_state.specs.State.{stateLength, holdsReader}
+use Rattle.exported_state.specs.StateLaws.{held-head}
 use mathlib.Core.Path.{sym, ap, _∙_}
 use mathlib.Core.Logic.{⊎-elim}
 use native.Mathlib.Omega.{arith}

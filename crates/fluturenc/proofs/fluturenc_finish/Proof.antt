@@ -3,7 +3,7 @@ use denote.Ref.{now}
 use Rattle.fluturenc.specs.CallLaws.{finish-call}
 use mathlib.Core.Path.{sym, _∙_}
 use Rattle.fluturenc.specs.Calls.{finishCall}
-use Rattle.reader_state.specs.StateLaws.{holds-length}
+use Rattle.exported_state.specs.StateLaws.{holds-length}
 use borrow.Author.Needs.{needs}
 use Rattle.fluturenc.proofs.fluturenc_finish.Statement.{statement}
 use Rattle.fluturenc.proofs.fluturenc_finish.Tie as tie

@@ -2,7 +2,7 @@
 use borrow.Author.Tests.{lt-ltb, le-ltb}
 use Rattle.fluturenc.specs.Calls.{judgeCall}
 use borrow.Author.Needs.{needs}
-use Rattle.frame.specs.RulingLaws.{judge-given}
+use Rattle.frame_judge.specs.RulingLaws.{judge-given}
 use Rattle.fluturenc.proofs.fluturenc_judge.Statement.{statement}
 use Rattle.fluturenc.proofs.fluturenc_judge.Tie as tie
 

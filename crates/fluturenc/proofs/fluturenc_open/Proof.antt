@@ -2,7 +2,7 @@
 use native.Mathlib.Omega.{arith}
 use lib.ListN.{length}
 use denote.Ref.{now}
-use Rattle.reader_state.specs.State.{stateLength}
+use Rattle.exported_state.specs.State.{stateLength}
 use borrow.Author.Tests.{lt-leb, le-leb}
 use Rattle.fluturenc.specs.Calls.{openCall}
 use borrow.Author.Needs.{needs}

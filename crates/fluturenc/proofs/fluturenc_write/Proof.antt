@@ -1,5 +1,5 @@
 -- The writer gives its answer and leaves the buffer; the answer is told in numbers.
-use Rattle.lent_call.specs.LentCallLaws.{in-numbers}
+use Rattle.exported_call.specs.LentCallLaws.{in-numbers}
 use borrow.Author.Needs.{needs}
 use Rattle.fluturenc.proofs.fluturenc_write.Statement.{statement}
 use Rattle.fluturenc.proofs.fluturenc_write.Tie as tie

@@ -3,8 +3,8 @@ use native.Mathlib.Omega.{arith}
 use lib.ListN.{replicate, length-take, length-drop}
 use denote.Ref.{now}
 use Rattle.profile.specs.Profile.{longest}
-use Rattle.reader_state.specs.State.{bodyIn}
-use Rattle.reader_state.specs.StateLaws.{held-head}
+use Rattle.exported_state.specs.State.{bodyIn}
+use Rattle.exported_state.specs.StateLaws.{held-head}
 use Rattle.fluturenc.proofs.Pasting.{paste-all}
 use borrow.Author.Needs.{needs}
 use Rattle.fluturenc.proofs.reader_in.Statement.{statement}

@@ -6,7 +6,7 @@ use native.Mathlib.Omega.{arith}
 use lib.ListN.{length}
 use lib.Seq.{paste}
 use denote.Ref.{now}
-use Rattle.reader_state.specs.State.{headLength}
+use Rattle.exported_state.specs.State.{headLength}
 use Rattle.fluturenc.proofs.Pasting.{stored-pasted}
 use borrow.Author.Needs.{needs}
 use Rattle.fluturenc.proofs.store.Statement.{statement}

@@ -4,7 +4,7 @@ use mathlib.Core.List.{List, _++_}
 use Prim.Native.Nat.{ℕ}
 use lib.ListN.{drop}
 use denote.Ref.{now}
-use Rattle.reader_state.specs.State.{headLength}
+use Rattle.exported_state.specs.State.{headLength}
 use Rattle.fluturenc.proofs.Pasting.{head-pasted}
 use borrow.Author.Needs.{needs}
 use Rattle.fluturenc.proofs.store_head.Statement.{statement}

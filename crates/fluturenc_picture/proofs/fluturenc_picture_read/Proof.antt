@@ -1,5 +1,5 @@
 -- Reading a picture gives its answer and leaves the buffer; the answer is told in numbers.
-use Rattle.lent_call.specs.LentCallLaws.{in-numbers}
+use Rattle.exported_call.specs.LentCallLaws.{in-numbers}
 use borrow.Author.Needs.{needs}
 use Rattle.fluturenc_picture.proofs.fluturenc_picture_read.Statement.{statement}
 use Rattle.fluturenc_picture.proofs.fluturenc_picture_read.Tie as tie

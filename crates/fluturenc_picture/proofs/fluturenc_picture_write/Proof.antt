@@ -1,5 +1,5 @@
 -- Writing a picture gives its answer and leaves the buffer; the answer is told in numbers.
-use Rattle.lent_call.specs.LentCallLaws.{in-numbers}
+use Rattle.exported_call.specs.LentCallLaws.{in-numbers}
 use borrow.Author.Needs.{needs}
 use Rattle.fluturenc_picture.proofs.fluturenc_picture_write.Statement.{statement}
 use Rattle.fluturenc_picture.proofs.fluturenc_picture_write.Tie as tie

@@ -1,5 +1,5 @@
 -- What is found is written as messages; the answer is told in numbers.
-use Rattle.lent_call.specs.LentCallLaws.{in-numbers}
+use Rattle.exported_call.specs.LentCallLaws.{in-numbers}
 use borrow.Author.Needs.{needs}
 use Rattle.fluturenc_settings.proofs.fluturenc_settings_messages.Statement.{statement}
 use Rattle.fluturenc_settings.proofs.fluturenc_settings_messages.Tie as tie

@@ -1,5 +1,5 @@
 -- Writing messages gives its answer and leaves the buffer; the answer is told in numbers.
-use Rattle.lent_call.specs.LentCallLaws.{in-numbers}
+use Rattle.exported_call.specs.LentCallLaws.{in-numbers}
 use borrow.Author.Needs.{needs}
 use Rattle.fluturenc_two_wire.proofs.fluturenc_messages.Statement.{statement}
 use Rattle.fluturenc_two_wire.proofs.fluturenc_messages.Tie as tie

@@ -3,7 +3,7 @@ use mathlib.Core.List.{_∷_, _++_}
 use native.Mathlib.Omega.{arith}
 use borrow.Author.Needs.{needs}
 use Rattle.text.specs.PutLaws.{then}
-use Rattle.line_list.specs.Lines.{lineSize, inTwo}
+use Rattle.line_records.specs.Lines.{lineSize, inTwo}
 use Rattle.frame_row.proofs.Putting.{put-whole}
 use Rattle.frame_row.proofs.put_line.Statement.{statement}
 use Rattle.frame_row.proofs.put_line.Tie as tie

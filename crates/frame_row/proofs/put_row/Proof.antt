@@ -6,7 +6,7 @@ use borrow.Author.Needs.{needs}
 use Rattle.line_code.specs.declared.Kind.the-variants.{VL}
 use Rattle.line_code.specs.LineCode.{kindNumber}
 use Rattle.profile.specs.Profile.{width}
-use Rattle.line_list.specs.Lines.{lineSize}
+use Rattle.line_records.specs.Lines.{lineSize}
 use Rattle.frame_row.specs.FrameRow.{rowSize}
 use Rattle.frame_row.proofs.Putting.{with-pixels, with-nothing, with-line}
 use Rattle.frame_row.proofs.put_row.Statement.{statement}

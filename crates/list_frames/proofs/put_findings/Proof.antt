@@ -1,8 +1,8 @@
 -- The report fits in the room that is asked for it, so it is put whole at the place.
 use native.Mathlib.Omega.{arith}
-use Rattle.report.specs.Report.{reportRoom, reportIfRoom}
-use Rattle.report.specs.ReportLaws.{report-short}
-use Rattle.listers.specs.PartLaws.{part-put}
+use Rattle.verdict_report.specs.Report.{reportRoom, reportIfRoom}
+use Rattle.verdict_report.specs.ReportLaws.{report-short}
+use Rattle.lister_laws.specs.PartLaws.{part-put}
 use borrow.Author.Needs.{needs}
 use Rattle.list_frames.proofs.put_findings.Statement.{statement}
 use Rattle.list_frames.proofs.put_findings.Tie as tie

@@ -2,7 +2,7 @@
 use native.Mathlib.Omega.{arith}
 use Rattle.list_news.specs.NewsLinesLaws.{news-short}
 use Rattle.list_news.specs.NewsLines.{newsIfRoom, newsRoom}
-use Rattle.listers.specs.PartLaws.{part-put}
+use Rattle.lister_laws.specs.PartLaws.{part-put}
 use borrow.Author.Needs.{needs}
 use Rattle.list_frames.proofs.put_news.Statement.{statement}
 use Rattle.list_frames.proofs.put_news.Tie as tie

@@ -3,7 +3,7 @@ use native.Mathlib.Omega.{arith}
 use borrow.Author.Needs.{needs}
 use Rattle.list_rows.specs.RowLaws.{row-short}
 use Rattle.list_rows.specs.Rows.{rowIfRoom, rowRoom}
-use Rattle.listers.specs.PartLaws.{part-put}
+use Rattle.lister_laws.specs.PartLaws.{part-put}
 use Rattle.list_marks.proofs.put_row.Statement.{statement}
 use Rattle.list_marks.proofs.put_row.Tie as tie
 

@@ -4,7 +4,7 @@ use native.Mathlib.Nat.{le-trans}
 use borrow.Author.Tests.{lt-ltb, le-ltb}
 use borrow.Author.Needs.{needs}
 use Rattle.text.specs.PutLaws.{then, puts-front}
-use Rattle.tally.specs.declared.News.the-variants.{Complete, Broken, Cut}
+use Rattle.frame_tally.specs.declared.News.the-variants.{Complete, Broken, Cut}
 use Rattle.list_news.specs.NewsLines.{newsLine, newsIfRoom}
 use Rattle.list_news.specs.NewsLinesLaws.{news-short}
 use Rattle.list_news.proofs.news.Statement.{statement}

@@ -8,9 +8,9 @@ use borrow.Author.Needs.{needs}
 use Rattle.stream.specs.Written.{nibbles}
 use Rattle.stream.specs.NibblesLaws.{nibbles-length}
 use Rattle.text.specs.PutLaws.{front-within}
-use Rattle.mean_lister.specs.declared.MeansListed.{MeansListed}
-use Rattle.mean_lister.specs.MeanLister.{listedOf}
-use Rattle.mean_lister.specs.MeanListerLaws.{taken-within}
+use Rattle.list_means.specs.declared.MeansListed.{MeansListed}
+use Rattle.list_means.specs.MeanLister.{listedOf}
+use Rattle.list_means.specs.MeanListerLaws.{taken-within}
 use Rattle.means.proofs.list_piece.Statement.{statement}
 use Rattle.means.proofs.list_piece.Tie as tie
 

@@ -5,8 +5,8 @@ use lib.ListN.{length}
 use lib.Seq.{length-take-le}
 use borrow.Author.Needs.{needs}
 use Rattle.text.specs.PutLaws.{front-within}
-use Rattle.mean_lister.specs.declared.MeansListed.{MeansListed}
-use Rattle.mean_lister.specs.MeanLister.{finishedOf}
+use Rattle.list_means.specs.declared.MeansListed.{MeansListed}
+use Rattle.list_means.specs.MeanLister.{finishedOf}
 use Rattle.means.proofs.write_end.Statement.{statement}
 use Rattle.means.proofs.write_end.Tie as tie
 

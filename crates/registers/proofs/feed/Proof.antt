@@ -1,7 +1,7 @@
 -- The text for a line is within the buffer that it was put in, so the front that is written has its length.
 use mathlib.Core.Path.{sym}
 use lib.Seq.{length-take-le}
-use Rattle.script.specs.ScriptLaws.{text-within}
+use Rattle.register_script.specs.ScriptLaws.{text-within}
 use borrow.Author.Needs.{needs}
 use Rattle.registers.proofs.feed.Statement.{statement}
 use Rattle.registers.proofs.feed.Tie as tie

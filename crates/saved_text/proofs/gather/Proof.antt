@@ -4,7 +4,7 @@ use mathlib.Core.List.{List}
 use Prim.Native.Nat.{ℕ, _≤_, _-_}
 use borrow.Author.Needs.{needs}
 use lib.ListN.{length, drop, drop-of-length-le}
-use Rattle.saved_text.specs.declared.Gathered.{Gathered}
+use Rattle.saved_text.specs.declared.LinesGathered.{LinesGathered}
 use Rattle.saved_text.specs.SettingsText.{withSettingLine, nothingGathered, gatheredOver, numbersOf}
 use Rattle.saved_text.specs.SettingsTextLaws.{gathered-step}
 use Rattle.saved_text.proofs.gather.Statement.{statement}
@@ -31,7 +31,7 @@ returns c =
     let loop = test .before .loop in
     let text : List ℕ = test .before .before .before .before .args .text .now in
     let over : gatheredOver (loop .gathered) (drop (loop .i) text) ≡ loop .gathered = rw (drop-of-length-le text (test .loop-test .left)) in
-    simp (c .before .end-line .ensures) (ap (λ (g : Gathered). withSettingLine g .list) (sym (loop .inv .1 ∙ over)))
+    simp (c .before .end-line .ensures) (ap (λ (g : LinesGathered). withSettingLine g .list) (sym (loop .inv .1 ∙ over)))
 
 pub gather-spec : {M : Type 1} → statement M
 gather-spec =

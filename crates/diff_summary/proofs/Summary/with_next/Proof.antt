@@ -1,5 +1,5 @@
 -- What the least number gives is counted, by whose it is.
-use Rattle.difference.specs.NextLaws.{next-line, next-first, next-second, next-both, next-none}
+use Rattle.diff_records.specs.NextLaws.{next-line, next-first, next-second, next-both, next-none}
 use borrow.Author.Needs.{needs}
 use Rattle.diff_summary.proofs.Summary.with_next.Statement.{statement}
 use Rattle.diff_summary.proofs.Summary.with_next.Tie as tie

@@ -3,7 +3,7 @@ use mathlib.Core.Path.{_≡_, refl, sym, ap, _∙_}
 use mathlib.Core.List.{List}
 use Prim.Native.Nat.{ℕ, _≤_, _-_}
 use lib.ListN.{length, drop, drop-of-length-le}
-use Rattle.difference.specs.Difference.{placesFrom}
+use Rattle.diff_records.specs.Difference.{placesFrom}
 use Rattle.diff_summary.specs.Summary.{withDifferences}
 use Rattle.diff_summary.specs.SummaryLaws.{places-counted}
 use borrow.Author.Needs.{needs}

@@ -10,7 +10,7 @@ unfolding afterBreak
 returns c = gives _ _ _ _ _ (quietly (c .quiet .ensures) (c .before .moved .ensures)) (simp (c .before .before .enum-told .given .1))
 
 returns-2 : tie.Need-returns-2
-returns-2 c = simp (opens-anew (c .before .before .before .before .enum-told2 .given .1)) (c .before .before .onward .ensures)
+returns-2 c = simp (opens-anew (c .before .before .before .before .enum-told2 .given .1)) (c .before .before .keep-row .ensures)
 
 pub after-break-spec : {M : Type 1} → statement M
 after-break-spec =

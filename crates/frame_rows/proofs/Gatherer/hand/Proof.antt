@@ -1,6 +1,6 @@
 -- By the judge's ruling: going, complete and broken by their functions, waiting keeps no rows, any other refusal changes nothing.
 use borrow.Author.Needs.{needs}
-use Rattle.frame.specs.RulingLaws.{judge-given}
+use Rattle.frame_judge.specs.RulingLaws.{judge-given}
 use Rattle.frame_rows.specs.FrameRows.{handed, refusedBy}
 use Rattle.frame_rows.proofs.Answering.{gives, quietly}
 use Rattle.frame_rows.proofs.Gatherer.hand.Statement.{statement}
@@ -22,7 +22,7 @@ unfolding handed
 returns-3 c =
     let told = c .before .before .before .before in
     let line = told .before .before in
-    simp (← judge-given _ _ (line .line .ensures), told .enum-told2 .given .1, ← line .before .place-due .ensures) (c .before .before .onward .ensures)
+    simp (← judge-given _ _ (line .line .ensures), told .enum-told2 .given .1, ← line .before .place-due .ensures) (c .before .before .keep-row .ensures)
 
 returns-4 : tie.Need-returns-4
 unfolding handed

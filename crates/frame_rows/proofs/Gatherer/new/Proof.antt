@@ -1,7 +1,7 @@
 -- A fresh judge, as its own function promises, and no rows kept.
 use mathlib.Core.Path.{ap}
 use borrow.Author.Needs.{needs}
-use Rattle.frame.specs.declared.Judge.{Judge}
+use Rattle.frame_judge.specs.declared.Judge.{Judge}
 use Rattle.frame_rows.proofs.Gatherer.new.Statement.{statement}
 use Rattle.frame_rows.proofs.Gatherer.new.Tie as tie
 

@@ -7,7 +7,7 @@ use borrow.Author.Needs.{needs}
 use Rattle.profile.specs.Profile.{longest}
 use Rattle.reader_laws.specs.Passes.{passed}
 use Rattle.text.specs.PutLaws.{put-length, put-within}
-use Rattle.listers.specs.RunLaws.{Along, along-start, taken-fits, left-less, text-fits}
+use Rattle.lister_laws.specs.RunLaws.{Along, along-start, taken-fits, left-less, text-fits}
 use Rattle.list_marks.proofs.Runs.{lister, by-reader, marks-next, marks-end, nothing-listed}
 use Rattle.list_marks.proofs.MarkLister.list.Statement.{statement}
 use Rattle.list_marks.proofs.MarkLister.list.Tie as tie

@@ -11,11 +11,11 @@ returns c = simp (← c .before .before .before .some-differs .ensures, c .befor
 
 returns-2 : tie.Need-returns-2
 unfolding readData refuseIf
-returns-2 c = simp (← c .before .before .before .before .some-differs .ensures, c .before .before .if1 .left, ← c .before .before .before .passes .ensures, c .before .if2 .taken) (c .refused2 .ensures)
+returns-2 c = simp (← c .before .before .before .before .some-differs .ensures, c .before .before .if1 .left, ← c .before .before .before .runs-past .ensures, c .before .if2 .taken) (c .refused2 .ensures)
 
 returns-3 : tie.Need-returns-3
 unfolding readData refuseIf
-returns-3 c = simp (c .accepted .ensures, ← c .before .before .before .before .before .some-differs .ensures, c .before .before .before .if1 .left, ← c .before .before .before .before .passes .ensures, c .before .before .if2 .left, c .before .left .ensures) (refl, refl)
+returns-3 c = simp (c .accepted .ensures, ← c .before .before .before .before .before .some-differs .ensures, c .before .before .before .if1 .left, ← c .before .before .before .before .runs-past .ensures, c .before .before .if2 .left, c .before .left .ensures) (refl, refl)
 
 pub read-data-spec : {M : Type 1} → statement M
 read-data-spec =
