@@ -12,8 +12,8 @@ use profile::Profile;
 pub fn has_bad_byte(profile: Profile, kind: Kind, body: &[u8], first: u8, second: u8) -> bool
     ensures { λ r. ⌜ r ≡ not (fits (rules profile kind) (now (body .entry)) && gapFits profile kind first second) ⌝ }
 {
-    if profile.body_fits(kind, body) {
-        if profile.gap_fits(kind, first, second) {
+    if line_layout::body_fits(profile, kind, body) {
+        if line_layout::gap_fits(profile, kind, first, second) {
             return false;
         }
     }

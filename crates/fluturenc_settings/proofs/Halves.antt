@@ -10,14 +10,18 @@ use Rattle.saved_setting.specs.declared.SavedSetting.{SavedSetting}
 use Rattle.fluturenc_settings.specs.SavedBytes.{placeSize, frontSetting, firstSettings}
 
 module _ (b : List ℕ) (at : ℕ) where
-  pub setting-read : (v f c : ℕ) → v ≡ fromTwo (getD b at 0) (getD b (at + 1) 0) → f ≡ fromTwo (getD b (at + 2) 0) (getD b (at + 3) 0)
-      → c ≡ fromTwo (getD b (at + 4) 0) (getD b (at + 5) 0)
+  pub setting-read : (v f c : ℕ) → v ≡ fromTwo (getD b at 0) (getD b (at + 1) 0) → f ≡ fromTwo (getD b (at + 2) 0) (getD b (at + 2 + 1) 0)
+      → c ≡ fromTwo (getD b (at + 4) 0) (getD b (at + 4 + 1) 0)
       → record { version = v; fine = f; coarse = c; gain = getD b (at + 6) 0; divisor = getD b (at + 7) 0 } ≡ frontSetting (drop at b)
   unfolding frontSetting
   setting-read v f c p q r =
       let here : at + 0 ≡ at = omega arith in
       let first : getD (drop at b) 0 0 ≡ getD b at 0 = getD-drop at b 0 0 ∙ ap (λ (k : ℕ). getD b k 0) here in
-      simp (p, q, r, first, getD-drop at b 1 0, getD-drop at b 2 0, getD-drop at b 3 0, getD-drop at b 4 0, getD-drop at b 5 0, getD-drop at b 6 0, getD-drop at b 7 0)
+      let three : at + 2 + 1 ≡ at + 3 = omega arith in
+      let five : at + 4 + 1 ≡ at + 5 = omega arith in
+      let fine : f ≡ fromTwo (getD b (at + 2) 0) (getD b (at + 3) 0) = q ∙ ap (λ (k : ℕ). fromTwo (getD b (at + 2) 0) (getD b k 0)) three in
+      let coarse : c ≡ fromTwo (getD b (at + 4) 0) (getD b (at + 5) 0) = r ∙ ap (λ (k : ℕ). fromTwo (getD b (at + 4) 0) (getD b k 0)) five in
+      simp (p, fine, coarse, first, getD-drop at b 1 0, getD-drop at b 2 0, getD-drop at b 3 0, getD-drop at b 4 0, getD-drop at b 5 0, getD-drop at b 6 0, getD-drop at b 7 0)
 
   pub four-read : (s t u v : SavedSetting) → s ≡ frontSetting (drop at b) → t ≡ frontSetting (drop (at + 8) b) → u ≡ frontSetting (drop (at + 16) b)
       → v ≡ frontSetting (drop (at + 24) b) → s ∷ t ∷ u ∷ v ∷ [] ≡ firstSettings 4 (drop at b)

@@ -1,4 +1,4 @@
--- What is stored: four settings one after another, and both halves of a list, of which nothing else is left.
+-- What is stored: a setting, two bytes after another; four settings one after another, and both halves of a list, of which nothing else is left.
 use mathlib.Core.Path.{_≡_, ap, _∙_}
 use mathlib.Core.List.{List, [], _∷_, _++_, append-nil}
 use Prim.Native.Nat.{ℕ, _+_}
@@ -6,6 +6,7 @@ use native.Mathlib.Omega.{arith}
 use lib.ListN.{length, drop-of-length-le}
 use lib.Seq.{sets}
 use Rattle.lent_buffer.specs.StoringLaws.{sets-append, sets-front}
+use Rattle.line_records.specs.Lines.{inTwo}
 use Rattle.saved_setting.specs.declared.SavedSetting.{SavedSetting}
 use Rattle.saved_setting.specs.declared.EightPlaces.{EightPlaces}
 use Rattle.saved_setting.specs.SavedSettings.{placesOf}
@@ -14,6 +15,21 @@ use Rattle.fluturenc_settings.specs.SavedBytes.{listSize, placeBytes, li
 -- bytes stored straight behind others
 behind-them : (v w b : List ℕ) (at k : ℕ) → k ≡ at + length v → sets (sets b at v) k w ≡ sets b at (v ++ w)
 behind-them v w b at k e = ap (λ (i : ℕ). sets (sets b at v) i w) e ∙ sets-append v w b at
+
+pub setting-stored : (b b1 b2 b3 b4 : List ℕ) (at : ℕ) (s : SavedSetting) → b1 ≡ sets b at (inTwo (s .version)) → b2 ≡ sets b1 (at + 2) (inTwo (s .fine))
+    → b3 ≡ sets b2 (at + 4) (inTwo (s .coarse)) → b4 ≡ sets b3 (at + 6) (s .gain ∷ s .divisor ∷ []) → b4 ≡ sets b at (placeBytes s)
+setting-stored b b1 b2 b3 b4 at s p q r z =
+    let codes : List ℕ = s .gain ∷ s .divisor ∷ [] in
+    let last : at + 6 ≡ at + 4 + 2 = omega arith in
+    let third : at + 4 ≡ at + 2 + 2 = omega arith in
+    let second : at + 2 ≡ at + 2 = omega arith in
+    z
+    ∙ ap (λ (l : List ℕ). sets l (at + 6) codes) r
+    ∙ behind-them (inTwo (s .coarse)) codes b2 (at + 4) (at + 6) last
+    ∙ ap (λ (l : List ℕ). sets l (at + 4) (inTwo (s .coarse) ++ codes)) q
+    ∙ behind-them (inTwo (s .fine)) (inTwo (s .coarse) ++ codes) b1 (at + 2) (at + 4) third
+    ∙ ap (λ (l : List ℕ). sets l (at + 2) (inTwo (s .fine) ++ (inTwo (s .coarse) ++ codes))) p
+    ∙ behind-them (inTwo (s .version)) (inTwo (s .fine) ++ (inTwo (s .coarse) ++ codes)) b at (at + 2) second
 
 pub four-stored : (b b1 b2 b3 b4 : List ℕ) (at : ℕ) (s t u v : SavedSetting) → b1 ≡ sets b at (placeBytes s) → b2 ≡ sets b1 (at + 8) (placeBytes t)
     → b3 ≡ sets b2 (at + 16) (placeBytes u) → b4 ≡ sets b3 (at + 24) (placeBytes v) → b4 ≡ sets b at (listBytes (s ∷ t ∷ u ∷ v ∷ []))

@@ -15,11 +15,11 @@
 ghost use mathlib.Core.Path.{_≡_};
 ghost use mathlib.Core.List.{[], _∷_, _++_};
 ghost use Prim.Native.Nat.{_+_, _≤_};
-ghost use lib.ListN.{length, drop};
+ghost use lib.ListN.{length, getD, drop};
 ghost use lib.Seq.{sets};
 ghost use Rattle.exported_call.specs.LentCall.{StateGives, WriteGives};
 ghost use Rattle.lent_buffer.specs.Filled.{Gives};
-ghost use Rattle.line_records.specs.Lines.{fromTwo};
+ghost use Rattle.line_records.specs.Lines.{fromTwo, inTwo};
 ghost use Rattle.saved_setting.specs.SavedSettings.{savedReply, heldReply, savedWanted, foundIn, savedAgain, placesOf};
 ghost use Rattle.fluturenc_settings.specs.SavedBytes.{placeSize, listSize, placeBytes, listBytes, frontSetting, firstSettings, fourOf, listIn, wantedOf, SaveGives, foundCall, messagesOf};
 use lent_buffer::Filled;
@@ -227,12 +227,20 @@ fn setting_at(list: &[u8], at: usize) -> SavedSetting
     ensures { λ r. ⌜ r ≡ frontSetting (drop at (now (list .entry))) ⌝ }
 {
     SavedSetting {
-        version: from_two(list[at], list[at + 1]),
-        fine: from_two(list[at + 2], list[at + 3]),
-        coarse: from_two(list[at + 4], list[at + 5]),
+        version: number_at(list, at),
+        fine: number_at(list, at + 2),
+        coarse: number_at(list, at + 4),
         gain: list[at + 6],
         divisor: list[at + 7],
     }
+}
+
+// The number whose high byte stands at a byte, and its low byte behind that.
+fn number_at(list: &[u8], at: usize) -> u16
+    requires { ⌜ at + 2 ≤ length (now list) ⌝ }
+    ensures { λ r. ⌜ r ≡ fromTwo (getD (now (list .entry)) at 0) (getD (now (list .entry)) (at + 1) 0) ⌝ }
+{
+    from_two(list[at], list[at + 1])
 }
 
 // A number from its high and its low byte.
@@ -275,20 +283,26 @@ fn store_setting(s: SavedSetting, buffer: &mut [u8], at: usize)
     requires { ⌜ at + placeSize ≤ length (now buffer) ⌝ }
     ensures { λ _. ⌜ now (buffer .exit) ≡ sets (now (buffer .entry)) at (placeBytes s) ⌝ }
 {
-    let high = (s.version / 256) as u8;
-    let low = (s.version % 256) as u8;
-    let fine1 = (s.fine / 256) as u8;
-    let fine2 = (s.fine % 256) as u8;
-    let coarse1 = (s.coarse / 256) as u8;
-    let coarse2 = (s.coarse % 256) as u8;
     let gain = s.gain;
     let divisor = s.divisor;
-    buffer[at] = high;
-    buffer[at + 1] = low;
-    buffer[at + 2] = fine1;
-    buffer[at + 3] = fine2;
-    buffer[at + 4] = coarse1;
-    buffer[at + 5] = coarse2;
-    buffer[at + 6] = gain;
-    buffer[at + 7] = divisor;
+    store_number(s.version, buffer, at);
+    store_number(s.fine, buffer, at + 2);
+    store_number(s.coarse, buffer, at + 4);
+    store_two(gain, divisor, buffer, at + 6);
+}
+
+// Puts a number's high and its low byte into a buffer.
+fn store_number(n: u16, buffer: &mut [u8], at: usize)
+    requires { ⌜ at + 2 ≤ length (now buffer) ⌝ }
+    ensures { λ _. ⌜ now (buffer .exit) ≡ sets (now (buffer .entry)) at (inTwo n) ⌝ }
+{
+    store_two((n / 256) as u8, (n % 256) as u8, buffer, at);
+}
+
+fn store_two(first: u8, second: u8, buffer: &mut [u8], at: usize)
+    requires { ⌜ at + 2 ≤ length (now buffer) ⌝ }
+    ensures { λ _. ⌜ now (buffer .exit) ≡ sets (now (buffer .entry)) at (first ∷ second ∷ []) ⌝ }
+{
+    buffer[at] = first;
+    buffer[at + 1] = second;
 }

@@ -83,7 +83,7 @@ fn gap_answer(profile: Profile, kind: Kind, period: Nibbles, length: u32, kept: 
             }
             let first = kept.first;
             let second = kept.second;
-            if profile.gap_fits(kind, first, second) {
+            if line_layout::gap_fits(profile, kind, first, second) {
                 let facts = GapFacts {
                     first,
                     second,

@@ -54,8 +54,8 @@ pub fn of_line(profile: u8, kind: u8, body: &[u8], first: u8, second: u8) -> Hal
     if body.len() != Profile::VV5300.body_length() {
         return Halves::Refused(refusal::WRONG_BODY_LENGTH);
     }
-    if Profile::VV5300.body_fits(Kind::VL, body) {
-        if Profile::VV5300.gap_fits(Kind::VL, first, second) {
+    if line_layout::body_fits(Profile::VV5300, Kind::VL, body) {
+        if line_layout::gap_fits(Profile::VV5300, Kind::VL, first, second) {
             return beside(half_sum(body, FIRST), half_sum(body, SECOND), first, second);
         }
     }

@@ -53,7 +53,7 @@ fn body_answer(
     if body.len() < n {
         return Answer::Refused(refusal::BAD_BODY);
     }
-    if profile.body_fits(kind, &body[..n]) {
+    if line_layout::body_fits(profile, kind, &body[..n]) {
         let reading = line_code::read(next);
         if reading.is_end() {
             let end = reading.repair();

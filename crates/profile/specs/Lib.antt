@@ -1,4 +1,3 @@
 pub mod Profile
 pub mod Layout
 pub mod LayoutLaws
-pub mod Places

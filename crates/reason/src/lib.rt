@@ -280,7 +280,7 @@ fn body_reason(profile: Profile, kind: Kind, text: &[u8], next: u8) -> Reason
     let mut i: usize = 0;
     while i < n {
         let byte = pair_at(text, BODY_PLACE + 2 * i);
-        let rule = profile.rule_at(kind, i);
+        let rule = line_layout::rule_at(profile, kind, i);
         if rule.allows(byte) {
             i += 1;
         } else {

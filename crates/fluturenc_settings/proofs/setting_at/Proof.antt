@@ -7,26 +7,19 @@ use Rattle.fluturenc_settings.proofs.setting_at.Tie as tie
 
 returns : tie.Need-returns
 returns c =
-    let first = c .before .before .before .before .before .before .before .before in
-    let a = first .before .before .before .before .args in
-    setting-read (now (a .list)) (a .at) _ _ _ (first .from-two .ensures) (c .before .before .before .before .before .from-two2 .ensures) (c .before .before .from-two3 .ensures)
+    let third = c .before .before in
+    let second = third .before in
+    let first = second .before in
+    let a = first .before .before .args in
+    setting-read (now (a .list)) (a .at) _ _ _ (first .number-at .ensures) (second .number-at2 .ensures) (third .number-at3 .ensures)
 
 pub setting-at-spec : {M : Type 1} → statement M
 setting-at-spec =
     tie.close
     (tie.spec
-    (λ c. search needs)
-    (λ c. search needs)
-    (λ c. search needs)
     (λ c κs. search needs)
     (λ c. search needs)
-    (λ c. search needs)
-    (λ c. search needs)
-    (λ c. search needs)
     (λ c κs. search needs)
-    (λ c. search needs)
-    (λ c. search needs)
-    (λ c. search needs)
     (λ c. search needs)
     (λ c κs. search needs)
     (λ c. search needs)
