@@ -125,7 +125,7 @@ fn save(first: &[u8], second: &[u8], output: usize) {
         command::tell_no_name();
         return;
     }
-    let saving = frame_file::begin(&name[..n]);
+    let saving = whole_file::begin(&name[..n]);
     if saving.fd < 0 {
         return;
     }
@@ -133,7 +133,7 @@ fn save(first: &[u8], second: &[u8], output: usize) {
     if !whole {
         os::fail(&name[..n]);
     }
-    frame_file::end(saving, &name[..n], whole);
+    whole_file::end(saving, &name[..n], whole);
 }
 
 // Writes the rows of all differences, number after number, and says whether they were written.

@@ -27,7 +27,7 @@ use Rattle.frame_row.specs.FrameRow.{keptRow}
 use Rattle.frame_rows.specs.FrameRows.{Shown}
 use Rattle.frame_rows_laws.specs.Gathering.{keptRowsFrom, linesOf, CompletesRows, Every, WholeBody}
 use Rattle.frame_rows_laws.specs.FrameRowsLaws.{stands}
-use Rattle.diff_frames_laws.specs.FrameList.{placedFrom, placedLines}
+use Rattle.diff_frames_laws.specs.FrameList.{placedFrom, placedLines, Comparable}
 
 -- The list of some lines.
 
@@ -62,14 +62,6 @@ placed-known b place (l ∷ ls) h =
     (placed-known b (suc place) ls (and-right (isLaidOutAt VV5404 b place (l .given)) _ h))
 
 -- The list of a frame.
-
--- some bytes are a list of these lines, which a comparison takes
-pub record Comparable (bytes : List ℕ) (frame : List Shown) : Type 0 where
-  pub lines : fullLines bytes ≡ placedLines frame
-  pub rising : rises (headedLines bytes) ≡ true
-  pub small : numbersSmall (headedLines bytes) ≡ true
-  pub known : kindsKnown (headedLines bytes) ≡ true
-  pub uncut : noneCut bytes ≡ true
 
 pub frame-comparable : {ls : List Shown} {n : ℕ} {bytes : List ℕ} (c : CompletesRows WholeLines ls n bytes) → Comparable bytes (c .frame)
 frame-comparable {ls} {n} {bytes} c =

@@ -82,11 +82,7 @@ module _ (first second w : List ℕ) (n room : ℕ) (h : compareOf first second 
       ∙ ap (λ (l : List ℕ). encodedAll (differences (fullLines l) (fullLines second))) e
       ∙ ap encodedAll (equal-none (fullLines second))
 
-  -- lists that give one have the same lines
-  pub empty-lines : w ≡ [] → fullLines first ≡ fullLines second
-  empty-lines e = ap (λ (v : List ℕ). appliedAll (differencesIn v) (fullLines first)) (sym e) ∙ second-lines
-
-  -- and are equal
+  -- lists that give one are equal
   pub empty-equal : AllBytes first → AllBytes second → w ≡ [] → first ≡ second
   empty-equal b c e =
       let p = what-passed first second w n room h in

@@ -13,10 +13,11 @@ use Rattle.picture_file.specs.PictureFile.{imageOf, writeOf}
 use Rattle.frame_row.specs.declared.Order.{Order}
 use Rattle.frame_row.specs.declared.Keeping.{Keeping}
 use Rattle.frame_row.specs.declared.Keeping.the-variants.{VisiblePixels}
+use Rattle.frame_rows.specs.declared.Gatherer.{Gatherer}
 use Rattle.frame_rows.specs.FrameRows.{Shown, nothing, quiet}
 use Rattle.frame_rows_laws.specs.Gathering.{Given, calls, start, taken, pictureOf, CompletesRows, Laid, Every}
 use Rattle.frame_grabber.specs.declared.Grabber.{Grabber}
-use Rattle.frame_grabber.specs.FrameGrabber.{given, isSaid, After, grabOf}
+use Rattle.frame_grabber.specs.FrameGrabber.{given, isSaid, seek, After, grabOf}
 
 -- Pieces.
 
@@ -47,6 +48,13 @@ fedAll r (n ∷ w) = fedAll (feedOf r n longest .reader) w
 abbrev pub givens : Reader → List ℕ → List Given
 givens r [] = []
 givens r (n ∷ w) = given (feedOf r n longest) ∷ givens (feedOf r n longest .reader) w
+
+-- what is sought, as the gatherer's calls: the nibbles taken, and those left; what is said with the last one taken, and the reader then
+pub record Seeks (r : Reader) (g : Gatherer) (held w : List ℕ) : Type 0 where
+  pub upTo : List ℕ
+  pub splits : w ≡ upTo ++ seek r g held w .left
+  pub outcome-is : seek r g held w .outcome ≡ calls (quiet g held) (givens r upTo)
+  pub reader-is : seek r g held w .reader ≡ fedAll r upTo
 
 -- after a call: the reader has taken every nibble that counts as taken, and each answer was handed to the gatherer
 pub record StandsFed (s : Grabber) (w rows : List ℕ) (a : After) : Type 0 where

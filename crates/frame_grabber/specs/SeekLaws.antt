@@ -25,7 +25,7 @@ use Rattle.frame_row.specs.FrameRow.{rowSize, rowFits, withRow}
 use Rattle.frame_rows_laws.specs.Gathering.{Given, call, calls, shown}
 use Rattle.frame_rows_laws.specs.FrameRowsLaws.{row-fits, with-row-length, Hands, none, one, hands}
 use Rattle.frame_grabber.specs.FrameGrabber.{given, isSaid, Sought, sought, seek}
-use Rattle.frame_grabber.specs.Pieces.{fedAll, givens}
+use Rattle.frame_grabber.specs.Pieces.{givens, Seeks}
 
 pub not-said : (o : Output) → isSaid o ≡ false → o ≡ nothing
 not-said nothing e = refl
@@ -37,13 +37,6 @@ not-said (refused n) e = absurd (true≢false e)
 -- where an answer was handed over: it stops, or goes on
 abbrev stopIf : Bool → Reader → rows.AfterCall → List ℕ → Sought
 stopIf b r x w = cond b (sought r x w) (seek r (x .gatherer) (x .buffer) w)
-
--- the nibbles taken, and those left; what is said with the last one taken, and the reader then
-pub record Seeks (r : Reader) (g : Gatherer) (held w : List ℕ) : Type 0 where
-  pub upTo : List ℕ
-  pub splits : w ≡ upTo ++ seek r g held w .left
-  pub outcome-is : seek r g held w .outcome ≡ calls (quiet g held) (givens r upTo)
-  pub reader-is : seek r g held w .reader ≡ fedAll r upTo
 
 pub seeks : (w : List ℕ) (r : Reader) (g : Gatherer) (held : List ℕ) → Seeks r g held w
 seeks [] r g held = record { upTo = []; splits = refl; outcome-is = refl; reader-is = refl }

@@ -34,12 +34,13 @@ pub enum Halves {
 // The number of the profile that has line means.
 const VV5300: u8 = 1;
 
-// The image places where the halves start, and the pixels of each.
+// The image places where the halves start.
 const FIRST: usize = 16;
 
 const SECOND: usize = 80;
 
-const HALF: u16 = 64;
+// The pixels of a half.
+pub const HALF: u16 = 64;
 
 // What is said of a line's two halves.
 pub fn of_line(profile: u8, kind: u8, body: &[u8], first: u8, second: u8) -> Halves

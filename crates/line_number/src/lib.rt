@@ -21,6 +21,9 @@ pub enum Encoded {
 // The greatest line number.
 pub const GREATEST: u16 = 4095;
 
+// The values of six bits, those of a number byte.
+const SIX_BITS: u16 = 64;
+
 // The number's two bytes: TooLarge above 4095.
 pub fn encode(number: u16) -> Encoded
     ensures { λ r. ⌜ r ≡ encodeOf number ⌝ }
@@ -28,8 +31,8 @@ pub fn encode(number: u16) -> Encoded
     if GREATEST < number {
         return Encoded::TooLarge;
     }
-    let high = number_byte((number / 64) as u8);
-    let low = number_byte((number % 64) as u8);
+    let high = number_byte((number / SIX_BITS) as u8);
+    let low = number_byte((number % SIX_BITS) as u8);
     Encoded::Bytes(high, low)
 }
 
@@ -39,7 +42,7 @@ pub fn decode(high: u8, low: u8) -> Decoded
 {
     if is_good(high) {
         if is_good(low) {
-            return Decoded::Number((high / 2) as u16 * 64 + (low / 2) as u16);
+            return Decoded::Number((high / 2) as u16 * SIX_BITS + (low / 2) as u16);
         }
     }
     Decoded::Bad

@@ -7,6 +7,7 @@
 ghost use Rattle.text.specs.Put.{Puts};
 ghost use Rattle.half_means.specs.HalfMeans.{difference};
 ghost use Rattle.mean_rows.specs.MeanRows.{places, signed, meansHeader, meanText, startWords, meansWords, differencesWords, givenRow, gapRefusalWords, refusedRow, meansRow};
+use half_means::HALF;
 use half_means::Halves;
 use half_means::Sums;
 use text::put;
@@ -15,9 +16,7 @@ use text::put_decimal;
 // The bytes that no row exceeds.
 pub const ROOM: usize = 192;
 
-// The pixels of a half, and the millionths of a 64th.
-const HALF: u16 = 64;
-
+// The millionths of a 64th.
 const MILLIONTHS: u32 = 15625;
 
 // Puts the first row, which names the columns.

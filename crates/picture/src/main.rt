@@ -105,12 +105,12 @@ fn save(file: &[u8], picture: usize) {
         command::tell_no_name();
         return;
     }
-    let saving = frame_file::begin(&name[..n]);
+    let saving = whole_file::begin(&name[..n]);
     if saving.fd < 0 {
         return;
     }
     let whole = send(saving.fd, &name[..n], file);
-    frame_file::end(saving, &name[..n], whole);
+    whole_file::end(saving, &name[..n], whole);
 }
 
 // Writes all of a file, or says why it cannot; and whether it did.

@@ -1,12 +1,22 @@
 -- Histories of the table (02, A12): calls of technicians on one table, and what each is told. Definitions only.
+use mathlib.Core.Path.{_≡_}
 use mathlib.Core.Bool.{cond}
 use mathlib.Core.List.{List, [], _∷_}
 use Prim.Native.Nat.{ℕ}
 use lib.Dec.{eqb}
+use Rattle.profile.specs.declared.Profile.{Profile}
 use Rattle.stream.specs.declared.Answer.{Answer}
-use Rattle.refinement.specs.Runs.{RunCall}
+use Rattle.reader.specs.declared.Reader.{Reader}
+use Rattle.reader.specs.Reader.{freshReader}
+use Rattle.refinement.specs.Runs.{RunCall, onRuns}
 use Rattle.reader_table.specs.declared.ReaderTable.{ReaderTable}
 use Rattle.reader_table.specs.Table.{Placing, PlaceOpened, openPlaceOf, PlaceCalled, callPlaceOf, closePlaceOf}
+
+-- a reader that calls of its own reach, from a fresh one
+pub record OwnCalls (r : Reader) : Type 0 where
+  pub profile : Profile
+  pub calls : List RunCall
+  pub reached : r ≡ onRuns (freshReader profile) calls
 
 -- what is asked of the table: a reader of the profile with this number; a feed, run or finish of a place, with the buffer lent; or that a
 -- place is closed

@@ -23,16 +23,10 @@ use Rattle.refinement.specs.RunsReached.{runs-never-eleven}
 use Rattle.reader_table.specs.declared.ReaderTable.{ReaderTable}
 use Rattle.technician.specs.Technician.{isTechnician}
 use Rattle.reader_table.specs.Table.{freePlace, placeCount, emptyTable, placeAt, heldBy, Placing, at-place, not-placed, openPlaceOf, notCalled, lentTo, callHeld, callPlaceOf}
-use Rattle.reader_table_laws.specs.History.{TableRequest, toOpen, toRead, toClose, TableCall, serve, tableAfter}
+use Rattle.reader_table_laws.specs.History.{OwnCalls, TableRequest, toOpen, toRead, toClose, TableCall, serve, tableAfter}
 use Rattle.reader_table_laws.specs.Lending.{but}
 use Rattle.reader_table_laws.specs.Places.{somebody, holding, held, view}
 use Rattle.reader_table_laws.specs.Views.{other-keeps, keptHeld, keptClosed, keptOpened, opens, reads, closes}
-
--- a reader that calls of its own reach, from a fresh one
-pub record OwnCalls (r : Reader) : Type 0 where
-  pub profile : Profile
-  pub calls : List RunCall
-  pub reached : r ≡ onRuns (freshReader profile) calls
 
 one-more : (cs : List RunCall) (r : Reader) (c : RunCall) → onRuns r (cs ++ (c ∷ [])) ≡ runResult (onRuns r cs) c .reader
 one-more [] r c = refl

@@ -420,10 +420,3 @@ explains n k w = by-profile (eqb n 0) refl (eqb n 1) refl
         none : (p : Profile) → n ≡ profileNumber p → ⊥
         none VV5404 q = eqb-false n 0 e q
         none VV5300 q = eqb-false n 1 f q
-
--- the nibbles of a line's text
-pub wanted-0 : lineNibbles VV5404 ≡ 718
-wanted-0 = refl
-
-pub wanted-1 : lineNibbles VV5300 ≡ 342
-wanted-1 = refl

@@ -3,6 +3,7 @@
 use mathlib.Core.Path.{_≡_}
 use mathlib.Core.Bool.{Bool, true, false, cond}
 use mathlib.Core.List.{List, [], _∷_, _++_}
+use mathlib.Core.Option.{Option, none, some}
 use Prim.Native.Nat.{ℕ, _+_, _≤_}
 use lib.ListN.{length}
 use Rattle.stream.specs.Answers.{Outcome, nothing, line, gap, refused}
@@ -12,6 +13,11 @@ use Rattle.stream.specs.Stream.{group, Completed, not-yet, mark, detect}
 abbrev pub onto : List ℕ → List ℕ → List ℕ
 onto t [] = t
 onto t (n ∷ w) = onto (n ∷ t) w
+
+-- whether a pattern is there
+abbrev pub found : Option (List ℕ) → Bool
+found none = false
+found (some t) = true
 
 -- whether a mark is completed
 abbrev pub isMark : Completed → Bool

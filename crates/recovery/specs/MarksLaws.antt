@@ -18,13 +18,9 @@ use Rattle.stream.specs.Answers.{Outcome, nothing, refused, answerOf}
 use Rattle.stream.specs.Stream.{State, fresh, group, strip, Completed, not-yet, mark, markIf, detect, answerAt, advance, step, finish, run, outcomes}
 use Rattle.stream.specs.TextLaws.{strip-found}
 use Rattle.recovery.specs.AnswerLaws.{mark-cases}
-use Rattle.recovery.specs.Marks.{onto, isMark, completes, MarkEnds, Since, all-taken, since-group, answerIn, answersIn, counted, marksIn}
+use Rattle.recovery.specs.Marks.{onto, found, isMark, completes, MarkEnds, Since, all-taken, since-group, answerIn, answersIn, counted, marksIn}
 
 -- Patterns.
-
-abbrev found : Option (List ℕ) → Bool
-found none = false
-found (some t) = true
 
 -- one nibble of a pattern
 pub strip-none : (b : Bool) (o : Option (List ℕ)) → o ≡ none → cond b o none ≡ none

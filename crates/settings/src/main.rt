@@ -9,7 +9,6 @@ use libc::STDOUT_FILENO;
 use settings_request::Request;
 use settings_typed::NumberWords;
 use settings_typed::TypedRequest;
-use text::put;
 
 // Room for what is said, and for a list's text.
 const ROOM: usize = 2048;
@@ -92,8 +91,7 @@ fn changes_file(request: Request) -> bool {
 // lose what one of them saves.
 fn change_file(request: Request, name: &[u8]) {
     let mut beside = io::buffer();
-    let n = put(name, &mut beside, 0);
-    let end = put(b".new", &mut beside, n);
+    let end = whole_file::put_beside(name, b".new", &mut beside);
     if beside.len() <= end {
         command::complain(b"the name of the file is too long\n");
         return;
@@ -102,9 +100,8 @@ fn change_file(request: Request, name: &[u8]) {
 }
 
 fn change_beside(request: Request, name: &[u8], beside: &[u8]) {
-    let fd = os::create(beside);
+    let fd = whole_file::make(beside);
     if fd < 0 {
-        os::fail(beside);
         return;
     }
     let replaced = serve_with(request, name, beside, fd);
@@ -237,11 +234,7 @@ fn serve(request: Request, name: &[u8], text: &[u8], beside: &[u8], fd: i32) -> 
 // Writes a text to the file beside one, which then takes its name; answers whether it was done. A failure is told, and leaves the file as it was.
 fn replace(name: &[u8], text: &[u8], beside: &[u8], fd: i32) -> bool {
     if write_out(fd, text) {
-        if os::rename(beside, name) == 0 {
-            return true;
-        }
-        os::fail(name);
-        return false;
+        return whole_file::replace(beside, name);
     }
     os::fail(beside);
     false

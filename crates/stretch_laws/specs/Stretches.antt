@@ -2,7 +2,7 @@
 use mathlib.Core.Path.{_≡_}
 use mathlib.Core.List.{List, [], _∷_, _++_, map}
 use Prim.Native.Nat.{ℕ, _+_, _-_, _≤_}
-use lib.ListN.{length}
+use lib.ListN.{length, take, drop}
 use Rattle.profile.specs.declared.Profile.{Profile}
 use Rattle.stream.specs.Written.{Sent, AllWritable, stream}
 use Rattle.reader.specs.declared.Reader.{Reader}
@@ -29,6 +29,10 @@ abbrev pub changedOf : List Segment → List ℕ
 changedOf [] = []
 changedOf (unchanged w ∷ gs) = w ++ changedOf gs
 changedOf (replaced old new ∷ gs) = new ++ changedOf gs
+
+-- one stretch, demand 3's: the segments of a clean stream of which the nibbles from the place i up to the place j are replaced
+abbrev pub oneStretch : List Sent → ℕ → ℕ → List ℕ → List Segment
+oneStretch ss i j new = unchanged (take i (stream ss)) ∷ replaced (take (j - i) (drop i (stream ss))) new ∷ unchanged (drop j (stream ss)) ∷ []
 
 -- The lines that lie whole in what stayed.
 

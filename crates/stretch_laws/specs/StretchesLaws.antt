@@ -20,7 +20,7 @@ use Rattle.recovery.specs.ReadBackLaws.{outcomes-append}
 use Rattle.recovery.specs.Damage.{outcomes-take, outcomes-length, lines-up-to, writable-from, start-after, drop-start}
 use Rattle.recovery.specs.Gaps.{after, back, rest-none, gaps-up-to}
 use Rattle.recovery.specs.CutStream.{wholeBetween, closedBetween}
-use Rattle.stretch_laws.specs.Stretches.{Segment, unchanged, replaced, cleanOf, changedOf, inUnchanged, wholeLines, closedLines, Sublist, both-empty, left-out, as-well, toLineStart}
+use Rattle.stretch_laws.specs.Stretches.{Segment, unchanged, replaced, cleanOf, changedOf, inUnchanged, wholeLines, closedLines, Sublist, both-empty, left-out, as-well, toLineStart, oneStretch}
 
 -- Sublists.
 
@@ -192,10 +192,6 @@ pub stretches-gaps : (p : Profile) {ss : List Sent} → AllWritable p ss → (gs
 stretches-gaps p {ss} h gs e x = all-segments p ss gapIn gapAsSent (λ i j. closedBetween i j ss) (segment-gaps p h) x 0 gs (omega arith) e
 
 -- One stretch: demand 3's change.
-
--- the segments of a clean stream of which the nibbles from the place i up to the place j are replaced
-abbrev pub oneStretch : List Sent → ℕ → ℕ → List ℕ → List Segment
-oneStretch ss i j new = unchanged (take i (stream ss)) ∷ replaced (take (j - i) (drop i (stream ss))) new ∷ unchanged (drop j (stream ss)) ∷ []
 
 pub one-stretch : (ss : List Sent) (i j : ℕ) (new : List ℕ) → i ≤ j → (cleanOf (oneStretch ss i j new) ≡ stream ss) × (changedOf (oneStretch ss i j new) ≡ changed ss i j new)
 one-stretch ss i j new ij =

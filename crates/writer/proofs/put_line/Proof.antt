@@ -9,22 +9,26 @@ use Rattle.writer.proofs.put_line.Tie as tie
 
 put-nulls-requires : tie.Need-put-nulls-requires
 put-nulls-requires c κs =
-    let args = c .before .before .before .before .before .before .before .before .before .before .before .before .before .before .before .before .before .before .before .before .before .before .before .before .before .args in
+    let gap = c .before .before .before in
+    let end = gap .before .before .before .before in
+    let body = end .before .before .before .before .before in
+    let number = body .before .before .before .before in
+    let mark = number .before .before .before .before in
+    let args = mark .before .before .before .before .before .args in
     omega (arith, length-replicate (args .nulls) nullByte)
 
 returns : tie.Need-returns
 returns c =
-    let clean-byte = c .before .before .before .before .before .before .before .before .before .before .before .before .before .before .before .before .before .before .before .before .before .before .before .before .before .clean-byte in
-    let put-mark = c .before .before .before .before .before .before .before .before .before .before .before .before .before .before .before .before .before .before .before .before .before .before .before .put-mark in
-    let put-two = c .before .before .before .before .before .before .before .before .before .before .before .before .before .before .before .before .before .before .before .put-two in
-    let put-bytes = c .before .before .before .before .before .before .before .before .before .before .before .before .before .before .before .put-bytes in
-    let clean-byte2 = c .before .before .before .before .before .before .before .before .before .before .before .before .clean-byte2 in
-    let put-mark2 = c .before .before .before .before .before .before .before .before .before .before .put-mark2 in
-    simp (← clean-byte .ensures, ← clean-byte2 .ensures)
-    (put-then (put-mark .ensures)
-    (put-then (put-two .ensures)
-    (put-then (put-bytes .ensures)
-    (put-then (put-mark2 .ensures) (put-then (c .before .before .before .before .before .before .put-two2 .ensures) (c .before .before .put-nulls .ensures))))))
+    let nulls = c .before .before in
+    let gap = nulls .before .before .before .before in
+    let end = gap .before .before .before .before in
+    let body = end .before .before .before .before .before in
+    let number = body .before .before .before .before in
+    let mark = number .before .before .before .before in
+    simp (← mark .before .before .clean-byte .ensures, ← end .before .before .clean-byte2 .ensures)
+    (put-then (mark .put-mark .ensures)
+    (put-then (number .put-two .ensures)
+    (put-then (body .put-bytes .ensures) (put-then (end .put-mark2 .ensures) (put-then (gap .put-two2 .ensures) (nulls .put-nulls .ensures))))))
 
 pub put-line-spec : {M : Type 1} → statement M
 put-line-spec =

@@ -2,14 +2,14 @@
 use mathlib.Core.Path.{sym}
 use lib.Seq.{length-take-le}
 use borrow.Author.Needs.{needs}
-use Rattle.frame_file.proofs.end_part.Statement.{statement}
-use Rattle.frame_file.proofs.end_part.Tie as tie
+use Rattle.whole_file.proofs.end_part.Statement.{statement}
+use Rattle.whole_file.proofs.end_part.Tie as tie
 
 array-share-prefix-part : tie.Need-array-share-prefix-part
 array-share-prefix-part c = search needs
 
-slice-aggregate-rename : tie.Need-slice-aggregate-rename
-slice-aggregate-rename c = sym (length-take-le _ _ (array-share-prefix-part (c .before)))
+slice-aggregate-replace : tie.Need-slice-aggregate-replace
+slice-aggregate-replace c = sym (length-take-le _ _ (array-share-prefix-part (c .before)))
 
 array-share-prefix-part-2 : tie.Need-array-share-prefix-part-2
 array-share-prefix-part-2 c = search needs
@@ -25,10 +25,8 @@ end-part-spec =
     (λ c. search needs)
     (λ c κs. search needs)
     array-share-prefix-part
-    slice-aggregate-rename
+    slice-aggregate-replace
     (λ c κs. search needs)
-    (λ c κs. search needs)
-    (λ c. search needs)
     (λ c. search needs)
     array-share-prefix-part-2
     slice-aggregate-unlink

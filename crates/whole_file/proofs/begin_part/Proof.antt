@@ -2,8 +2,8 @@
 use mathlib.Core.Path.{sym}
 use lib.Seq.{length-take-le}
 use borrow.Author.Needs.{needs}
-use Rattle.frame_file.proofs.begin_part.Statement.{statement}
-use Rattle.frame_file.proofs.begin_part.Tie as tie
+use Rattle.whole_file.proofs.begin_part.Statement.{statement}
+use Rattle.whole_file.proofs.begin_part.Tie as tie
 
 array-share-prefix-part : tie.Need-array-share-prefix-part
 array-share-prefix-part c = search needs
