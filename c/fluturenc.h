@@ -32,7 +32,7 @@ extern "C" {
 #define FLUTURENC_VV5404_BODY 356
 #define FLUTURENC_VV5300_BODY 168
 
-/* ---- Reading, writing and judging: crate fluturenc. */
+/* ---- Reading, writing and judging: crate fluturenc; fluturenc_feed_bytes: crate fluturenc_bytes. */
 
 /* The reader. Its state is bytes, which may be moved and copied: a copy is a reader of its own. */
 
@@ -48,6 +48,11 @@ uint8_t fluturenc_open(uint8_t profile, uint8_t *state, size_t state_length);
  * than the profile's body. Stopped before an input above 15: 10. A call that takes nothing leaves the state as it was. */
 uint64_t fluturenc_feed(uint8_t *state, size_t state_length, const uint8_t *nibbles, size_t nibbles_length, uint8_t *line,
                         size_t line_length, size_t *taken);
+
+/* The same with packed bytes, as a capture file has them: feeds their nibbles, the high one of each first, from a place on that is counted in nibbles
+ * from 0, and tells how many nibbles it took: the next call goes on at `from` plus that. A place past the end leaves no nibbles. Never 10. */
+uint64_t fluturenc_feed_bytes(uint8_t *state, size_t state_length, const uint8_t *bytes, size_t bytes_length, size_t from, uint8_t *line,
+                              size_t line_length, size_t *taken);
 
 /* The last mark's answer, 0 where there was no mark; the reader is fresh again. Refused: 11. */
 uint64_t fluturenc_finish(uint8_t *state, size_t state_length);

@@ -20,7 +20,7 @@ static void show(unsigned long mark, uint64_t answer)
 
 int main(void)
 {
-    uint8_t bytes[4096], nibbles[2 * sizeof bytes], line[FLUTURENC_VV5404_BODY];
+    uint8_t bytes[4096], line[FLUTURENC_VV5404_BODY];
     size_t length = fluturenc_state_length(), got, at, taken;
     uint8_t *state = malloc(length);
     unsigned long marks = 0;
@@ -30,13 +30,9 @@ int main(void)
         return EXIT_FAILURE;
     puts("mark answer number note");
     while ((got = fread(bytes, 1, sizeof bytes, stdin)) > 0) {
-        for (at = 0; at < got; at++) {
-            nibbles[2 * at] = bytes[at] >> 4;
-            nibbles[2 * at + 1] = bytes[at] & 15;
-        }
-        /* Nibbles, a state that open filled and room for a body: no call is refused, so each takes one nibble at least. */
+        /* A state that open filled and room for a body: no call is refused, so each takes one nibble at least. */
         for (at = 0; at < 2 * got; at += taken) {
-            answer = fluturenc_feed(state, length, nibbles + at, 2 * got - at, line, sizeof line, &taken);
+            answer = fluturenc_feed_bytes(state, length, bytes, got, at, line, sizeof line, &taken);
             if (answer != 0)
                 show(++marks, answer);
         }

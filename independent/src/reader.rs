@@ -84,6 +84,12 @@ impl Reader {
         (None, nibbles.len())
     }
 
+    /// Takes the nibbles of bytes, the high one of each first, from a place on, as a run does.
+    pub fn run_bytes(&mut self, bytes: &[u8], from: usize, buffer: &mut [u8]) -> (Option<Answer>, usize) {
+        let nibbles: Vec<u8> = bytes.iter().flat_map(|b| [b >> 4, b & 15]).skip(from).collect();
+        self.run(&nibbles, buffer)
+    }
+
     /// Answers the last mark, if there is one; a fresh reader is left.
     pub fn finish(&mut self) -> Option<Answer> {
         let answer = self.answer(&self.text, None, &mut []);
@@ -219,6 +225,17 @@ mod tests {
         let mut line = [5; LONGEST];
         assert_eq!(reader.run(&nibbles, &mut line), (Some(Answer::Refused(6)), 732));
         assert_eq!(line, [5; LONGEST]);
+    }
+
+    /// 9E is damaged, and the F before it is the low nibble of a byte of which the high one is not fed.
+    #[test]
+    fn bytes_are_taken_from_a_nibbles_place_on() {
+        let mut reader = Reader::new(Profile::VV5404);
+        let bytes = [0x7F, 0xFF, 0xF0, 0x09, 0xEF, 0xFF, 0xF0, 0x08, 0x00];
+        assert_eq!(reader.run_bytes(&bytes, 1, &mut [0; LONGEST]), (Some(Answer::Refused(1)), 16));
+        assert_eq!(reader.run_bytes(&bytes, 17, &mut [0; LONGEST]), (None, 1));
+        assert_eq!(reader.run_bytes(&bytes, 19, &mut [0; LONGEST]), (None, 0));
+        assert_eq!(reader.finish(), Some(Answer::Refused(8)));
     }
 
     #[test]

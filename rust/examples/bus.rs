@@ -24,13 +24,12 @@ fn show(mark: usize, answer: &Answer) {
 fn main() -> Result<(), Box<dyn std::error::Error>> {
     let mut capture = Vec::new();
     io::stdin().read_to_end(&mut capture)?;
-    let nibbles: Vec<u8> = capture.iter().flat_map(|byte| [byte >> 4, byte & 15]).collect();
     let mut line = [0; 356];
     let mut reader = Reader::new(Profile::VV5404);
     let mut answers = Vec::new();
     let mut at = 0;
-    while at < nibbles.len() {
-        let fed = reader.feed(&nibbles[at..], &mut line);
+    while at < 2 * capture.len() {
+        let fed = reader.feed_bytes(&capture, at, &mut line);
         answers.extend(fed.answer?);
         at += fed.taken;
     }

@@ -2,6 +2,7 @@
 
 use crate::Refusal;
 
+/// The sensors whose bus is read: each has its own body, its filler and its gap.
 #[derive(Clone, Copy, PartialEq, Eq, Hash, Debug)]
 pub enum Profile {
     /// VV5404 and VV6404
@@ -20,6 +21,7 @@ impl Profile {
     }
 }
 
+/// The kinds of lines, by their numbers.
 #[derive(Clone, Copy, PartialEq, Eq, Hash, Debug)]
 pub enum Kind {
     Blank = 1,
@@ -67,6 +69,7 @@ pub struct Reader {
 }
 
 impl Reader {
+    /// A fresh reader.
     pub fn new(profile: Profile) -> Reader {
         let mut state = vec![0; raw::state_length()].into_boxed_slice();
         assert_eq!(raw::open(profile as u8, &mut state), 0);
@@ -76,6 +79,13 @@ impl Reader {
     /// Feeds nibbles, a byte each, up to the first answer or the end: the next call goes on from there. The line buffer has room for a body.
     pub fn feed(&mut self, nibbles: &[u8], line: &mut [u8]) -> Fed {
         let (number, taken) = raw::feed(&mut self.state, nibbles, line);
+        Fed { taken, answer: raw::answer(number) }
+    }
+
+    /// Feeds the nibbles of packed bytes, the high one of each first, from a place on that is counted in nibbles, up to the first answer or the
+    /// end: the next call goes on at `from` plus what was taken, which is counted in nibbles too. The line buffer has room for a body.
+    pub fn feed_bytes(&mut self, bytes: &[u8], from: usize, line: &mut [u8]) -> Fed {
+        let (number, taken) = raw::feed_bytes(&mut self.state, bytes, from, line);
         Fed { taken, answer: raw::answer(number) }
     }
 
@@ -117,6 +127,7 @@ pub struct Judge {
 }
 
 impl Judge {
+    /// A judge that waits for a frame.
     pub fn new() -> Judge {
         Judge::default()
     }
@@ -150,6 +161,16 @@ pub mod raw {
             line_length: usize,
             taken: *mut usize,
         ) -> u64;
+        fn fluturenc_feed_bytes(
+            state: *mut u8,
+            state_length: usize,
+            bytes: *const u8,
+            bytes_length: usize,
+            from: usize,
+            line: *mut u8,
+            line_length: usize,
+            taken: *mut usize,
+        ) -> u64;
         fn fluturenc_finish(state: *mut u8, state_length: usize) -> u64;
         fn fluturenc_write(
             profile: u8,
@@ -169,6 +190,7 @@ pub mod raw {
 
     // Each call hands over slices that live for the call and do not overlap, with their own lengths, and asks nothing more.
 
+    /// The bytes of a state.
     pub fn state_length() -> usize {
         unsafe { fluturenc_state_length() }
     }
@@ -187,6 +209,25 @@ pub mod raw {
         (answer, taken)
     }
 
+    /// The answer, and how many nibbles were taken.
+    pub fn feed_bytes(state: &mut [u8], bytes: &[u8], from: usize, line: &mut [u8]) -> (u64, usize) {
+        let mut taken = usize::MAX;
+        let answer = unsafe {
+            fluturenc_feed_bytes(
+                state.as_mut_ptr(),
+                state.len(),
+                bytes.as_ptr(),
+                bytes.len(),
+                from,
+                line.as_mut_ptr(),
+                line.len(),
+                &mut taken,
+            )
+        };
+        (answer, taken)
+    }
+
+    /// The answer.
     pub fn finish(state: &mut [u8]) -> u64 {
         unsafe { fluturenc_finish(state.as_mut_ptr(), state.len()) }
     }
@@ -213,6 +254,7 @@ pub mod raw {
         (refusal, written)
     }
 
+    /// The ruling, or the refusal.
     pub fn judge(judge: &mut u32, kind: u8, number: u16) -> u8 {
         unsafe { fluturenc_judge(judge, kind, number) }
     }
@@ -276,6 +318,24 @@ mod tests {
         assert_eq!(fed, Fed { taken: 8, answer: Ok(Some(Answer::Gap { first: 255, second: 255, period: 786 })) });
         assert_eq!(reader.finish(), Some(Answer::Refused(Refusal::UnfinishedLine)));
         assert_eq!(reader, Reader::new(Profile::VV5404));
+    }
+
+    /// An odd place begins with a byte's low nibble; what is taken is counted in nibbles.
+    #[test]
+    fn packed_bytes_are_fed_from_a_nibbles_place_on() {
+        let nibbles = blank(25);
+        for before in [0, 1, 2, 7] {
+            // Nibbles that are not fed, the line, and one more where the count is odd.
+            let all = [&vec![3; before], &nibbles[..], &vec![15; before % 2]].concat();
+            let bytes: Vec<u8> = all.chunks(2).map(|pair| 16 * pair[0] + pair[1]).collect();
+            let (mut reader, mut buffer) = (Reader::new(Profile::VV5404), [1; 356]);
+            assert_eq!(reader.feed_bytes(&bytes, before, &mut buffer), Fed { taken: 732, answer: Ok(Some(line(None, None))) });
+            assert_eq!(buffer, [7; 356]);
+            let rest = reader.feed_bytes(&bytes, before + 732, &mut buffer);
+            assert_eq!(rest, Fed { taken: 54 + before % 2, answer: Ok(None) });
+            assert_eq!(reader.feed_bytes(&bytes, usize::MAX, &mut buffer), Fed { taken: 0, answer: Ok(None) });
+            assert_eq!(reader.feed_bytes(&bytes, 0, &mut buffer[1..]), Fed { taken: 0, answer: Err(Refusal::NoRoom) });
+        }
     }
 
     /// 9C is 9D with bit 0 flipped, 1D with bit 7, 81 is 80 with bit 0.
@@ -350,6 +410,7 @@ mod tests {
         let mut state = vec![3; raw::state_length()];
         let before = state.clone();
         assert_eq!(raw::feed(&mut state, &[1, 2], &mut [0; 356]), (11, 0));
+        assert_eq!(raw::feed_bytes(&mut state, &[1, 2], 1, &mut [0; 356]), (11, 0));
         assert_eq!([raw::finish(&mut state), raw::open(2, &mut state).into()], [11, 11]);
         assert_eq!(raw::open(0, &mut state[1..]), 12);
         assert_eq!(state, before);

@@ -17,6 +17,7 @@ pub enum Side {
     Second,
 }
 
+/// How two lists differ.
 #[derive(Clone, PartialEq, Eq, Debug)]
 pub enum Difference {
     /// A line whose number one list only holds.

@@ -69,6 +69,7 @@ refusals! {
 }
 
 impl Refusal {
+    /// The papers' number.
     pub fn number(self) -> u8 {
         self as u8
     }
@@ -89,7 +90,7 @@ impl Refusal {
 }
 
 impl fmt::Display for Refusal {
-    fn fmt(&self, f: &mut fmt::Formatter) -> fmt::Result {
+    fn fmt(&self, f: &mut fmt::Formatter<'_>) -> fmt::Result {
         write!(f, "{}, {}", self.number(), self.words())
     }
 }

@@ -80,6 +80,7 @@ impl Settings {
         }
     }
 
+    /// The list, to be kept.
     pub fn as_bytes(&self) -> &[u8] {
         &self.list
     }

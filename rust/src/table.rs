@@ -3,6 +3,7 @@
 use crate::bus::{raw::answer, Answer, Fed};
 use crate::{Profile, Refusal};
 
+/// The two who share a table.
 #[derive(Clone, Copy, PartialEq, Eq, Hash, Debug)]
 pub enum Technician {
     First = 1,

@@ -30,14 +30,17 @@ impl Sensor {
         }
     }
 
+    /// All 128, by index.
     pub fn registers(&self) -> &[u8] {
         &self.state[..128]
     }
 
+    /// The current index, 0 to 127.
     pub fn index(&self) -> u8 {
         self.state[128]
     }
 
+    /// Whether the index moves after each data byte.
     pub fn increment(&self) -> bool {
         self.state[129] == 1
     }

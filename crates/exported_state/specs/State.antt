@@ -67,6 +67,10 @@ headBytes h =
     ∷ codeOf (h .at)
     ∷ fourBytes (h .count) (fourBytes (h .window) (h .kept .first ∷ h .kept .second ∷ bitOf (h .kept .stray) ∷ []))
 
+-- bytes with a head's at their front, and the rest as it was; as they were where they are fewer than a head's
+unfoldable pub headStored : Head → List ℕ → List ℕ
+headStored h s = cond (leb headLength (length s)) (headBytes h ++ drop headLength s) s
+
 -- a buffer with a reader's state at its front, and the rest as it was
 unfoldable pub stored : Reader → List ℕ → List ℕ
 stored r s = headBytes (r .head) ++ (r .body ++ drop stateLength s)

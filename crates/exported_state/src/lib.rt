@@ -1,10 +1,10 @@
 // A reader's state as bytes: what a caller of the exported interface lends, moves and copies.
 //
 // In: bytes of any number; or a reader's head. Out: whether the bytes hold a reader that passes its own test, and the head that they hold; or the
-// head's bytes, which come first in a state, before the body. Their layout is specs/State.antt. Nothing is refused. Cost: constant.
+// head's bytes, which come first in a state, before the body, and are put there. Their layout is specs/State.antt. Nothing is refused. Cost: constant.
 ghost use mathlib.Core.Path.{_≡_};
 ghost use Rattle.profile.specs.Profile.{profileNumber};
-ghost use Rattle.exported_state.specs.State.{markNumber, codeOf, markNumbered, profileOf, numberOf, headBytes, heldHead, tagged, holdsReader};
+ghost use Rattle.exported_state.specs.State.{markNumber, codeOf, markNumbered, profileOf, numberOf, headBytes, headStored, heldHead, tagged, holdsReader};
 use exported_call::bit;
 use line_code::Kind;
 use mark_text::Kept;
@@ -135,6 +135,17 @@ pub fn head_bytes(h: Head) -> [u8; 14]
         kept.second,
         bit(kept.stray),
     ]
+}
+
+// Puts a head's bytes at the front of a state; where there are fewer, nothing.
+pub fn store_head(h: Head, state: &mut [u8])
+    ensures { λ _. ⌜ now (state .exit) ≡ headStored h (now (state .entry)) ⌝ }
+{
+    if state.len() < HEAD {
+        return;
+    }
+    let head = head_bytes(h);
+    bytes::copy(&head, state);
 }
 
 fn profile_number(p: Profile) -> u8

@@ -1,3 +1,4 @@
 pub mod Calls
 pub mod Gives
 pub mod CallLaws
+pub mod FeedingLaws

@@ -20,19 +20,16 @@
 //
 // A state is moved and copied as bytes: crate exported_state has its layout. A judge is a number, 0 when fresh. For C: c/fluturenc.h.
 ghost use mathlib.Core.Path.{_≡_};
-ghost use Prim.Native.Nat.{_+_, _≤_};
-ghost use mathlib.Core.List.{_++_};
-ghost use lib.ListN.{length, drop};
-ghost use lib.Seq.{paste};
+ghost use Prim.Native.Nat.{_≤_};
+ghost use lib.ListN.{length};
 ghost use Rattle.writer.specs.Writer.{writeOf};
 ghost use Rattle.exported_call.specs.LentCall.{StateGives, WriteGives};
-ghost use Rattle.exported_state.specs.State.{headLength, stateLength, headBytes, readerIn, stored};
+ghost use Rattle.exported_state.specs.State.{stateLength, readerIn, stored};
 ghost use Rattle.fluturenc.specs.Calls.{openCall, feedCall, finishCall, judgeCall};
 ghost use Rattle.fluturenc.specs.Gives.{FeedCallGives, JudgeGives};
 use profile::Numbered;
 use profile::Profile;
 use reader::Reader;
-use reader_head::Head;
 
 // The bytes of a reader's state: its head's, and its body's.
 const STATE: usize = exported_state::LENGTH;
@@ -83,7 +80,7 @@ pub extern "C" fn fluturenc_feed(
         let t = run::run_lent(h, &mut state[HEAD..STATE], nibbles, line);
         let head = t.head;
         if 0 < t.taken {
-            store_head(head, state);
+            exported_state::store_head(head, state);
         }
         *taken = t.taken;
         let answer = t.answer;
@@ -152,7 +149,7 @@ fn reader_in(state: &[u8]) -> Reader
 {
     let head = exported_state::head_in(state);
     let mut body = [0; Profile::LONGEST];
-    copy(&mut body, 0, &state[HEAD..STATE]);
+    bytes::copy(&state[HEAD..STATE], &mut body);
     Reader { head, body }
 }
 
@@ -163,26 +160,6 @@ fn store(r: Reader, state: &mut [u8])
 {
     let head = r.head;
     let body = r.body;
-    store_head(head, state);
-    copy(state, HEAD, &body);
-}
-
-fn store_head(h: Head, state: &mut [u8])
-    requires { ⌜ headLength ≤ length (now state) ⌝ }
-    ensures { λ _. ⌜ now (state .exit) ≡ headBytes h ++ drop headLength (now (state .entry)) ⌝ }
-{
-    let head = exported_state::head_bytes(h);
-    copy(state, 0, &head);
-}
-
-// All bytes of one slice go into another from a place on.
-fn copy(to: &mut [u8], at: usize, from: &[u8])
-    requires { ⌜ at + length (now from) ≤ length (now to) ⌝ }
-    ensures { λ _. ⌜ now (to .exit) ≡ paste (now (to .entry)) at (now (from .entry)) (length (now (from .entry))) ⌝ }
-{
-    let mut i: usize = 0;
-    while i < from.len() {
-        to[at + i] = from[i];
-        i += 1;
-    }
+    exported_state::store_head(head, state);
+    bytes::copy(&body, &mut state[HEAD..STATE]);
 }

@@ -4,7 +4,8 @@
 //!
 //! First the readers by themselves, on each input, in one thread, in nanoseconds a nibble. The proved reader (the exported call, through its Rust
 //! wrapper) and the plain one are fed nibbles in runs of 64 Ki, and are lent the same line buffer again and again, which is not cleared between
-//! calls. The C reader takes the same nibbles packed, two a byte, in pieces of 64 KiB; it writes the row of each mark as text, and hands out no body.
+//! calls. The proved reader is also fed the same nibbles packed, two a byte, in pieces of 64 KiB; so is the C reader, which writes the row of each mark
+//! as text, and hands out no body.
 //!
 //! Then whole programs, on a file of the same bytes over and over. The file was read before, and what is written goes to /dev/null.
 //!
@@ -99,6 +100,23 @@ fn proved_pass(nibbles: &[u8]) -> Tally {
     tally
 }
 
+fn packed_pass(bytes: &[u8]) -> Tally {
+    let mut reader = bus::Reader::new(bus::Profile::VV5404);
+    let mut line = [0; 356];
+    let mut tally = Tally::default();
+    for piece in bytes.chunks(RUN) {
+        let mut at = 0;
+        while at < 2 * piece.len() {
+            let fed = reader.feed_bytes(piece, at, &mut line);
+            tally.add(told::answer(fed.answer));
+            at += fed.taken;
+        }
+    }
+    black_box(&line);
+    tally.add(told::answer(Ok(reader.finish())));
+    tally
+}
+
 fn plain_pass(nibbles: &[u8]) -> Tally {
     let mut reader = Reader::new(Profile::VV5404);
     let mut tally = tally(nibbles, |run, line| reader.run(run, line));
@@ -176,28 +194,31 @@ fn inputs(size: usize) -> Vec<(&'static str, Vec<u8>)> {
 
 fn readers(inputs: &[(&str, Vec<u8>)], rounds: usize) {
     println!(
-        "{:<26} {:>9} {:>8} {:>10} {:>9} {:>9} {:>12} {:>10}",
-        "ns a nibble", "nibbles", "answers", "proved", "Rust", "C", "Rust/proved", "proved/C"
+        "{:<26} {:>9} {:>8} {:>10} {:>9} {:>9} {:>9} {:>12} {:>10} {:>10}",
+        "ns a nibble", "nibbles", "answers", "proved", "packed", "Rust", "C", "Rust/proved", "proved/C", "packed/C"
     );
     for (name, nibbles) in inputs {
         let bytes = packed(nibbles);
         let rows = c_reader::rows(&bytes, RUN).iter().filter(|&&b| b == b'\n').count() - 1;
-        let (mut proved, mut plain, mut c) = (f64::MAX, f64::MAX, f64::MAX);
+        let [mut proved, mut of_bytes, mut plain, mut c] = [f64::MAX; 4];
         for _ in 0..rounds {
             let (time, ours) = timed(|| proved_pass(black_box(nibbles)));
             proved = proved.min(time / nibbles.len() as f64);
+            let (time, packed) = timed(|| packed_pass(black_box(&bytes)));
+            of_bytes = of_bytes.min(time / nibbles.len() as f64);
             let (time, theirs) = timed(|| plain_pass(black_box(nibbles)));
             plain = plain.min(time / nibbles.len() as f64);
             let (time, ()) = timed(|| c_pass(black_box(&bytes)));
             c = c.min(time / nibbles.len() as f64);
-            assert_eq!(ours, theirs);
+            assert_eq!([&ours, &packed], [&theirs; 2]);
             assert_eq!(ours.all(), rows);
         }
         println!(
-            "{name:<26} {:>9} {rows:>8} {proved:>10.3} {plain:>9.3} {c:>9.3} {:>12.2} {:>10.2}",
+            "{name:<26} {:>9} {rows:>8} {proved:>10.3} {of_bytes:>9.3} {plain:>9.3} {c:>9.3} {:>12.2} {:>10.2} {:>10.2}",
             nibbles.len(),
             plain / proved,
-            proved / c
+            proved / c,
+            of_bytes / c
         );
     }
 }
@@ -285,7 +306,8 @@ fn main() {
 
     println!("{}; the least of {rounds} rounds, all side by side; line buffers are not cleared between calls", machine());
     println!(
-        "proved, Rust: nibbles in runs of {RUN}, each line's body handed out; C: packed bytes in pieces of {RUN}, rows written, no body"
+        "proved, Rust: nibbles in runs of {RUN}, each line's body handed out; packed: the proved reader, packed bytes in pieces of {RUN}; \
+         C: the same pieces, rows written, no body"
     );
     readers(&inputs, rounds);
     if megabytes > 0 {

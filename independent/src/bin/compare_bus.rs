@@ -15,6 +15,8 @@ use std::fmt::Debug;
 #[derive(Default)]
 struct Count {
     nibbles: usize,
+    /// Those of them that were fed as packed bytes.
+    packed: usize,
     answers: usize,
     lines: usize,
     gaps: usize,
@@ -33,6 +35,18 @@ impl Count {
         }
         self.answers += 1;
     }
+}
+
+/// What is fed: nibbles, or the nibbles of packed bytes from a place on.
+#[derive(Clone, Copy)]
+enum Given<'a> {
+    Nibbles(&'a [u8]),
+    Bytes(&'a [u8], usize),
+}
+
+/// The nibbles of bytes, the high one of each first.
+fn unpacked(bytes: &[u8]) -> Vec<u8> {
+    bytes.iter().flat_map(|b| [b >> 4, b & 15]).collect()
 }
 
 /// Both readers of one profile: the proved one, whose state lies within a larger buffer and moves about, and again with types; and the plain one.
@@ -55,18 +69,34 @@ impl Pair {
     }
 
     /// Feeds a run to both. The answer, and how many nibbles were taken.
-    fn feed(&mut self, nibbles: &[u8], line: &[u8], count: &mut Count, context: &dyn Debug) -> (Option<Answer>, usize) {
+    fn feed(&mut self, given: Given<'_>, line: &[u8], count: &mut Count, context: &dyn Debug) -> (Option<Answer>, usize) {
         let (mut ours, mut typed, mut theirs) = (line.to_vec(), line.to_vec(), line.to_vec());
         let before = self.proved.clone();
-        let (number, taken) = raw::feed(&mut self.proved, nibbles, &mut ours);
+        let ((number, taken), fed, theirs_said) = match given {
+            Given::Nibbles(nibbles) => (
+                raw::feed(&mut self.proved, nibbles, &mut ours),
+                self.typed.feed(nibbles, &mut typed),
+                self.plain.run(nibbles, &mut theirs),
+            ),
+            Given::Bytes(bytes, from) => (
+                raw::feed_bytes(&mut self.proved, bytes, from, &mut ours),
+                self.typed.feed_bytes(bytes, from, &mut typed),
+                self.plain.run_bytes(bytes, from, &mut theirs),
+            ),
+        };
         let ours_said = (told::answer(raw::answer(number)), taken);
-        let fed = self.typed.feed(nibbles, &mut typed);
-        let theirs_said = self.plain.run(nibbles, &mut theirs);
         same("feeding", context, &ours_said, &theirs_said);
         same("feeding with types", context, &(told::answer(fed.answer), fed.taken), &theirs_said);
         same("the line buffers", context, (&ours, &typed), (&theirs, &theirs));
         if taken == 0 {
             same("the state after a call that took nothing", context, &self.proved, &before);
+        }
+        if let Given::Bytes(bytes, from) = given {
+            let (mut state, mut buffer) = (before, line.to_vec());
+            let nibbles = unpacked(bytes).split_off(from.min(2 * bytes.len()));
+            let said = raw::feed(&mut state, &nibbles, &mut buffer);
+            same("feeding the same as nibbles", context, (said, &state, &buffer), ((number, taken), &self.proved, &ours));
+            count.packed += taken;
         }
         self.check_beyond();
         count.nibbles += taken;
@@ -88,14 +118,23 @@ impl Pair {
     }
 }
 
-/// One stream in runs of random lengths, and finish at its end or not.
+/// The bytes of a run of nibbles, with other nibbles before it, and its place there.
+fn within_bytes(random: &mut Random, run: &[u8]) -> (Vec<u8>, usize) {
+    let from = 2 * random.below(20) + run.len() % 2;
+    (streams::packed(&[&streams::biased_noise(random, from), run].concat()), from)
+}
+
+/// One stream in runs of random lengths, each as nibbles or as packed bytes, and finish at its end or not.
 fn compare_stream(random: &mut Random, pair: &mut Pair, sort: Sort, nibbles: &[u8], count: &mut Count) {
     let profile = pair.plain.profile;
     let mut at = 0;
     while at < nibbles.len() {
         let length = run_length(random, nibbles.len() - at);
         let line = line_buffer(random, profile);
-        let (answer, taken) = pair.feed(&nibbles[at..at + length], &line, count, &(sort, profile, at, length));
+        let run = &nibbles[at..at + length];
+        let (bytes, from) = within_bytes(random, run);
+        let given = if sort == Sort::NotNibbles || random.once_in(2) { Given::Nibbles(run) } else { Given::Bytes(&bytes, from) };
+        let (answer, taken) = pair.feed(given, &line, count, &(sort, profile, at, length));
         at += taken;
         if answer == Some(Answer::Refused(10)) {
             at += 1;
@@ -174,7 +213,7 @@ fn compare_edges(count: &mut Count) {
         let mut at = 0;
         let buffer = [0x55; LONGEST];
         while at < nibbles.len() {
-            let (answer, taken) = pair.feed(&nibbles[at..], &buffer, count, &name);
+            let (answer, taken) = pair.feed(Given::Nibbles(&nibbles[at..]), &buffer, count, &name);
             at += taken;
             answers.extend(answer);
         }
@@ -185,6 +224,20 @@ fn compare_edges(count: &mut Count) {
         let mut nibbles = vec![0; 2000];
         let written = raw::write(0, 1, 303, &blank, (255, 255), nulls, &mut nibbles);
         same("the length of a line period", &nulls, written, (0, 2 * bytes));
+    }
+}
+
+/// Packed bytes from every place on, and from places past their end.
+fn compare_places(random: &mut Random, count: &mut Count) {
+    for profile in [Profile::VV5404, Profile::VV5300] {
+        for length in 0..40 {
+            let bytes = streams::packed(&streams::biased_noise(random, 2 * length));
+            for from in (0..2 * length + 4).chain([usize::MAX - 1, usize::MAX]) {
+                let mut pair = Pair::new(profile);
+                pair.feed(Given::Bytes(&bytes, from), &[0; LONGEST], count, &(profile, length, from));
+                pair.finish(count, &(profile, length, from));
+            }
+        }
     }
 }
 
@@ -202,6 +255,7 @@ fn compare_refused_states(random: &mut Random, count: &mut Count) {
             same("open, room", &short, raw::open(profile, &mut state), 12);
         }
         same("feeding a short state", &short, raw::feed(&mut state, &[1, 2, 3], &mut [0; LONGEST]), (11, 0));
+        same("feeding bytes to a short state", &short, raw::feed_bytes(&mut state, &[1, 2, 3], 1, &mut [0; LONGEST]), (11, 0));
         same("finishing a short state", &short, raw::finish(&mut state), 11);
         same("the state after them", &short, state, vec![0x77; short]);
     }
@@ -219,7 +273,10 @@ fn compare_refused_states(random: &mut Random, count: &mut Count) {
         let (empty, none) = raw::feed(&mut state, &[], &mut line);
         same("what no nibbles leave", &before, (&state, none, line), (&before, 0, [0x44; LONGEST]));
         let nibbles = streams::biased_noise(random, 400);
+        let (mut copy, mut copied) = (state.clone(), line);
+        let of_bytes = raw::feed_bytes(&mut copy, &streams::packed(&nibbles), 0, &mut copied);
         let (answer, taken) = raw::feed(&mut state, &nibbles, &mut line);
+        same("feeding bytes to any state", &before, (of_bytes, &copy, copied), ((answer, taken), &state, line));
         same("11 for no nibbles", &before, empty == 11, answer == 11);
         if answer == 11 {
             same("what 11 leaves", &before, (&state, taken, line), (&before, 0, [0x44; LONGEST]));
@@ -374,7 +431,7 @@ fn compare_frames(random: &mut Random, frames: usize, count: &mut Count) {
         }
         let mut at = 0;
         while at < nibbles.len() {
-            let (answer, taken) = pair.feed(&nibbles[at..], &[0; LONGEST], count, &("frame", frame, at));
+            let (answer, taken) = pair.feed(Given::Nibbles(&nibbles[at..]), &[0; LONGEST], count, &("frame", frame, at));
             at += taken;
             let ruling = match answer {
                 Some(Answer::Line { kind, number, .. }) => judges.line(kind, number, count),
@@ -392,6 +449,7 @@ fn main() {
     let (times, mut random) = arguments();
     let mut count = Count::default();
     compare_edges(&mut count);
+    compare_places(&mut random, &mut count);
     compare_refused_states(&mut random, &mut count);
     compare_writer(&mut random, 31_000 * times, &mut count);
     compare_judge(&mut random, 34 * times, &mut count);
@@ -401,5 +459,5 @@ fn main() {
     let refusals: Vec<String> = count.refusals.iter().enumerate().filter(|(_, n)| **n > 0).map(|(i, n)| format!("{i}: {n}")).collect();
     println!("{} lines, {} good gaps; refusals {}", count.lines, count.gaps, refusals.join(", "));
     println!("{} calls of the writer, {} of the judge", count.written, count.judged);
-    println!("{} nibbles, {} answers compared: no difference", count.nibbles, count.answers);
+    println!("{} nibbles, {} of them in packed bytes, {} answers compared: no difference", count.nibbles, count.packed, count.answers);
 }

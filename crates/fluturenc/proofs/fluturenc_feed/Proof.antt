@@ -9,7 +9,7 @@ use lib.ListN.{length}
 use denote.Ref.{now}
 use Rattle.stream.specs.AnswersLaws.{answer-of}
 use Rattle.fluturenc.specs.Calls.{feedCall}
-use Rattle.fluturenc.proofs.Feeding.{lentRun, back-front, feed-lent, left-same, left-stored}
+use Rattle.fluturenc.specs.FeedingLaws.{lentRun, feed-lent, left-same, left-stored}
 use borrow.Author.Needs.{needs}
 use Rattle.fluturenc.proofs.fluturenc_feed.Statement.{statement}
 use Rattle.fluturenc.proofs.fluturenc_feed.Tie as tie
@@ -20,30 +20,27 @@ returns c =
     let short = lt-leb stateLength (length (now (c .before .before .before .before .args .state))) (omega (arith, c .if1 .taken)) in
     record { says = simp short; count = simp short; keeps = simp short; leaves = simp short }
 
-store-head-requires : tie.Need-store-head-requires
-store-head-requires c κs =
-    let run = c .before .before .before .before .before .before .before .before in
-    let test = run .before .before .before .before .before .before in
-    back-front (now (test .before .before .before .before .before .before .before .before .args .state)) (test .before .before .before .before .if1 .left) (run .run-lent .last .1 .0)
-
 same-length : tie.Need-same-length
 same-length c =
-    let state = c .before .before .before .before .before .before .before .state in
+    let head = c .before .before .before in
+    let state = head .before .before .before .before .state in
     ⊎-elim (λ w. ap length (w .5) ∙ w .2 .kept .1 .0 ∙ state .given .1) (λ w. ap length (w .1) ∙ state .given .1) (c .before .if3 .came)
 
 returns-2 : tie.Need-returns-2
 returns-2 c =
-    let run = c .before .before .before .before .before .before .before .before in
-    let test = run .before .before .before .before .before .before in
-    let a = test .before .before .before .before .before .before .before .before .args in
+    let head = c .before .before .before in
+    let run = head .before .before .before .before .before in
+    let tags = run .before .before .before .before .before .before in
+    let long = tags .before .before .before .before in
+    let a = long .before .before .before .before .args in
     let s = now (a .state) in
     let w = now (a .nibbles) in
     let line = now (a .line) in
     let h = run .before .before .before .head-in .result in
     let r = run .run-lent in
-    let room = test .before .before .before .before .if1 .left in
+    let room = long .if1 .left in
     let read = run .before .before .before .head-in .ensures ∙ held-head s room in
-    let e = feed-lent s room w line h read (sym (test .is-tagged .ensures) ∙ run .before .before .before .before .before .if2 .taken) in
+    let e = feed-lent s room w line h read (sym (tags .is-tagged .ensures) ∙ run .before .before .before .before .before .if2 .taken) in
     let told = answer-of (h .profile) (r .result .answer) (r .last .1 .1 .1 .0) (lentRun h s w line .outcome) (r .ensures .says) in
     let left = ⊎-elim (λ b. b .5 ∙ b .2 .ensures ∙ left-stored s room w line h read (r .result .taken) (r .last .1 .0) (r .ensures .count) (r .ensures .keeps) (omega (arith, b .0 .taken)) (r .result .head) (r .ensures .next)) (λ b. b .1 ∙ left-same s room w line h read (r .result .taken) (r .last .1 .0) (r .ensures .count) (r .ensures .keeps) (omega (arith, b .0 .left))) (c .before .if3 .came) in
     record {
@@ -56,14 +53,15 @@ returns-2 c =
 returns-3 : tie.Need-returns-3
 unfolding feedCall holdsReader
 returns-3 c =
-    let args = c .before .before .before .before .before .before .before .before .before .args in
-    let long = le-leb stateLength (length (now (args .state))) (omega (arith, c .before .before .before .before .before .if1 .left)) in
+    let long = c .before .before .before .before .before in
+    let s = now (long .before .before .before .before .args .state) in
+    let room = le-leb stateLength (length s) (omega (arith, long .if1 .left)) in
     let tags = c .before .is-tagged .ensures in
     record {
-      says = simp (long, ← tags, c .if2 .left);
-      count = simp (long, ← tags, c .if2 .left);
-      keeps = simp (long, ← tags, c .if2 .left);
-      leaves = simp (long, ← tags, c .if2 .left);
+      says = simp (room, ← tags, c .if2 .left);
+      count = simp (room, ← tags, c .if2 .left);
+      keeps = simp (room, ← tags, c .if2 .left);
+      leaves = simp (room, ← tags, c .if2 .left);
     }
 
 pub fluturenc-feed-spec : {M : Type 1} → statement M
@@ -81,7 +79,7 @@ fluturenc-feed-spec =
     (λ c. search needs)
     (λ c. search needs)
     (λ c κs. search needs)
-    store-head-requires
+    (λ c κs. search needs)
     (λ c κs. search needs)
     same-length
     (λ c. search needs)

@@ -1,11 +1,8 @@
 -- The head is read by its function; the 356 bytes after it, copied, fill the body, so nothing of its zeros is left.
 use native.Mathlib.Omega.{arith}
-use lib.ListN.{replicate, length-take, length-drop}
 use denote.Ref.{now}
-use Rattle.profile.specs.Profile.{longest}
-use Rattle.exported_state.specs.State.{bodyIn}
 use Rattle.exported_state.specs.StateLaws.{held-head}
-use Rattle.fluturenc.proofs.Pasting.{paste-all}
+use Rattle.fluturenc.proofs.Storing.{body-copied}
 use borrow.Author.Needs.{needs}
 use Rattle.fluturenc.proofs.reader_in.Statement.{statement}
 use Rattle.fluturenc.proofs.reader_in.Tie as tie
@@ -13,8 +10,7 @@ use Rattle.fluturenc.proofs.reader_in.Tie as tie
 returns : tie.Need-returns
 returns c =
     let s = now (c .before .before .before .before .before .before .args .state) in
-    let held = held-head s (omega arith) in
-    simp (c .before .before .before .before .head-in .ensures, held, c .before .copy .ensures, paste-all (replicate longest 0) (bodyIn s) (simp (length-take, length-drop) (omega arith)))
+    simp (c .before .before .before .before .head-in .ensures, held-head s (omega arith), c .before .copy .ensures .1, body-copied s (omega arith))
 
 pub reader-in-spec : {M : Type 1} → statement M
 reader-in-spec =

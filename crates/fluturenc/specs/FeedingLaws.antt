@@ -1,4 +1,4 @@
--- Feeding in place: a run is lent the body where it stands in the state, and its head is stored there where it took something.
+-- Laws of feeding in place: a run is lent the body where it stands in the state, and its head is stored there where it took something.
 use mathlib.Core.Path.{_≡_, refl, sym, ap, ap₂, _∙_}
 use mathlib.Core.Bool.{Bool, true, false, cond}
 use mathlib.Core.List.{List, _++_}
@@ -15,7 +15,7 @@ use Rattle.reader.specs.declared.Reader.{Reader}
 use Rattle.reader_head.specs.Head.{passes}
 use Rattle.run.specs.Run.{Ran, ran, runOf, lentRunOf}
 use Rattle.run.specs.RunLaws.{none-taken}
-use Rattle.exported_state.specs.State.{headLength, stateLength, headBytes, stored, headIn, bodyIn, readerIn, tagged, holdsReader}
+use Rattle.exported_state.specs.State.{headLength, stateLength, headBytes, headStored, stored, headIn, bodyIn, readerIn, tagged, holdsReader}
 use Rattle.fluturenc.specs.Calls.{stateAfter, feedRan, feedCall}
 
 -- the run of a reader whose body is lent from the state
@@ -33,7 +33,7 @@ module _ (s : List ℕ) (room : stateLength ≤ length s) where
   body-full : length (bodyIn s) ≡ longest
   body-full = length-take-le longest (drop headLength s) (omega (arith, length-drop headLength s))
 
-  pub back-front : (body : List ℕ) → headLength ≤ length (lentBack s body)
+  back-front : (body : List ℕ) → headLength ≤ length (lentBack s body)
   back-front body =
       let e = length-append (take headLength s) (body ++ drop longest (drop headLength s)) in
       omega (arith, e, front-full)
@@ -41,11 +41,12 @@ module _ (s : List ℕ) (room : stateLength ≤ length s) where
   back-same : lentBack s (bodyIn s) ≡ s
   back-same = ap (λ (l : List ℕ). take headLength s ++ l) (take-append-drop longest (drop headLength s)) ∙ take-append-drop headLength s
 
-  back-stored : (r : Reader) → headBytes (r .head) ++ drop headLength (lentBack s (r .body)) ≡ stored r s
-  unfolding stored
+  back-stored : (r : Reader) → headStored (r .head) (lentBack s (r .body)) ≡ stored r s
+  unfolding headStored stored
   back-stored r =
-      ap (λ (l : List ℕ). headBytes (r .head) ++ l) (drop-at (take headLength s) _ headLength front-full)
-      ∙ ap (λ (l : List ℕ). headBytes (r .head) ++ (r .body ++ l)) (drop-drop longest headLength s)
+      simp (le-leb _ _ (back-front (r .body)))
+      (ap (λ (l : List ℕ). headBytes (r .head) ++ l) (drop-at (take headLength s) _ headLength front-full)
+      ∙ ap (λ (l : List ℕ). headBytes (r .head) ++ (r .body ++ l)) (drop-drop longest headLength s))
 
   module _ (w line : List ℕ) (h : Head) (read : h ≡ headIn s) where
     runs : lentRun h s w line ≡ runOf (readerIn s) w (length line)
@@ -74,9 +75,9 @@ module _ (s : List ℕ) (room : stateLength ≤ length s) where
           ∙ simp (eq-eqb _ _ z)
 
       pub left-stored : 0 < n → (head : Head) → head ≡ lentRun h s w line .reader .head
-          → headBytes head ++ drop headLength (lentBack s body) ≡ stateAfter (lentRun h s w line) s
+          → headStored head (lentBack s body) ≡ stateAfter (lentRun h s w line) s
       left-stored l head e =
           let t : Ran = lentRun h s w line in
-          ap₂ (λ (x : Head) (y : List ℕ). headBytes x ++ drop headLength (lentBack s y)) e moved
+          ap₂ (λ (x : Head) (y : List ℕ). headStored x (lentBack s y)) e moved
           ∙ back-stored (t .reader)
           ∙ simp (ne-eqb (t .taken) 0 (λ z. omega arith))
