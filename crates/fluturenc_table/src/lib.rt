@@ -27,7 +27,7 @@ const PLACE: usize = 1 + STATE;
 
 const TABLE: usize = COUNT * PLACE;
 
-const COUNT: usize = 8;
+const COUNT: usize = reader_table::PLACES;
 
 const NOBODY: u8 = 0;
 

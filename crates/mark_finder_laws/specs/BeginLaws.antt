@@ -12,6 +12,7 @@ use Rattle.stream.specs.Answers.{Outcome, answerFor, isAnswer, turned}
 use Rattle.stream.specs.AnswersLaws.{no-answer}
 use Rattle.stream.specs.Stream.{State, Step, Completed, not-yet, mark, fresh, detect, advance, step, run, outcomes}
 use Rattle.stream.specs.TextLaws.{turned-append}
+use Rattle.recovery.specs.Calls.{markNibbles}
 use Rattle.recovery.specs.CleanAnswers.{saidIn, said}
 use Rattle.recovery.specs.CollectedLaws.{collected-append}
 use Rattle.recovery.specs.CutTexts.{onto-append}
@@ -21,7 +22,7 @@ use Rattle.recovery.specs.ReadBackLaws.{turned-onto, run-append, outcomes-appen
 use Rattle.mark_finder_laws.specs.Standing.{answers, beginFrom, beginIn, BeginsAt}
 
 -- all nibbles end in a mark
-ends-there : (w : List ℕ) → MarkEnds (onto [] w) → BeginsAt w (length w - 8)
+ends-there : (w : List ℕ) → MarkEnds (onto [] w) → BeginsAt w (length w - markNibbles)
 ends-there w e =
     let v : List ℕ = 15 ∷ 15 ∷ 15 ∷ 15 ∷ 0 ∷ 0 ∷ e .high ∷ e .low ∷ [] in
     let is : w ≡ turned (e .older) [] ++ v =
@@ -31,7 +32,7 @@ ends-there w e =
       low = e .low;
       rest = [];
       there =
-          ap₂ drop (let z : length w - 8 ≡ length (turned (e .older) []) = omega (arith, ap length is, length-append (turned (e .older) []) v) in z) is
+          ap₂ drop (let z : length w - markNibbles ≡ length (turned (e .older) []) = omega (arith, ap length is, length-append (turned (e .older) []) v) in z) is
           ∙ drop-append-seam (turned (e .older) []) v;
     }
 
@@ -42,11 +43,11 @@ heard-mark p m t not-yet e = absurd (true≢false (sym e))
 heard-mark p m t (mark x y before) e = refl
 
 answer-there : (p : Profile) (w : List ℕ) (n : ℕ) → isAnswer (answerFor (step p (run p fresh w) n .outcome)) ≡ true
-    → BeginsAt (w ++ (n ∷ [])) (length w + 1 - 8)
+    → BeginsAt (w ++ (n ∷ [])) (length w + 1 - markNibbles)
 answer-there p w n e =
     let x = run p fresh w in
     let c : completes (n ∷ onto [] w) ≡ true = sym (marks-are-places p w n) ∙ heard-mark p (x .at) (n ∷ x .text) (detect (n ∷ x .text)) e in
-    subst (λ (i : ℕ). BeginsAt (w ++ (n ∷ [])) (i - 8)) (length-append w (n ∷ []))
+    subst (λ (i : ℕ). BeginsAt (w ++ (n ∷ [])) (i - markNibbles)) (length-append w (n ∷ []))
     (ends-there (w ++ (n ∷ [])) (subst MarkEnds (sym (onto-append [] w (n ∷ []))) (completes-there (n ∷ onto [] w) c)))
 
 -- with more nibbles after it, a mark begins where it did
@@ -78,15 +79,15 @@ begins-on p (n ∷ v) w s b h =
     w₁ = w ++ (n ∷ [])
 
     s₁ : ℕ
-    s₁ = cond (isAnswer (answerFor (x .outcome))) (length w + 1 - 8) s
+    s₁ = cond (isAnswer (answerFor (x .outcome))) (length w + 1 - markNibbles) s
 
     told : answers p w₁ ≡ answers p w ++ (saidIn (x .outcome) ++ [])
     told = ap said (outcomes-append p fresh w (n ∷ [])) ∙ collected-append saidIn (outcomes p fresh w) (x .outcome ∷ [])
 
-    go : (c : Bool) → isAnswer (answerFor (x .outcome)) ≡ c → 0 < length (answers p w₁) → BeginsAt w₁ (cond (isAnswer (answerFor (x .outcome))) (length w + 1 - 8) s)
-    go true e g = subst (λ (c : Bool). BeginsAt w₁ (cond c (length w + 1 - 8) s)) (sym e) (answer-there p w n e)
+    go : (c : Bool) → isAnswer (answerFor (x .outcome)) ≡ c → 0 < length (answers p w₁) → BeginsAt w₁ (cond (isAnswer (answerFor (x .outcome))) (length w + 1 - markNibbles) s)
+    go true e g = subst (λ (c : Bool). BeginsAt w₁ (cond c (length w + 1 - markNibbles) s)) (sym e) (answer-there p w n e)
     go false e g =
-        subst (λ (c : Bool). BeginsAt w₁ (cond c (length w + 1 - 8) s)) (sym e)
+        subst (λ (c : Bool). BeginsAt w₁ (cond c (length w + 1 - markNibbles) s)) (sym e)
         (begins-more w (n ∷ []) s
         (b (subst (λ (os : List Outcome). 0 < length os) (told ∙ ap (λ (o : Outcome). answers p w ++ (saidIn o ++ [])) (no-answer (x .outcome) e) ∙ append-nil (answers p w)) g)))
 

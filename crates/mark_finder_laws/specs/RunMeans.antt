@@ -16,6 +16,7 @@ use Rattle.stream.specs.Nibbles.{AllNibbles, no-nibble, and-nibble}
 use Rattle.reader.specs.declared.Reader.{Reader}
 use Rattle.reader.specs.Reader.{Took, taking}
 use Rattle.run.specs.Run.{Ran, ran, onward}
+use Rattle.recovery.specs.Calls.{markNibbles}
 use Rattle.recovery.specs.CleanAnswers.{saidIn, said}
 use Rattle.refinement.specs.Refine.{Follows}
 use Rattle.refinement.specs.RefineLaws.{Steps, taking-steps}
@@ -28,7 +29,7 @@ pub record RunMeans (p : Profile) (s : State) (v : List ℕ) (i : ℕ) (t : Ran)
   pub within : count ≤ length v
   pub follows : Follows p (t .reader) (run p s (take count v))
   pub says : said (outcomes p s (take count v)) ≡ saidIn (t .outcome)
-  pub starts : (b j : ℕ) → beginFrom b j (outcomes p s (take count v)) ≡ cond (isAnswer (answerFor (t .outcome))) (j + count - 8) b
+  pub starts : (b j : ℕ) → beginFrom b j (outcomes p s (take count v)) ≡ cond (isAnswer (answerFor (t .outcome))) (j + count - markNibbles) b
   pub whole : isAnswer (answerFor (t .outcome)) ≡ false → count ≡ length v
 
 pub run-means : (p : Profile) {v : List ℕ} → AllNibbles v → (r : Reader) (s : State) (i : ℕ) → Follows p r s → RunMeans p s v i (onward r v i)
@@ -56,7 +57,7 @@ run-means p (and-nibble {n} {t = w} h q) r s i f = go (isAnswer (answerFor (t .o
           within = omega arith;
           follows = k .follows;
           says = ap (λ (o : Outcome). saidIn o ++ []) same ∙ append-nil (saidIn (t .outcome));
-          starts = λ b j. ap (λ (o : Outcome). cond (isAnswer (answerFor o)) (j + 1 - 8) b) same;
+          starts = λ b j. ap (λ (o : Outcome). cond (isAnswer (answerFor o)) (j + 1 - markNibbles) b) same;
           whole = λ g. absurd (true≢false (sym e ∙ g));
         }
     by false e m =
@@ -69,9 +70,9 @@ run-means p (and-nibble {n} {t = w} h q) r s i f = go (isAnswer (answerFor (t .o
           follows = m .follows;
           says = ap (λ (o : Outcome). saidIn o ++ said (outcomes p (step p s n .state) (take (m .count) w))) quiet ∙ m .says;
           starts = λ b j.
-              ap (λ (o : Outcome). beginFrom (cond (isAnswer (answerFor o)) (j + 1 - 8) b) (j + 1) (outcomes p (step p s n .state) (take (m .count) w))) quiet
+              ap (λ (o : Outcome). beginFrom (cond (isAnswer (answerFor o)) (j + 1 - markNibbles) b) (j + 1) (outcomes p (step p s n .state) (take (m .count) w))) quiet
               ∙ m .starts b (j + 1)
-              ∙ ap (λ (x : ℕ). cond (isAnswer (answerFor (onward (t .reader) w (i + 1) .outcome))) (x - 8) b) (let z : j + 1 + m .count ≡ j + suc (m .count) = omega arith in z);
+              ∙ ap (λ (x : ℕ). cond (isAnswer (answerFor (onward (t .reader) w (i + 1) .outcome))) (x - markNibbles) b) (let z : j + 1 + m .count ≡ j + suc (m .count) = omega arith in z);
           whole = λ g. ap suc (m .whole g);
         }
 

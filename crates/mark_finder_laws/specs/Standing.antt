@@ -10,6 +10,7 @@ use Rattle.profile.specs.declared.Profile.{Profile}
 use Rattle.stream.specs.Answers.{Outcome, answerFor, isAnswer}
 use Rattle.stream.specs.Stream.{fresh, run, outcomes}
 use Rattle.stream.specs.Written.{nibbles}
+use Rattle.recovery.specs.Calls.{markNibbles}
 use Rattle.recovery.specs.CleanAnswers.{said}
 use Rattle.refinement.specs.Refine.{Follows}
 use Rattle.mark_finder.specs.declared.Located.{Located}
@@ -31,7 +32,7 @@ answers p w = said (outcomes p fresh w)
 -- where the open mark begins: eight nibbles before the place at which the last answer came, counted on from nibble i, or s where none comes
 abbrev pub beginFrom : ℕ → ℕ → List Outcome → ℕ
 beginFrom s i [] = s
-beginFrom s i (o ∷ os) = beginFrom (cond (isAnswer (answerFor o)) (i + 1 - 8) s) (i + 1) os
+beginFrom s i (o ∷ os) = beginFrom (cond (isAnswer (answerFor o)) (i + 1 - markNibbles) s) (i + 1) os
 
 -- where the last mark of a text begins
 abbrev pub beginIn : Profile → List ℕ → ℕ

@@ -19,6 +19,7 @@ use Rattle.stream.specs.AnswersLaws.{no-answer}
 use Rattle.stream.specs.Stream.{State, fresh, run, outcomes, finish}
 use Rattle.stream.specs.Written.{nibbles}
 use Rattle.stream.specs.NibblesLaws.{all-nibbles-drop, nibbles-length, nibbles-append}
+use Rattle.recovery.specs.Calls.{markNibbles}
 use Rattle.recovery.specs.CleanAnswers.{saidIn, said}
 use Rattle.recovery.specs.CollectedLaws.{collected-append}
 use Rattle.recovery.specs.ReadBackLaws.{run-append, outcomes-append}
@@ -41,8 +42,8 @@ use Rattle.mark_finder_laws.specs.RunMeans.{RunMeans, run-means}
 start-append : (os qs : List Outcome) (s i : ℕ) → beginFrom s i (os ++ qs) ≡ beginFrom (beginFrom s i os) (i + length os) qs
 start-append [] qs s i = ap (λ (j : ℕ). beginFrom s j qs) (sym (add-zero i))
 start-append (o ∷ os) qs s i =
-    start-append os qs (cond (isAnswer (answerFor o)) (i + 1 - 8) s) (i + 1)
-    ∙ ap (λ (j : ℕ). beginFrom (beginFrom (cond (isAnswer (answerFor o)) (i + 1 - 8) s) (i + 1) os) j qs) (let z : i + 1 + length os ≡ i + suc (length os) = omega arith in z)
+    start-append os qs (cond (isAnswer (answerFor o)) (i + 1 - markNibbles) s) (i + 1)
+    ∙ ap (λ (j : ℕ). beginFrom (beginFrom (cond (isAnswer (answerFor o)) (i + 1 - markNibbles) s) (i + 1) os) j qs) (let z : i + 1 + length os ≡ i + suc (length os) = omega arith in z)
 
 said-answer : (o : Outcome) → isAnswer (answerFor o) ≡ true → saidIn o ≡ o ∷ []
 said-answer nothing e = absurd (true≢false (sym e))
@@ -128,12 +129,12 @@ module _ {p : Profile} {before piece : List ℕ} {from : ℕ} {f : Finder} {held
       ∙ collected-append saidIn (outcomes p fresh u) (outcomes p x (take (m .count) v))
       ∙ ap (λ (os : List Outcome). answers p u ++ os) (m .says)
 
-  start-there : beginIn p (soFar before piece (from + t .taken)) ≡ cond (isAnswer (answerFor (t .outcome))) (2 * length before + (from + t .taken) - 8) (beginIn p u)
+  start-there : beginIn p (soFar before piece (from + t .taken)) ≡ cond (isAnswer (answerFor (t .outcome))) (2 * length before + (from + t .taken) - markNibbles) (beginIn p u)
   start-there =
       ap (beginFrom 0 0) outcomes-there
       ∙ start-append (outcomes p fresh u) (outcomes p x (take (m .count) v)) 0 0
       ∙ m .starts (beginIn p u) (0 + length (outcomes p fresh u))
-      ∙ ap (λ (k : ℕ). cond (isAnswer (answerFor (t .outcome))) (k - 8) (beginIn p u))
+      ∙ ap (λ (k : ℕ). cond (isAnswer (answerFor (t .outcome))) (k - markNibbles) (beginIn p u))
       (let z : 0 + length (outcomes p fresh u) + m .count ≡ 2 * length before + (from + t .taken) =
       omega (arith, outcomes-length p fresh u, so-far-length before piece from within, taken-is) in z)
 
@@ -141,7 +142,7 @@ module _ {p : Profile} {before piece : List ℕ} {from : ℕ} {f : Finder} {held
   quiet : isAnswer (answerFor (t .outcome)) ≡ false → FindsNext p before piece from (goingOn f held t)
   quiet e =
       let same : beginIn p (soFar before piece (from + t .taken)) ≡ beginIn p u =
-      start-there ∙ ap (λ (b : Bool). cond b (2 * length before + (from + t .taken) - 8) (beginIn p u)) e in
+      start-there ∙ ap (λ (b : Bool). cond b (2 * length before + (from + t .taken) - markNibbles) (beginIn p u)) e in
       let none : answers p (soFar before piece (from + t .taken)) ≡ answers p u =
       answers-there ∙ ap (λ (o : Outcome). answers p u ++ saidIn o) (no-answer (t .outcome) e) ∙ append-nil (answers p u) in
       let far = s .begins in
@@ -165,9 +166,9 @@ module _ {p : Profile} {before piece : List ℕ} {from : ℕ} {f : Finder} {held
   unfolding oneMore
   heard e =
       let next : ℕ = from + t .taken in
-      let i : ℕ = (next - 8) / 2 in
-      let there : beginIn p (soFar before piece next) ≡ 2 * length before + next - 8 =
-      start-there ∙ ap (λ (b : Bool). cond b (2 * length before + next - 8) (beginIn p u)) e in
+      let i : ℕ = (next - markNibbles) / 2 in
+      let there : beginIn p (soFar before piece next) ≡ 2 * length before + next - markNibbles =
+      start-there ∙ ap (λ (b : Bool). cond b (2 * length before + next - markNibbles) (beginIn p u)) e in
       let more : answers p (soFar before piece next) ≡ answers p u ++ (t .outcome ∷ []) =
       answers-there ∙ ap (λ (os : List Outcome). answers p u ++ os) (said-answer (t .outcome) e) in
       let far = s .begins in
@@ -186,7 +187,7 @@ module _ {p : Profile} {before piece : List ℕ} {from : ℕ} {f : Finder} {held
                   omega (arith, s .number-is, ap length more, length-append (answers p u) (t .outcome ∷ [])) in z);
               offset-is = s .offset-is;
               place-is = (let z : min (f .offset + i) greatestCount ≡ beginIn p (soFar before piece next) / 2 = omega (arith, there, s .offset-is) in z);
-              low-is = ap (λ (k : ℕ). eqb k 1) (let z : (next - 8) % 2 ≡ beginIn p (soFar before piece next) % 2 = omega (arith, there) in z);
+              low-is = ap (λ (k : ℕ). eqb k 1) (let z : (next - markNibbles) % 2 ≡ beginIn p (soFar before piece next) % 2 = omega (arith, there) in z);
               begins = omega arith;
               keeps =
                   record {

@@ -16,6 +16,9 @@ use profile::Profile;
 use reader::Reader;
 use stream::Answer;
 
+// The places of a table: eight readers (02, A12).
+pub const PLACES: usize = 8;
+
 // A place of the table: whose it is, 0 where it is free, and its reader.
 pub struct TablePlace {
     pub owner: u8,
@@ -24,7 +27,7 @@ pub struct TablePlace {
 
 // All places.
 pub struct ReaderTable {
-    pub places: [TablePlace; 8],
+    pub places: [TablePlace; PLACES],
 }
 
 // What an opening is answered: the place, or a refusal number.
@@ -52,8 +55,6 @@ pub struct TableRunFed {
     pub taken: usize,
 }
 
-const COUNT: usize = 8;
-
 const NOBODY: u8 = 0;
 
 impl ReaderTable {
@@ -62,7 +63,7 @@ impl ReaderTable {
         ensures { λ r. ⌜ r ≡ emptyTable ⌝ }
     {
         let place = TablePlace::free();
-        let places = [place; 8];
+        let places = [place; PLACES];
         ReaderTable { places }
     }
 
@@ -157,7 +158,7 @@ impl ReaderTable {
         ensures { λ r. ⌜ OpenGives (openPlace self technician profile) r ⌝ }
     {
         let place = self.lowest_free();
-        if place < COUNT {
+        if place < PLACES {
             let reader = Reader::fresh(profile);
             let table = self.with_reader(place, technician, reader);
             let answer = Opening::At(place);
@@ -171,7 +172,7 @@ impl ReaderTable {
         ensures { λ r. ⌜ r ≡ lowestFree (self .places) ⌝ }
     {
         let mut i: usize = 0;
-        while i < COUNT {
+        while i < PLACES {
             let p = self.places[i];
             if p.owner == NOBODY {
                 return i;
@@ -216,7 +217,7 @@ impl ReaderTable {
     fn place_at(self, place: usize) -> TablePlace
         ensures { λ r. ⌜ r ≡ placeAt self place ⌝ }
     {
-        if place < COUNT {
+        if place < PLACES {
             let p = self.places[place];
             return p;
         }
@@ -227,7 +228,7 @@ impl ReaderTable {
     fn put_place(mut self, place: usize, p: TablePlace) -> ReaderTable
         ensures { λ r. ⌜ r ≡ withPlace self place p ⌝ }
     {
-        if place < COUNT {
+        if place < PLACES {
             self.places[place] = p;
         }
         self

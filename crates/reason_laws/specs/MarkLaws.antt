@@ -18,6 +18,7 @@ use Rattle.line_code.specs.declared.LineKind.{LineKind}
 use Rattle.line_code.specs.declared.LineKind.the-variants.{NotLine, LineOf}
 use Rattle.stream.specs.Answers.{Outcome, nothing, isLine, turned, answerOf}
 use Rattle.stream.specs.Stream.{State, fresh, group, strip, Completed, not-yet, mark, markIf, detect, kindAt, beforeBy, answerAt, advance, step, run, outcomes}
+use Rattle.recovery.specs.Calls.{markNibbles}
 use Rattle.recovery.specs.Marks.{onto, isMark, completes}
 use Rattle.recovery.specs.MarksLaws.{strip-none, marks-are-places}
 use Rattle.recovery.specs.AnswerLaws.{mark-cases}
@@ -37,12 +38,12 @@ strip-short [] t h = absurd (not-suc-le-zero h)
 strip-short (q ∷ ps) [] h = refl
 strip-short (q ∷ ps) (n ∷ t) h = strip-none (eqb q n) _ (strip-short ps t (le-of-suc-le-suc h))
 
-detect-short : (t : List ℕ) → length t < 8 → detect t ≡ not-yet
+detect-short : (t : List ℕ) → length t < markNibbles → detect t ≡ not-yet
 detect-short [] h = refl
 detect-short (y ∷ []) h = refl
 detect-short (y ∷ x ∷ t) h = ap (markIf x y) (strip-short group t (omega arith))
 
-next-short : (u : List ℕ) → length u < 8 → nextMark u ≡ length u
+next-short : (u : List ℕ) → length u < markNibbles → nextMark u ≡ length u
 next-short [] h = refl
 next-short (n ∷ u) h =
     ap (λ (c : Next). cond (isCode c) 0 (suc (nextMark u))) (code-short (n ∷ u) h) ∙ ap suc (next-short u (omega arith))
@@ -51,14 +52,14 @@ drop-all : (u : List ℕ) → drop (length u) u ≡ []
 drop-all [] = refl
 drop-all (n ∷ u) = drop-all u
 
-text-short : (u : List ℕ) → length u < 8 → textIn u ≡ u
+text-short : (u : List ℕ) → length u < markNibbles → textIn u ≡ u
 text-short u h = ap (λ (n : ℕ). take n u) (next-short u h) ∙ take-length u
 
 code-none : codeAt [] ≡ Finish
 unfolding codeAt
 code-none = refl
 
-finish-short : (u : List ℕ) → length u < 8 → nextIn u ≡ Finish
+finish-short : (u : List ℕ) → length u < markNibbles → nextIn u ≡ Finish
 finish-short u h = ap (λ (n : ℕ). codeAt (drop n u)) (next-short u h) ∙ ap codeAt (drop-all u) ∙ code-none
 
 -- Eight nibbles: looking back from the last finds a mark exactly where looking on from the first does.
@@ -145,7 +146,7 @@ module _ (ends : Bool) (p : Profile) (before : Before) (c : ℕ) where
       ≡ answerBy ends p (Open before c) t (n₀ ∷ n₁ ∷ n₂ ∷ n₃ ∷ n₄ ∷ n₅ ∷ x ∷ w)
   seven-answer [] t n₀ n₁ n₂ n₃ n₄ n₅ x =
       let u : List ℕ = n₀ ∷ n₁ ∷ n₂ ∷ n₃ ∷ n₄ ∷ n₅ ∷ x ∷ [] in
-      let h : length u < 8 = omega arith in
+      let h : length u < markNibbles = omega arith in
       sym (ap₂ (λ (v : List ℕ) (d : Next). now (turned v t) d) (text-short u h) (finish-short u h))
   seven-answer (y ∷ w) t n₀ n₁ n₂ n₃ n₄ n₅ x =
       go (eight n₀ n₁ n₂ n₃ n₄ n₅ x y t w) refl refl (seven-answer w (n₀ ∷ t) n₁ n₂ n₃ n₄ n₅ x y)
@@ -178,7 +179,7 @@ module _ (ends : Bool) (p : Profile) (before : Before) (c : ℕ) where
           ∙ sym (ap (λ (k : ℕ). now (turned (take k (n₀ ∷ u)) t) (codeAt (drop k (n₀ ∷ u)))) (next-later n₀ u g))
 
   -- few nibbles bring no mark
-  few-nibbles : (t w v : List ℕ) → length t + length w < 8
+  few-nibbles : (t w v : List ℕ) → length t + length w < markNibbles
       → answerFrom ends p (stateWith (Open before c) t) (w ++ v) ≡ answerFrom ends p (stateWith (Open before c) (onto t w)) v
   few-nibbles t [] v h = refl
   few-nibbles t (n ∷ w) v h =
@@ -190,7 +191,7 @@ module _ (ends : Bool) (p : Profile) (before : Before) (c : ℕ) where
   few-answer : (x y : ℕ) (w : List ℕ) → length w < 6
       → answerFrom ends p (stateWith (Open before c) (onto (y ∷ x ∷ []) w)) [] ≡ answerBy ends p (Open before c) [] (x ∷ y ∷ w)
   few-answer x y w h =
-      let g : length (x ∷ y ∷ w) < 8 = omega arith in
+      let g : length (x ∷ y ∷ w) < markNibbles = omega arith in
       ap (λ (l : List ℕ). now l Finish) (onto-turned (y ∷ x ∷ []) w)
       ∙ sym (ap₂ (λ (v : List ℕ) (d : Next). now (turned v []) d) (text-short (x ∷ y ∷ w) g) (finish-short (x ∷ y ∷ w) g))
     where

@@ -113,8 +113,8 @@ gaps-up-to p s g (and-line {s = next} {ss = ss} h hs) i o =
     let ih : collected gapIn (take (i - (q + (suc (length seven) + length R))) C) ≡ rest
     = ap (λ (n : ℕ). collected gapIn (take (i - (q + n)) C)) (sym long) ∙ gaps-up-to p next h hs i q in
     ap (λ (k : List Outcome). collected gapIn (take (i - q) k)) (next-told p s next g h (stream ss))
-    ∙ front-collected gapIn seven R C (sentGap s) refl (rest-none next) (sent-gap s) i q ih (leb (q + 8) i) refl
-    ∙ map-test gapAsSent (leb (q + 8) i) s (closedBy i q (next ∷ ss))
+    ∙ front-collected gapIn seven R C (sentGap s) refl (rest-none next) (sent-gap s) i q ih (leb (q + markNibbles) i) refl
+    ∙ map-test gapAsSent (leb (q + markNibbles) i) s (closedBy i q (next ∷ ss))
 
 -- from a fresh reader, the nibbles of a clean stream up to the place i bring out the gaps of the lines that lie wholly before it with the
 -- mark after their gap
