@@ -11,7 +11,7 @@ use native.Mathlib.Omega.{arith}
 use borrow.Author.Count.{below-more}
 use borrow.Author.Tests.{eq-eqb, ne-eqb, le-leb, lt-ltb, le-ltb}
 use lib.Dec.{eqb, leb}
-use lib.ListN.{length, getD, set, drop, length-set}
+use lib.ListN.{length, getD, set, drop}
 use lib.Seq.{set-set, getD-set-same}
 use Rattle.profile.specs.declared.Profile.{Profile}
 use Rattle.profile.specs.Profile.{bodyLength, longest, gapStart}
@@ -32,7 +32,7 @@ use Rattle.reader_laws.specs.Passes.{passes-test, take-ok}
 use Rattle.reader_laws.specs.Bodies.{length-body}
 use Rattle.run_ahead.specs.declared.Reached.{Reached}
 use Rattle.capture_bytes.specs.EndToEnd.{lent-leads}
-use Rattle.capture_bytes.specs.Packed.{byteFrom, windowFrom, packedInto, Begun, NoneBegins, AllNull, Quiet, LeadsOn, Skips}
+use Rattle.capture_bytes.specs.Packed.{byteFrom, windowFrom, packedInto, NoneBegun, NoneBegins, AllNull, Quiet, LeadsOn, Skips}
 
 -- A number is below another, or not.
 
@@ -192,10 +192,6 @@ module _ (s : List ℕ) (h : Head) (B : List ℕ) (at : ℕ) where
 
 -- What is kept then: nothing changes where a stray nibble is noted already, or the one that leaves is F.
 
-or-true : (b : Bool) → (b || true) ≡ true
-or-true true = refl
-or-true false = refl
-
 or-false : (b : Bool) → (b || false) ≡ b
 or-false true = refl
 or-false false = refl
@@ -208,7 +204,11 @@ kept-late : (p : Profile) (k v : ℕ) (t : Kept) → bodyPlace ≤ k → keptAt 
 unfolding keptAt byteAt strayAt
 kept-late p k v t l =
     let g = gap-start-small p in
-    simp (ne-eqb k 2 (λ (e : k ≡ 2). omega arith), ne-eqb k 3 (λ (e : k ≡ 3). omega arith), ne-eqb k 4 (λ (e : k ≡ 4). omega arith), ne-eqb k 5 (λ (e : k ≡ 5). omega arith), le-leb (gapStart p) k (omega arith))
+    let two = ne-eqb k 2 (λ (e : k ≡ 2). omega arith) in
+    let three = ne-eqb k 3 (λ (e : k ≡ 3). omega arith) in
+    let four = ne-eqb k 4 (λ (e : k ≡ 4). omega arith) in
+    let five = ne-eqb k 5 (λ (e : k ≡ 5). omega arith) in
+    simp (two, three, four, five, le-leb (gapStart p) k (omega arith))
 
 kept-still : (p : Profile) (k v : ℕ) (t : Kept) → bodyPlace ≤ k → (t .stray ≡ true) ⊎ (v ≡ 15) → keptAt p k v t ≡ t
 kept-still p k v t l (inl e) = kept-late p k v t l ∙ ap (strayed t) (ap (λ (b : Bool). b || not (eqb v 15)) e ∙ sym e)
@@ -219,7 +219,8 @@ head p m c w t = record { profile = p; at = m; count = c; window = w; kept = t }
 
 late-body : (h : Head) (B : List ℕ) → 726 ≤ h .count → leaveBody h B ≡ B
 unfolding leaveBody bodyAt
-late-body h B l = simp (le-leb 8 (h .count) (omega arith), le-leb bodyPlace (h .count - 8) (omega arith), le-ltb ((h .count - 8 - bodyPlace) / 2) longest (omega arith))
+late-body h B l =
+    simp (le-leb 8 (h .count) (omega arith), le-leb bodyPlace (h .count - 8) (omega arith), le-ltb ((h .count - 8 - bodyPlace) / 2) longest (omega arith))
 
 -- within the body two nibbles are a byte
 body-high : (j u : ℕ) (B : List ℕ) → j < longest → bodyAt (6 + 2 * j) u B ≡ set B j (16 * u)
@@ -256,8 +257,10 @@ bump-stop c l = simp (le-ltb c countStop l)
 bump-held : (c m : ℕ) → bump (min countStop (c + m)) ≡ min countStop (c + suc m)
 bump-held c m =
     ⊎-elim
-    (λ (l : c + m < countStop). bump-one (min countStop (c + m)) (omega arith) ∙ (let z : min countStop (c + m) + 1 ≡ min countStop (c + suc m) = omega arith in z))
-    (λ (l : countStop ≤ c + m). bump-stop (min countStop (c + m)) (omega arith) ∙ (let z : min countStop (c + m) ≡ min countStop (c + suc m) = omega arith in z))
+    (λ (l : c + m < countStop). bump-one (min countStop (c + m)) (omega arith)
+    ∙ (let z : min countStop (c + m) + 1 ≡ min countStop (c + suc m) = omega arith in z))
+    (λ (l : countStop ≤ c + m). bump-stop (min countStop (c + m)) (omega arith)
+    ∙ (let z : min countStop (c + m) ≡ min countStop (c + suc m) = omega arith in z))
     (lt-or-ge (c + m) countStop)
 
 -- Many nibbles.
@@ -345,6 +348,10 @@ module _ (p : Profile) (m : Mark) (t : Kept) (s : List ℕ) (low : (x : ℕ) →
       (e (i + 2 * n + 1) (omega arith) (omega arith)) (e (i + 2 * n + 1 + 1) (omega arith) (omega arith))
       (f (i + 2 * n) (omega arith) (omega arith)) (f (i + 2 * n + 1) (omega arith) (omega arith)) (omega arith) (omega arith) (omega arith))
 
+-- a reader at another count, with another window
+abbrev moved : Head → ℕ → ℕ → Head
+moved h c w = head (h .profile) (h .at) c w (h .kept)
+
 -- of a reader that is quiet there
 module _ {h : Head} (bytes : List ℕ) {at n : ℕ} (known : (i : ℕ) → getD bytes i 0 < 256) (q : Quiet h (nibbles bytes) at n) (B : List ℕ) where
   no-mark-on : (x : ℕ) → at - 8 < x → x ≤ at - 8 + 2 * n → showsMark (windowFrom (nibbles bytes) x) ≡ false
@@ -354,38 +361,42 @@ module _ {h : Head} (bytes : List ℕ) {at n : ℕ} (known : (i : ℕ) → getD 
   still-on x l k = q .still x (omega (arith, q .behind)) (omega (arith, q .behind))
 
   -- as the code makes it
-  shows : {c c′ : ℕ} (c″ w : ℕ) {B′ B″ : List ℕ} → c″ ≡ c′ → w ≡ windowFrom (nibbles bytes) (2 * (at / 2 - 4 + n) + at % 2) → B″ ≡ B′
-      → LeadsOn (nibbles bytes) (head (h .profile) (h .at) c (windowFrom (nibbles bytes) (at - 8)) (h .kept)) B at (head (h .profile) (h .at) c′ (windowFrom (nibbles bytes) (at - 8 + 2 * n)) (h .kept)) B′ (at + 2 * n)
-      → LeadsOn (nibbles bytes) (head (h .profile) (h .at) c (h .window) (h .kept)) B at (head (h .profile) (h .at) c″ w (h .kept)) B″ (at + 2 * n)
-  shows {c} {c′} c″ w {B′} {B″} e f g l =
-      subst (λ (x : ℕ). LeadsOn (nibbles bytes) (head (h .profile) (h .at) c x (h .kept)) B at (head (h .profile) (h .at) c″ w (h .kept)) B″ (at + 2 * n)) (sym (q .shown))
-      (subst (λ (x : ℕ). LeadsOn (nibbles bytes) (head (h .profile) (h .at) c (windowFrom (nibbles bytes) (at - 8)) (h .kept)) B at (head (h .profile) (h .at) x w (h .kept)) B″ (at + 2 * n)) (sym e)
-      (subst (λ (x : ℕ). LeadsOn (nibbles bytes) (head (h .profile) (h .at) c (windowFrom (nibbles bytes) (at - 8)) (h .kept)) B at (head (h .profile) (h .at) c′ x (h .kept)) B″ (at + 2 * n))
-      (sym (f ∙ ap (windowFrom (nibbles bytes)) (let z : 2 * (at / 2 - 4 + n) + at % 2 ≡ at - 8 + 2 * n = omega (arith, q .behind) in z)))
-      (subst (λ (x : List ℕ). LeadsOn (nibbles bytes) (head (h .profile) (h .at) c (windowFrom (nibbles bytes) (at - 8)) (h .kept)) B at (head (h .profile) (h .at) c′ (windowFrom (nibbles bytes) (at - 8 + 2 * n)) (h .kept)) x (at + 2 * n)) (sym g) l)))
+  as-made : {c c′ : ℕ} (c″ w : ℕ) {B′ B″ : List ℕ} → c″ ≡ c′ → w ≡ windowFrom (nibbles bytes) (2 * (at / 2 - 4 + n) + at % 2) → B″ ≡ B′
+      → LeadsOn (nibbles bytes) (moved h c (windowFrom (nibbles bytes) (at - 8))) B at (moved h c′ (windowFrom (nibbles bytes) (at - 8 + 2 * n))) B′ (at + 2 * n)
+      → LeadsOn (nibbles bytes) (moved h c (h .window)) B at (moved h c″ w) B″ (at + 2 * n)
+  as-made {c} {c′} c″ w {B′} {B″} e f g l =
+      let first = windowFrom (nibbles bytes) (at - 8) in
+      let last : windowFrom (nibbles bytes) (at - 8 + 2 * n) ≡ w =
+      sym (f ∙ ap (windowFrom (nibbles bytes)) (let z : 2 * (at / 2 - 4 + n) + at % 2 ≡ at - 8 + 2 * n = omega (arith, q .behind) in z)) in
+      subst (λ (x : ℕ). LeadsOn (nibbles bytes) (moved h c x) B at (moved h c″ w) B″ (at + 2 * n)) (sym (q .shown))
+      (subst (λ (x : ℕ). LeadsOn (nibbles bytes) (moved h c first) B at (moved h x w) B″ (at + 2 * n)) (sym e)
+      (subst (λ (x : ℕ). LeadsOn (nibbles bytes) (moved h c first) B at (moved h c′ x) B″ (at + 2 * n)) last
+      (subst (λ (x : List ℕ). LeadsOn (nibbles bytes) (moved h c first) B at (moved h c′ (windowFrom (nibbles bytes) (at - 8 + 2 * n))) x (at + 2 * n)) (sym g) l)))
 
   pub past-quiet : (c′ w : ℕ) → 726 ≤ h .count → h .count ≤ countStop → c′ ≡ min countStop (h .count + 2 * n)
-      → w ≡ windowFrom (nibbles bytes) (2 * (at / 2 - 4 + n) + at % 2) → LeadsOn (nibbles bytes) h B at (head (h .profile) (h .at) c′ w (h .kept)) B (at + 2 * n)
+      → w ≡ windowFrom (nibbles bytes) (2 * (at / 2 - 4 + n) + at % 2) → LeadsOn (nibbles bytes) h B at (moved h c′ w) B (at + 2 * n)
   past-quiet c′ w l k e f =
-      shows c′ w e f refl
-      (past-on (h .profile) (h .at) (h .kept) (nibbles bytes) (nibble-small bytes known) B (2 * n) (h .count) (at - 8) at l k (omega (arith, q .behind)) (q .up-to) no-mark-on still-on)
+      as-made c′ w e f refl
+      (past-on (h .profile) (h .at) (h .kept) (nibbles bytes) (nibble-small bytes known) B (2 * n) (h .count) (at - 8) at l k
+      (omega (arith, q .behind)) (q .up-to) no-mark-on still-on)
 
   pub body-quiet : (j c′ w : ℕ) {B′ : List ℕ} → h .count ≡ 14 + 2 * j → j + n ≤ longest → longest ≤ length B → c′ ≡ 14 + 2 * (j + n)
       → w ≡ windowFrom (nibbles bytes) (2 * (at / 2 - 4 + n) + at % 2) → B′ ≡ packedInto B j (nibbles bytes) (2 * (at / 2 - 4) + at % 2) n
-      → LeadsOn (nibbles bytes) h B at (head (h .profile) (h .at) c′ w (h .kept)) B′ (at + 2 * n)
+      → LeadsOn (nibbles bytes) h B at (moved h c′ w) B′ (at + 2 * n)
   body-quiet j c′ w {B′} e l k f g b =
-      subst (λ (c : ℕ). LeadsOn (nibbles bytes) (head (h .profile) (h .at) c (h .window) (h .kept)) B at (head (h .profile) (h .at) c′ w (h .kept)) B′ (at + 2 * n)) (sym e)
-      (shows c′ w f g
+      subst (λ (c : ℕ). LeadsOn (nibbles bytes) (moved h c (h .window)) B at (moved h c′ w) B′ (at + 2 * n)) (sym e)
+      (as-made c′ w f g
       (b ∙ ap (λ (x : ℕ). packedInto B j (nibbles bytes) x n) (let z : 2 * (at / 2 - 4) + at % 2 ≡ at - 8 = omega (arith, q .behind) in z))
-      (body-on (h .profile) (h .at) (h .kept) (nibbles bytes) (nibble-small bytes known) B n j (at - 8) at l k (omega (arith, q .behind)) (q .up-to) no-mark-on still-on))
+      (body-on (h .profile) (h .at) (h .kept) (nibbles bytes) (nibble-small bytes known) B n j (at - 8) at l k
+      (omega (arith, q .behind)) (q .up-to) no-mark-on still-on))
 
 -- What is told of them beforehand.
 
 pub none-begins : (bs : List ℕ) (i : ℕ) → NoneBegins bs i 0
 none-begins bs i = record { each = λ k l. absurd (omega arith) }
 
-pub begins-more : (bs : List ℕ) (i n : ℕ) → NoneBegins bs i n → Begun (getD bs (i + n) 0) (getD bs (i + n + 2) 0) → NoneBegins bs i (n + 1)
-begins-more bs i n a b = record { each = below-more (λ (k : ℕ). Begun (getD bs (i + k) 0) (getD bs (i + k + 2) 0)) n (a .each) b }
+pub begins-more : (bs : List ℕ) (i n : ℕ) → NoneBegins bs i n → NoneBegun (getD bs (i + n) 0) (getD bs (i + n + 2) 0) → NoneBegins bs i (n + 1)
+begins-more bs i n a b = record { each = below-more (λ (k : ℕ). NoneBegun (getD bs (i + k) 0) (getD bs (i + k + 2) 0)) n (a .each) b }
 
 pub none-null-yet : (bs : List ℕ) (i : ℕ) → AllNull bs i 0
 none-null-yet bs i = record { each = λ k l. absurd (omega arith) }
@@ -397,7 +408,7 @@ pub begins-on : {bs : List ℕ} {i n m : ℕ} (i′ : ℕ) → NoneBegins bs i n
 begins-on {bs} {i} {n} {m} i′ a b e =
     record {
       each = λ k l. ⊎-elim (λ (d : k < n). a .each k d)
-          (λ (d : n ≤ k). subst (λ (x : ℕ). Begun (getD bs x 0) (getD bs (x + 2) 0)) (let z : i′ + (k - n) ≡ i + k = omega arith in z) (b .each (k - n) (omega arith)))
+          (λ (d : n ≤ k). subst (λ (x : ℕ). NoneBegun (getD bs x 0) (getD bs (x + 2) 0)) (let z : i′ + (k - n) ≡ i + k = omega arith in z) (b .each (k - n) (omega arith)))
           (lt-or-ge k n);
     }
 
@@ -445,7 +456,7 @@ module _ (bs : List ℕ) (known : (i : ℕ) → getD bs i 0 < 256) where
       (lt-or-ge (x % 2) 1)
 
   -- so where none begins there is none
-  none-there : (x q : ℕ) → q ≡ (x + 1) / 2 → Begun (getD bs q 0) (getD bs (q + 2) 0) → showsMark (windowFrom (nibbles bs) x) ≡ false
+  none-there : (x q : ℕ) → q ≡ (x + 1) / 2 → NoneBegun (getD bs q 0) (getD bs (q + 2) 0) → showsMark (windowFrom (nibbles bs) x) ≡ false
   unfolding showsMark
   none-there x q e b =
       ne-eqb (windowFrom (nibbles bs) x / 256) groupNumber
@@ -472,18 +483,18 @@ module _ (bs : List ℕ) (known : (i : ℕ) → getD bs i 0 < 256) where
     ends = omega (arith, nibbles-length bs)
 
     -- where a stray nibble is noted, and no mark begins at the byte three before the place's own, nor at those after it
-    pub quiet-far : h .kept .stray ≡ true → Begun (getD bs (at / 2 - 3) 0) (getD bs (at / 2 - 1) 0) → NoneBegins bs (at / 2 + at % 2 - 3) n → Quiet h (nibbles bs) at n
-    quiet-far stray one many =
-        record {
-          behind = behind;
-          up-to = ends;
-          shown = shown-there;
-          no-mark = λ x l k. ⊎-elim
-              (λ (d : (x + 1) / 2 < at / 2 + at % 2 - 3). none-there x (at / 2 - 3) (omega arith) (subst (λ (y : ℕ). Begun (getD bs (at / 2 - 3) 0) (getD bs y 0)) (let z : at / 2 - 1 ≡ at / 2 - 3 + 2 = omega arith in z) one))
-              (λ (d : at / 2 + at % 2 - 3 ≤ (x + 1) / 2). none-there x (at / 2 + at % 2 - 3 + ((x + 1) / 2 - (at / 2 + at % 2 - 3))) (omega arith) (many .each ((x + 1) / 2 - (at / 2 + at % 2 - 3)) (omega arith)))
-              (lt-or-ge ((x + 1) / 2) (at / 2 + at % 2 - 3));
-          still = λ x l k. inl stray;
-        }
+    pub quiet-far : h .kept .stray ≡ true → NoneBegun (getD bs (at / 2 - 3) 0) (getD bs (at / 2 - 1) 0) → NoneBegins bs (at / 2 + at % 2 - 3) n
+        → Quiet h (nibbles bs) at n
+    quiet-far stray one many = record { behind = behind; up-to = ends; shown = shown-there; no-mark = none; still = λ x l k. inl stray }
+      where
+        none : (x : ℕ) → at < x + 8 → x + 8 ≤ at + 2 * n → isMark (windowFrom (nibbles bs) x) ≡ false
+        none x l k =
+            ⊎-elim
+            (λ (d : (x + 1) / 2 < at / 2 + at % 2 - 3). none-there x (at / 2 - 3) (omega arith)
+            (subst (λ (y : ℕ). NoneBegun (getD bs (at / 2 - 3) 0) (getD bs y 0)) (let z : at / 2 - 1 ≡ at / 2 - 3 + 2 = omega arith in z) one))
+            (λ (d : at / 2 + at % 2 - 3 ≤ (x + 1) / 2). none-there x (at / 2 + at % 2 - 3 + ((x + 1) / 2 - (at / 2 + at % 2 - 3))) (omega arith)
+            (many .each ((x + 1) / 2 - (at / 2 + at % 2 - 3)) (omega arith)))
+            (lt-or-ge ((x + 1) / 2) (at / 2 + at % 2 - 3))
 
     -- where the five bytes up to the place's own are FF, and those after it
     pub quiet-null : AllNull bs (at / 2 - 4) 5 → AllNull bs (at / 2 + at % 2) n → Quiet h (nibbles bs) at n
@@ -499,8 +510,10 @@ module _ (bs : List ℕ) (known : (i : ℕ) → getD bs i 0 < 256) where
         all : (x : ℕ) → at ≤ x + 8 → x < at + 2 * n → getD (nibbles bs) x 0 ≡ 15
         all x l k =
             ⊎-elim
-            (λ (d : x / 2 < at / 2 + 1). null-nibble x (at / 2 - 4 + (x / 2 - (at / 2 - 4))) (omega arith) (some .each (x / 2 - (at / 2 - 4)) (omega arith)))
-            (λ (d : at / 2 + 1 ≤ x / 2). null-nibble x (at / 2 + at % 2 + (x / 2 - (at / 2 + at % 2))) (omega arith) (many .each (x / 2 - (at / 2 + at % 2)) (omega arith)))
+            (λ (d : x / 2 < at / 2 + 1). null-nibble x (at / 2 - 4 + (x / 2 - (at / 2 - 4))) (omega arith)
+            (some .each (x / 2 - (at / 2 - 4)) (omega arith)))
+            (λ (d : at / 2 + 1 ≤ x / 2). null-nibble x (at / 2 + at % 2 + (x / 2 - (at / 2 + at % 2))) (omega arith)
+            (many .each (x / 2 - (at / 2 + at % 2)) (omega arith)))
             (lt-or-ge (x / 2) (at / 2 + 1))
 
 -- a nibble before them
@@ -532,7 +545,9 @@ pub skips-led : {h : Head} {body : List ℕ} (bytes : List ℕ) {at room : ℕ} 
     → Ok h → length body ≡ longest → bodyLength (h .profile) ≤ room → Skips h body bytes at room r body′
 skips-led {h} {body} bytes {at} {room} {r} {body′} a ok e roomy =
     record {
-      same = lent-leads (nibbles bytes) h (r .head) body body′ at (r .at) room e (a .same-length ∙ e) (passes-test h (ok .test)) (passes-test (r .head) (a .sound ok .test)) roomy (a .same-profile) (a .from-on) (a .same);
+      same =
+          lent-leads (nibbles bytes) h (r .head) body body′ at (r .at) room e (a .same-length ∙ e) (passes-test h (ok .test))
+          (passes-test (r .head) (a .sound ok .test)) roomy (a .same-profile) (a .from-on) (a .same);
       same-mark = a .same-mark;
       same-profile = a .same-profile;
       same-length = a .same-length;

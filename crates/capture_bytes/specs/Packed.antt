@@ -38,12 +38,12 @@ packedInto B j s i (suc n) = set (packedInto B j s i n) (j + n) (byteFrom s (i +
 -- A mark's F F F F 0 0 has a byte FF at either phase, and a byte below 16 two further on: FF FF 00, or xF FF F0 0x.
 
 -- none begins at a byte, by that and the one two further on
-abbrev pub Begun : ℕ → ℕ → Type 0
-Begun first third = (first < 255) ⊎ (16 ≤ third)
+abbrev pub NoneBegun : ℕ → ℕ → Type 0
+NoneBegun first third = (first < 255) ⊎ (16 ≤ third)
 
 -- none begins at n bytes from the place i on
 pub record NoneBegins (bs : List ℕ) (i n : ℕ) : Type 0 where
-  pub each : (k : ℕ) → k < n → Begun (getD bs (i + k) 0) (getD bs (i + k + 2) 0)
+  pub each : (k : ℕ) → k < n → NoneBegun (getD bs (i + k) 0) (getD bs (i + k + 2) 0)
 
 -- n bytes from the place i on are FF
 pub record AllNull (bs : List ℕ) (i n : ℕ) : Type 0 where

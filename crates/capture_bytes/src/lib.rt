@@ -3,6 +3,11 @@
 // In: a reader's head with its body lent, bytes, a place among their nibbles, and a lent line buffer. Out: what a run over the nibbles from
 // that place on gives (paper 02, A5). Refused as a run refuses, 11 and 12, before anything is taken; never 10. Cost: linear in the nibbles
 // taken; some bytes past the answer are taken apart as well, no more than a portion's.
+//
+// Bytes are taken apart portion by portion, and between portions they are taken in blocks as they are, where no mark can end in them: a mark's
+// F F F F 0 0 has, at either phase, a byte FF and a byte below 16 two further on. There each nibble only leaves the window and goes to its place: a
+// block is put into the body, its bytes shifted by a nibble at an odd phase, or past the body passed over. With it `list` takes about half the time on
+// clean lines, and an eighth on a bus at rest and on noise.
 ghost use mathlib.Core.Path.{_≡_};
 ghost use mathlib.Core.Bool.{true, _&&_, not};
 ghost use mathlib.Core.List.{List};
@@ -17,8 +22,9 @@ ghost use Rattle.run.specs.Run.{lentRunOf};
 ghost use Rattle.run.specs.Gives.{LentRunGives};
 ghost use Rattle.stream.specs.Answers.{isAnswer};
 ghost use Rattle.stream.specs.Written.{nibbles};
-ghost use Rattle.capture_bytes.specs.Packed.{byteFrom, windowFrom, packedInto, Begun, NoneBegins, AllNull, Quiet, LeadsOn, Skips};
+ghost use Rattle.capture_bytes.specs.Packed.{byteFrom, windowFrom, packedInto, NoneBegun, NoneBegins, AllNull, Quiet, LeadsOn, Skips};
 ghost use Rattle.capture_bytes.specs.Unpacked.{fitting, unpacked, portion, runFrom};
+use period::Nibbles;
 use profile::Profile;
 use reader_head::Head;
 use run::RunStepped;
@@ -117,6 +123,7 @@ fn skip_past(h: Head, bytes: &[u8], at: usize) -> Reached
     let kept = h.kept;
     let count = lesser(COUNT_STOP, h.count as usize + 2 * n) as u32;
     let window = word(bytes, at / 2 - 4 + n, at % 2);
+    let next = at + 2 * n;
     let head = Head {
         profile,
         at: mark,
@@ -124,17 +131,14 @@ fn skip_past(h: Head, bytes: &[u8], at: usize) -> Reached
         window,
         kept,
     };
-    Reached {
-        head,
-        at: at + 2 * n,
-    }
+    Reached { head, at: next }
 }
 
 // How many bytes past a body are taken at once.
 const MOST: usize = 32768;
 
 // Where the count of a text's nibbles stops.
-const COUNT_STOP: usize = 65543;
+const COUNT_STOP: usize = Nibbles::MOST as usize + reader_head::WINDOW as usize;
 
 // Within a text's body, at an even count: the bytes that leave the window go into the body as they are.
 fn skip_within(h: Head, body: &mut [u8], bytes: &[u8], at: usize) -> Reached
@@ -153,6 +157,7 @@ fn skip_within(h: Head, body: &mut [u8], bytes: &[u8], at: usize) -> Reached
     let kept = h.kept;
     let count = BODY + 2 * (place + n) as u32;
     let window = word(bytes, first + n, at % 2);
+    let next = at + 2 * n;
     let head = Head {
         profile,
         at: mark,
@@ -160,10 +165,7 @@ fn skip_within(h: Head, body: &mut [u8], bytes: &[u8], at: usize) -> Reached
         window,
         kept,
     };
-    Reached {
-        head,
-        at: at + 2 * n,
-    }
+    Reached { head, at: next }
 }
 
 // How many bytes from a place on, in blocks and up to so many, change nothing but the window, the count and the body.
@@ -184,7 +186,7 @@ fn quiet_bytes(h: Head, bytes: &[u8], at: usize, most: usize) -> usize
     let most = lesser(bytes.len() - i - 1, most);
     let kept = h.kept;
     if kept.stray {
-        if 0 < begun(bytes[i - 3], bytes[i - 1]) {
+        if 0 < may_begin(bytes[i - 3], bytes[i - 1]) {
             return 0;
         }
         return far_bytes(bytes, i + odd - 3, most);
@@ -212,7 +214,8 @@ fn far_bytes(bytes: &[u8], i: usize, most: usize) -> usize
     n
 }
 
-// The bytes of a block, while there are so many, and then. A loop over as many as 64 is compiled to vectors, one over 16 alone is not.
+// The bytes of a block: many, and fewer where those are not such or not so many. That the number varies is why the loops over them are compiled to
+// vectors: over 16 at a time they were three times as slow.
 const WIDE: usize = 64;
 
 const NARROW: usize = 16;
@@ -236,15 +239,15 @@ fn beginnings(bytes: &[u8], i: usize, n: usize) -> u8
     let mut count: u8 = 0;
     let mut k: usize = 0;
     while k < n {
-        count += begun(bytes[i + k], bytes[i + k + 2]);
+        count += may_begin(bytes[i + k], bytes[i + k + 2]);
         k += 1;
     }
     count
 }
 
 // 1 where a mark may begin at a byte, by that and the one two further on.
-fn begun(first: u8, third: u8) -> u8
-    ensures { λ r. ⌜ (r ≤ 1) × (r ≡ 0 → Begun first third) ⌝ }
+fn may_begin(first: u8, third: u8) -> u8
+    ensures { λ r. ⌜ (r ≤ 1) × (r ≡ 0 → NoneBegun first third) ⌝ }
 {
     if first == 255 {
         if third < 16 {

@@ -8,7 +8,7 @@ use native.Mathlib.Numerals.{add-one}
 use native.Mathlib.Omega.{arith}
 use borrow.Author.Tests.{lt-ltb, le-ltb, ne-eqb}
 use lib.Dec.{eqb}
-use lib.ListN.{length, getD, set, length-set}
+use lib.ListN.{length, getD, set, drop, length-set}
 use lib.Seq.{getD-set-same, getD-set-other}
 use Rattle.profile.specs.declared.Profile.{Profile}
 use Rattle.profile.specs.Profile.{longest}
@@ -17,7 +17,7 @@ use Rattle.mark_text.specs.declared.Kept.{Kept}
 use Rattle.reader_head.specs.declared.Head.{Head}
 use Rattle.reader_head.specs.Head.{countStop, bump}
 use Rattle.reader_head.specs.HeadLaws.{bump-more}
-use Rattle.run_ahead.specs.Ahead.{isNear}
+use Rattle.run_ahead.specs.Ahead.{isNear, takePairs}
 use Rattle.run_ahead.specs.Parts.{bytePlace, slideByte, strayAfter, strayed, Leads}
 use Rattle.run_ahead.specs.Blocks.{AllNibbles, Apart, Far, FarOn, windowFrom, byteFrom, packedInto, laterCount}
 use Rattle.run_ahead.proofs.Pairs.{head, Stands, Turn, lt-or-ge, bump-one, leads-in, leads-past, leads-here, leads-on}
@@ -218,107 +218,116 @@ stray-same {stray} {s} {k} f = go (f .same)
         noted (inr l) = simp (le-ltb (byteFrom s k) 255 l)
     go (inr q) = let a = q k (omega arith) (omega arith) in let b = q (k + 1) (omega arith) (omega arith) in simp (le-ltb (byteFrom s k) 255 (omega arith))
 
+-- the same place, and the place before, by other names
+leads-as : (s : List ℕ) (h : Head) (B : List ℕ) (i : ℕ) (h′ : Head) (B′ : List ℕ) (i′ : ℕ) (h″ : Head) (i″ : ℕ) → Leads s h B i h′ B′ i′ → h′ ≡ h″ → i′ ≡ i″
+    → Leads s h B i h″ B′ i″
+unfolding Leads
+leads-as s h B i h′ B′ i′ h″ i″ e f g = e ∙ ap₂ (λ (x : Head) (y : ℕ). takePairs x B′ (drop y s) y) f g
+
+leads-from : (s : List ℕ) (h : Head) (B : List ℕ) (i : ℕ) (h′ : Head) (B′ : List ℕ) (i′ : ℕ) (h₀ : Head) (i₀ : ℕ) → h₀ ≡ h → i₀ ≡ i → Leads s h₀ B i₀ h′ B′ i′
+    → Leads s h B i h′ B′ i′
+unfolding Leads
+leads-from s h B i h′ B′ i′ h₀ i₀ f g e = sym (ap₂ (λ (x : Head) (y : ℕ). takePairs x B (drop y s) y) f g) ∙ e
+
 module _ (p : Profile) (m : Mark) (t : Kept) (s : List ℕ) where
   -- a head whose window is the run's own
-  abbrev along : ℕ → ℕ → Head
+  abbrev pub along : ℕ → ℕ → Head
   along c k = head p m c (windowFrom s k) t
 
-  -- two nibbles behind it, by what is kept
-  slid : (k : ℕ) → Far (t .stray) s k 2 → slideByte (windowFrom s k) (getD s (k + 8) 0) (getD s (k + 8 + 1) 0) ≡ windowFrom s (k + 2)
-  slid k f =
-      ap (slideByte (windowFrom s k) (getD s (k + 8) 0)) (at-same s (k + 8 + 1) (k + 9) (omega arith)) ∙ window-on s k (λ x a b. f .small x a (omega arith))
+  -- two nibbles behind it, in which no mark can end
+  module _ (k : ℕ) (f : Far (t .stray) s k 2) where
+    eight : AllNibbles s k 8
+    eight x a b = f .small x a (omega arith)
 
-  here-far : (k : ℕ) → Far (t .stray) s k 2 → k + 10 ≤ length s → Turn s (k + 8) (length s) (windowFrom s k) (k + 8)
-  here-far k f l =
-      record {
-        stands = record { small = window-small s k (λ x a b. f .small x a (omega arith)); from-on = omega arith; up-to = omega arith; within = omega arith };
-        fits = omega arith;
-        far = window-apart s k (λ x a b. f .small x a (omega arith)) (f .apart k (omega arith) (omega arith));
-        high-small = f .small (k + 8) (omega arith) (omega arith);
-        low-small = f .small (k + 8 + 1) (omega arith) (omega arith);
-      }
+    slid : slideByte (windowFrom s k) (getD s (k + 8) 0) (getD s (k + 8 + 1) 0) ≡ windowFrom s (k + 2)
+    slid = ap (slideByte (windowFrom s k) (getD s (k + 8) 0)) (at-same s (k + 8 + 1) (k + 9) (omega arith)) ∙ window-on s k eight
 
-  top-far : (k : ℕ) → Far (t .stray) s k 2 → windowFrom s k / bytePlace ≡ byteFrom s k
-  top-far k f = window-top s k (λ x a b. f .small x a (omega arith))
+    turn-far : k + 10 ≤ length s → Turn s (k + 8) (length s) (windowFrom s k) (k + 8)
+    turn-far l =
+        record {
+          stands = record { small = window-small s k eight; from-on = omega arith; up-to = omega arith; within = omega arith };
+          fits = omega arith;
+          far = window-apart s k eight (f .apart k (omega arith) (omega arith));
+          high-small = f .small (k + 8) (omega arith) (omega arith);
+          low-small = f .small (k + 8 + 1) (omega arith) (omega arith);
+        }
 
-  kept-far : (k : ℕ) → Far (t .stray) s k 2 → strayed t (strayAfter (t .stray) (windowFrom s k / bytePlace)) ≡ t
-  kept-far k f = ap (λ (b : ℕ). strayed t (strayAfter (t .stray) b)) (top-far k f) ∙ ap (strayed t) (stray-same f)
+    top-far : windowFrom s k / bytePlace ≡ byteFrom s k
+    top-far = window-top s k eight
 
-  one-in : (B : List ℕ) (j k : ℕ) → Far (t .stray) s k 2 → k + 10 ≤ length s → j < longest → longest ≤ length B
-      → Leads s (along (14 + 2 * j) k) B (k + 8) (along (14 + 2 * (j + 1)) (k + 2)) (set B j (byteFrom s k)) (k + 8 + 2)
-  one-in B j k f l a b =
-      subst (λ (x : ℕ). Leads s (along (14 + 2 * j) k) B (k + 8) (head p m (14 + 2 * (j + 1)) x t) (set B j (byteFrom s k)) (k + 8 + 2)) (slid k f)
-      (subst (λ (x : Kept). Leads s (along (14 + 2 * j) k) B (k + 8) (head p m (14 + 2 * (j + 1)) (slideByte (windowFrom s k) (getD s (k + 8) 0) (getD s (k + 8 + 1) 0)) x) (set B j (byteFrom s k)) (k + 8 + 2)) (kept-far k f)
-      (leads-in p m (14 + 2 * j) t B (here-far k f l) j (byteFrom s k) refl a b (sym (top-far k f))))
+    kept-far : strayed t (strayAfter (t .stray) (windowFrom s k / bytePlace)) ≡ t
+    kept-far = ap (λ (b : ℕ). strayed t (strayAfter (t .stray) b)) top-far ∙ ap (strayed t) (stray-same f)
 
-  one-past : (B : List ℕ) (c k : ℕ) → Far (t .stray) s k 2 → k + 10 ≤ length s → 726 ≤ c
-      → Leads s (along c k) B (k + 8) (along (bump (bump c)) (k + 2)) B (k + 8 + 2)
-  one-past B c k f l a =
-      subst (λ (x : ℕ). Leads s (along c k) B (k + 8) (head p m (bump (bump c)) x t) B (k + 8 + 2)) (slid k f)
-      (subst (λ (x : Kept). Leads s (along c k) B (k + 8) (head p m (bump (bump c)) (slideByte (windowFrom s k) (getD s (k + 8) 0) (getD s (k + 8 + 1) 0)) x) B (k + 8 + 2)) (kept-far k f)
-      (leads-past p m c t B (here-far k f l) a))
+    head-far : (c : ℕ)
+        → head p m c (slideByte (windowFrom s k) (getD s (k + 8) 0) (getD s (k + 8 + 1) 0)) (strayed t (strayAfter (t .stray) (windowFrom s k / bytePlace))) ≡ along c (k + 2)
+    head-far c = ap₂ (λ (w : ℕ) (x : Kept). head p m c w x) slid kept-far
 
-  many-in : (n : ℕ) (B : List ℕ) (j k : ℕ) → Far (t .stray) s k (2 * n) → k + 2 * n + 8 ≤ length s → j + n ≤ longest → longest ≤ length B
-      → Leads s (along (14 + 2 * j) k) B (k + 8) (along (14 + 2 * (j + n)) (k + 2 * n)) (packedInto B j s k n) (k + 2 * n + 8)
-  many-in zero B j k f l a b =
-      subst (λ (x : ℕ). Leads s (along (14 + 2 * j) k) B (k + 8) (along (14 + 2 * x) (k + 2 * 0)) B (k + 2 * 0 + 8)) (let z : j ≡ j + 0 = omega arith in z)
-      (subst (λ (x : ℕ). Leads s (along (14 + 2 * j) k) B (k + 8) (along (14 + 2 * j) x) B (x + 8)) (let z : k ≡ k + 2 * 0 = omega arith in z) (leads-here s (along (14 + 2 * j) k) B (k + 8)))
-  many-in (suc n) B j k f l a b =
-      let most = many-in n B j k (far-part k (2 * suc n) k (2 * n) (omega arith) (omega arith) f) (omega arith) (omega arith) b in
-      let last = one-in (packedInto B j s k n) (j + n) (k + 2 * n) (far-part k (2 * suc n) (k + 2 * n) 2 (omega arith) (omega arith) f) (omega arith) (omega arith) (omega (arith, packed-length B j s k n)) in
-      subst (λ (x : ℕ). Leads s (along (14 + 2 * j) k) B (k + 8) (along (14 + 2 * x) (k + 2 * suc n)) (packedInto B j s k (suc n)) (k + 2 * suc n + 8)) (let z : j + n + 1 ≡ j + suc n = omega arith in z)
-      (subst (λ (x : ℕ). Leads s (along (14 + 2 * j) k) B (k + 8) (along (14 + 2 * (j + n + 1)) x) (packedInto B j s k (suc n)) (x + 8)) (let z : k + 2 * n + 2 ≡ k + 2 * suc n = omega arith in z)
-      (subst (λ (x : ℕ). Leads s (along (14 + 2 * j) k) B (k + 8) (along (14 + 2 * (j + n + 1)) (k + 2 * n + 2)) (packedInto B j s k (suc n)) x) (let z : k + 2 * n + 8 + 2 ≡ k + 2 * n + 2 + 8 = omega arith in z)
-      (leads-on s _ _ _ _ _ _ _ _ _ most last)))
+    one-in : (B : List ℕ) (j : ℕ) → k + 10 ≤ length s → j < longest → longest ≤ length B
+        → Leads s (along (14 + 2 * j) k) B (k + 8) (along (14 + 2 * (j + 1)) (k + 2)) (set B j (byteFrom s k)) (k + 8 + 2)
+    one-in B j l a b = leads-as s _ _ _ _ _ _ _ _ (leads-in p m (14 + 2 * j) t B (turn-far l) j (byteFrom s k) refl a b (sym top-far)) (head-far (14 + 2 * (j + 1))) refl
 
-  many-past : (n : ℕ) (B : List ℕ) (c k : ℕ) → Far (t .stray) s k (2 * n) → k + 2 * n + 8 ≤ length s → 726 ≤ c
-      → Leads s (along c k) B (k + 8) (along (laterCount n c) (k + 2 * n)) B (k + 2 * n + 8)
-  many-past zero B c k f l a =
-      subst (λ (x : ℕ). Leads s (along c k) B (k + 8) (along c x) B (x + 8)) (let z : k ≡ k + 2 * 0 = omega arith in z) (leads-here s (along c k) B (k + 8))
-  many-past (suc n) B c k f l a =
-      let most = many-past n B c k (far-part k (2 * suc n) k (2 * n) (omega arith) (omega arith) f) (omega arith) a in
-      let last = one-past B (laterCount n c) (k + 2 * n) (far-part k (2 * suc n) (k + 2 * n) 2 (omega arith) (omega arith) f) (omega arith) (omega (arith, later-more n c)) in
-      subst (λ (x : ℕ). Leads s (along c k) B (k + 8) (along (laterCount (suc n) c) x) B (x + 8)) (let z : k + 2 * n + 2 ≡ k + 2 * suc n = omega arith in z)
-      (subst (λ (x : ℕ). Leads s (along c k) B (k + 8) (along (laterCount (suc n) c) (k + 2 * n + 2)) B x) (let z : k + 2 * n + 8 + 2 ≡ k + 2 * n + 2 + 8 = omega arith in z)
-      (leads-on s _ _ _ _ _ _ _ _ _ most last))
+    one-past : (B : List ℕ) (c : ℕ) → k + 10 ≤ length s → 726 ≤ c → Leads s (along c k) B (k + 8) (along (bump (bump c)) (k + 2)) B (k + 8 + 2)
+    one-past B c l a = leads-as s _ _ _ _ _ _ _ _ (leads-past p m c t B (turn-far l) a) (head-far (bump (bump c))) refl
+
+  -- many pairs: all but the last, and the last
+  module _ (k : ℕ) where
+    but-last : (n : ℕ) → Far (t .stray) s k (2 * suc n) → Far (t .stray) s k (2 * n)
+    but-last n f = far-part k (2 * suc n) k (2 * n) (omega arith) (omega arith) f
+
+    the-last : (n : ℕ) → Far (t .stray) s k (2 * suc n) → Far (t .stray) s (k + 2 * n) 2
+    the-last n f = far-part k (2 * suc n) (k + 2 * n) 2 (omega arith) (omega arith) f
+
+    many-in : (n : ℕ) (B : List ℕ) (j : ℕ) → Far (t .stray) s k (2 * n) → k + 2 * n + 8 ≤ length s → j + n ≤ longest → longest ≤ length B
+        → Leads s (along (14 + 2 * j) k) B (k + 8) (along (14 + 2 * (j + n)) (k + 2 * n)) (packedInto B j s k n) (k + 2 * n + 8)
+    many-in zero B j f l a b =
+        leads-as s _ _ _ _ _ _ _ _ (leads-here s (along (14 + 2 * j) k) B (k + 8)) (ap₂ along (let z : 14 + 2 * j ≡ 14 + 2 * (j + 0) = omega arith in z) (let z : k ≡ k + 2 * 0 = omega arith in z))
+        (let z : k + 8 ≡ k + 2 * 0 + 8 = omega arith in z)
+    many-in (suc n) B j f l a b =
+        let most = many-in n B j (but-last n f) (omega arith) (omega arith) b in
+        let last = one-in (k + 2 * n) (the-last n f) (packedInto B j s k n) (j + n) (omega arith) (omega arith) (omega (arith, packed-length B j s k n)) in
+        leads-as s _ _ _ _ _ _ _ _ (leads-on s _ _ _ _ _ _ _ _ _ most last)
+        (ap₂ along (let z : 14 + 2 * (j + n + 1) ≡ 14 + 2 * (j + suc n) = omega arith in z) (let z : k + 2 * n + 2 ≡ k + 2 * suc n = omega arith in z))
+        (let z : k + 2 * n + 8 + 2 ≡ k + 2 * suc n + 8 = omega arith in z)
+
+    many-past : (n : ℕ) (B : List ℕ) (c : ℕ) → Far (t .stray) s k (2 * n) → k + 2 * n + 8 ≤ length s → 726 ≤ c
+        → Leads s (along c k) B (k + 8) (along (laterCount n c) (k + 2 * n)) B (k + 2 * n + 8)
+    many-past zero B c f l a =
+        leads-as s _ _ _ _ _ _ _ _ (leads-here s (along c k) B (k + 8)) (ap (along c) (let z : k ≡ k + 2 * 0 = omega arith in z)) (let z : k + 8 ≡ k + 2 * 0 + 8 = omega arith in z)
+    many-past (suc n) B c f l a =
+        let most = many-past n B c (but-last n f) (omega arith) a in
+        let last = one-past (k + 2 * n) (the-last n f) B (laterCount n c) (omega arith) (omega (arith, later-more n c)) in
+        leads-as s _ _ _ _ _ _ _ _ (leads-on s _ _ _ _ _ _ _ _ _ most last)
+        (ap (along (laterCount (suc n) c)) (let z : k + 2 * n + 2 ≡ k + 2 * suc n = omega arith in z))
+        (let z : k + 2 * n + 8 + 2 ≡ k + 2 * suc n + 8 = omega arith in z)
 
 -- and so from the place of the run that it stands at
-module _ (p : Profile) (m : Mark) (t : Kept) {w : ℕ} {s : List ℕ} {i end n : ℕ} (f : FarOn w (t .stray) s i end n) where
+module _ (p : Profile) (m : Mark) (t : Kept) {w : ℕ} {s : List ℕ} {i end n : ℕ} (f : FarOn w (t .stray) s i end n) (within : end ≤ length s) where
   from-behind : (c c′ : ℕ) (B B′ : List ℕ)
       → Leads s (along p m t s c (i - 8)) B (i - 8 + 8) (along p m t s c′ (i - 8 + 2 * n)) B′ (i - 8 + 2 * n + 8)
-      → Leads s (head p m c w t) B i (head p m c′ (windowFrom s (i + 2 * n - 8)) t) B′ (i + 2 * n)
+      → Leads s (head p m c w t) B i (along p m t s c′ (i + 2 * n - 8)) B′ (i + 2 * n)
   from-behind c c′ B B′ e =
       let u = f .behind in
-      let o : i - 8 + 8 ≡ i = omega arith in
-      let q : i - 8 + 2 * n ≡ i + 2 * n - 8 = omega arith in
-      let r : i - 8 + 2 * n + 8 ≡ i + 2 * n = omega arith in
-      subst (λ (x : ℕ). Leads s (head p m c x t) B i (head p m c′ (windowFrom s (i + 2 * n - 8)) t) B′ (i + 2 * n)) (sym (f .shown))
-      (subst (λ (x : ℕ). Leads s (along p m t s c (i - 8)) B i (along p m t s c′ x) B′ (i + 2 * n)) q
-      (subst (λ (x : ℕ). Leads s (along p m t s c (i - 8)) B i (along p m t s c′ (i - 8 + 2 * n)) B′ x) r
-      (subst (λ (x : ℕ). Leads s (along p m t s c (i - 8)) B x (along p m t s c′ (i - 8 + 2 * n)) B′ (i - 8 + 2 * n + 8)) o e)))
+      leads-from s _ _ _ _ _ _ _ _ (ap (λ (x : ℕ). head p m c x t) (sym (f .shown))) (let z : i - 8 + 8 ≡ i = omega arith in z)
+      (leads-as s _ _ _ _ _ _ _ _ e (ap (along p m t s c′) (let z : i - 8 + 2 * n ≡ i + 2 * n - 8 = omega arith in z)) (let z : i - 8 + 2 * n + 8 ≡ i + 2 * n = omega arith in z))
 
-  pub leads-blocks-in : (B : List ℕ) (j : ℕ) → end ≤ length s → j + n ≤ longest → longest ≤ length B
-      → Leads s (head p m (14 + 2 * j) w t) B i (head p m (14 + 2 * (j + n)) (windowFrom s (i + 2 * n - 8)) t) (packedInto B j s (i - 8) n) (i + 2 * n)
-  leads-blocks-in B j e a k =
-      let u = f .up-to in
-      let v = f .behind in
-      from-behind (14 + 2 * j) (14 + 2 * (j + n)) B (packedInto B j s (i - 8) n) (many-in p m t s n B j (i - 8) (f .far) (omega arith) a k)
+  fits : i - 8 + 2 * n + 8 ≤ length s
+  fits = omega (arith, f .up-to, f .behind)
 
-  pub leads-blocks-past : (B : List ℕ) (c : ℕ) → end ≤ length s → 726 ≤ c
-      → Leads s (head p m c w t) B i (head p m (laterCount n c) (windowFrom s (i + 2 * n - 8)) t) B (i + 2 * n)
-  leads-blocks-past B c e a =
-      let u = f .up-to in
-      let v = f .behind in
-      from-behind c (laterCount n c) B B (many-past p m t s n B c (i - 8) (f .far) (omega arith) a)
+  pub leads-blocks-in : (B : List ℕ) (j : ℕ) → j + n ≤ longest → longest ≤ length B
+      → Leads s (head p m (14 + 2 * j) w t) B i (along p m t s (14 + 2 * (j + n)) (i + 2 * n - 8)) (packedInto B j s (i - 8) n) (i + 2 * n)
+  leads-blocks-in B j a k = from-behind (14 + 2 * j) (14 + 2 * (j + n)) B (packedInto B j s (i - 8) n) (many-in p m t s (i - 8) n B j (f .far) fits a k)
 
-  -- the eight nibbles before a block, its bytes, and its last eight
+  pub leads-blocks-past : (B : List ℕ) (c : ℕ) → 726 ≤ c → Leads s (head p m c w t) B i (along p m t s (laterCount n c) (i + 2 * n - 8)) B (i + 2 * n)
+  leads-blocks-past B c a = from-behind c (laterCount n c) B B (many-past p m t s (i - 8) n B c (f .far) fits a)
+
+-- The nibbles that leave the window meanwhile, and the last eight; and behind them a loop stands at a window that is the run's own.
+module _ {w : ℕ} {stray : Bool} {s : List ℕ} {i end n : ℕ} (f : FarOn w stray s i end n) where
   pub behind-small : AllNibbles s (i - 8) (2 * n)
   behind-small x a b = f .far .small x a (omega arith)
 
   pub last-small : AllNibbles s (i + 2 * n - 8) 8
   last-small x a b = let u = f .behind in f .far .small x (omega arith) (omega arith)
 
-  -- and behind it the loop stands at a window of the run's own
   pub stands-past : {from w′ : ℕ} → Stands s from end w i → w′ ≡ windowFrom s (i + 2 * n - 8) → Stands s from end w′ (i + 2 * n)
   stands-past st e =
       record {

@@ -11,7 +11,7 @@ use Rattle.reader_head.specs.Head.{bump}
 abbrev pub AllNibbles : List ℕ → ℕ → ℕ → Type 0
 AllNibbles s k n = (x : ℕ) → k ≤ x → x < k + n → getD s x 0 < 16
 
--- the window of the eight nibbles at the place k is as far as this from one before a mark, which has F, F and F at k + 2, k + 3 and k + 4, and 0 at k + 6
+-- the window of the eight nibbles at the place k is as far as this from one that a mark may follow, with F at k + 2, k + 3 and k + 4, and 0 at k + 6
 abbrev pub Apart : ℕ → List ℕ → ℕ → Type 0
 Apart r s k = getD s (k + 2) 0 + getD s (k + 3) 0 + getD s (k + 4) 0 + r ≤ 45 + getD s (k + 6) 0
 

@@ -3,7 +3,7 @@ use mathlib.Core.Path.{_≡_}
 use mathlib.Core.Bool.{Bool, true, false, _&&_, cond}
 use mathlib.Core.List.{List}
 use mathlib.Core.Logic.{_⊎_}
-use Prim.Native.Nat.{ℕ, _+_, _-_, _*_, _%_, _≤_}
+use Prim.Native.Nat.{ℕ, _+_, _-_, _*_, _%_, _≤_, _<_}
 use lib.Dec.{eqb, leb, ltb}
 use lib.ListN.{length, drop, getD}
 use Rattle.profile.specs.declared.Profile.{Profile}
@@ -11,7 +11,7 @@ use Rattle.profile.specs.declared.Profile.the-variants.{VV5404, VV5300}
 use Rattle.mark_text.specs.declared.Kept.{Kept}
 use Rattle.reader_head.specs.declared.Head.{Head}
 use Rattle.run_ahead.specs.declared.Reached.{Reached}
-use Rattle.run_ahead.specs.Ahead.{arePair, takePairs, aheadTo}
+use Rattle.run_ahead.specs.Ahead.{arePair, takePairs, aheadTo, pastBody, aheadOf}
 
 -- two nibbles stand at the place i, before the end, and no mark can end in them
 unfoldable pub isPair : ℕ → List ℕ → ℕ → ℕ → Bool
@@ -34,6 +34,12 @@ pub record Reaches (bound : ℕ) (s : List ℕ) (h : Head) (body : List ℕ) (fr
   pub leads : Leads s h body from (r .head) body′ (r .at)
   pub within : r .at ≤ length s
   pub through : Through bound s (r .head) (r .at)
+
+-- what the parts up to the body's end give: where that is not reached, it is all; and where it is, what leads on from there ends it
+pub record UpToPast (s : List ℕ) (h : Head) (body : List ℕ) (from : ℕ) (r : Reached) (body′ : List ℕ) : Type 0 where
+  pub within : r .at ≤ length s
+  pub all : r .head .count < pastBody → aheadOf h body s from ≡ aheadTo (r .head) body′ (r .at)
+  pub rest : pastBody ≤ r .head .count → (h′ : Head) (i′ : ℕ) → LeadsTo s (r .head) body′ (r .at) h′ body′ i′ → aheadOf h body s from ≡ aheadTo h′ body′ i′
 
 -- the weight of the oldest byte in a window of eight nibbles: 16 ^ 6
 abbrev pub bytePlace : ℕ

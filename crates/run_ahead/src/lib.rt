@@ -1,12 +1,16 @@
-// Nibbles of a run taken ahead, two a turn, as far as no mark can end in them (paper 02, A5).
+// Nibbles of a run taken ahead, in pairs and in blocks, as far as no mark can end in them (paper 02, A5).
 //
-// In: a reader's head and its lent body, a run of nibbles and a place in it. Out: the head, and the place up to which the nibbles from there are taken;
-// the body has their bytes. Nothing is taken at an odd count before the body's end, and where the body is not as long as the longest. Of the nibbles
-// that are taken none brings an answer.
+// In: a reader's head and its lent body, a run of nibbles and a place in it. Out: the head, and the place up to which the nibbles from there are
+// taken; the body has their bytes. Nothing is taken at an odd count before the body's end, and where the body is not as long as the longest. Of the
+// nibbles that are taken none brings an answer.
 //
 // A mark that ends at one of the next two nibbles shows in the window before they come: F at its nibbles 5, 4 and 3, counted from the newest,
 // 0, and 0 at nibble 1. Where it does not, two nibbles are taken in one turn, and where the count of the text's nibbles is even, the two that
-// leave the window are one byte of the text. Past the body no byte is kept, and any count will do. Cost: linear in the nibbles taken.
+// leave the window are one byte of the text. Past the body no byte is kept, and any count will do.
+//
+// The window is the run's own last eight nibbles, once so many are taken. Then 32 nibbles are tested at once, in loops that go to their end and so are
+// vectorised: where none of their windows shows a mark, what leaves the window is packed into the body, and the window made anew from the last eight.
+// Beside pairs alone, a long body takes about a third of the time, and what stands past it as well. Cost: linear in the nibbles taken.
 ghost use mathlib.Core.Path.{_≡_};
 ghost use mathlib.Core.List.{List};
 ghost use mathlib.Core.Logic.{_⊎_};
@@ -15,7 +19,7 @@ ghost use Prim.Native.Nat.{ℕ, _≤_, _<_, _+_, _*_, _/_, _%_};
 ghost use lib.ListN.{length, getD};
 ghost use Rattle.profile.specs.Profile.{longest};
 ghost use Rattle.run_ahead.specs.Ahead.{pastBody, isNear, aheadOf, AheadGives};
-ghost use Rattle.run_ahead.specs.Parts.{LeadsTo, Reaches, isPair, bytePlace, slideByte, strayAfter, strayKept, byteKept};
+ghost use Rattle.run_ahead.specs.Parts.{LeadsTo, Reaches, UpToPast, isPair, bytePlace, slideByte, strayAfter, strayKept, byteKept};
 ghost use Rattle.run_ahead.specs.Blocks.{AllNibbles, Apart, Far, FarOn, windowFrom, packedInto, laterCount};
 use mark_text::Kept;
 use period::Nibbles;
@@ -38,8 +42,22 @@ pub fn ahead(h: Head, body: &mut [u8], s: &[u8], from: usize) -> Reached
     if s.len() <= from {
         return Reached { head: h, at: from };
     }
+    let b = up_to_past(h, body, s, from);
+    let past = b.head;
+    if past.count < PAST {
+        return b;
+    }
+    let at = b.at;
+    past_body(past, s, at)
+}
+
+// The same up to the end of the body: nothing from there on, and nothing at an odd count.
+fn up_to_past(h: Head, body: &mut [u8], s: &[u8], from: usize) -> Reached
+    requires { ⌜ (from ≤ length (now s)) × (length (now body) ≡ longest) ⌝ }
+    ensures { λ r. ⌜ UpToPast (now (s .entry)) h (now (body .entry)) from r (now (body .exit)) ⌝ }
+{
     if PAST <= h.count {
-        return past_body(h, s, from);
+        return Reached { head: h, at: from };
     }
     if h.count % 2 == 1 {
         return Reached { head: h, at: from };
@@ -50,13 +68,7 @@ pub fn ahead(h: Head, body: &mut [u8], s: &[u8], from: usize) -> Reached
         return a;
     }
     let at = a.at;
-    let b = in_body(begun, body, s, at);
-    let past = b.head;
-    if past.count < PAST {
-        return b;
-    }
-    let at = b.at;
-    past_body(past, s, at)
+    in_body(begun, body, s, at)
 }
 
 // The count of a text's nibbles from which its body's bytes leave the window, and from which none is left to come.
@@ -243,8 +255,8 @@ fn far_pairs(window: u32, stray: bool, s: &[u8], from: usize, end: usize) -> usi
     n
 }
 
-// Whether a block can be taken: it has nibbles alone, no mark can end in it, and what leaves the window meanwhile, from the place k on, is nothing
-// but F, or a stray nibble is noted already. Each test is a loop that goes to its end, for those are vectorised.
+// Whether a block can be taken behind the eight nibbles at a place: it has nibbles alone, no mark can end in it, and what leaves the window meanwhile
+// is nothing but F, or a stray nibble is noted already.
 fn is_far(stray: bool, s: &[u8], k: usize) -> bool
     requires { ⌜ (k + 40 ≤ length (now s)) × AllNibbles (now s) k 8 ⌝ }
     ensures { λ r. ⌜ (r ≡ true → Far stray (now (s .entry)) k 32) ⌝ }

@@ -1,6 +1,6 @@
 -- Each byte adds at most one; where none added any, no mark begins.
 use mathlib.Core.Path.{_≡_, subst}
-use Prim.Native.Nat.{ℕ, _+_, _-_, _≤_}
+use Prim.Native.Nat.{_-_, _≤_}
 use native.Mathlib.Omega.{arith}
 use denote.Ref.{now}
 use borrow.Author.Needs.{needs}
@@ -19,13 +19,13 @@ loop-holds : tie.Need-loop-holds Inv-loop μ-loop
 loop-holds c = (omega arith, omega arith, λ e. none-begins (now (c .before .args .bytes)) (c .before .args .i))
 
 add-count : tie.Need-add-count Inv-loop μ-loop
-add-count c = omega (arith, c .begun .ensures .0, c .before .before .before .before .loop .inv .0, c .before .before .before .before .loop .inv .1)
+add-count c = omega (arith, c .may-begin .ensures .0, c .before .before .before .before .loop .inv .0, c .before .before .before .before .loop .inv .1)
 
 loop-again : tie.Need-loop-again Inv-loop μ-loop
 loop-again c =
     let l = c .before .before .before .before .loop in
     let a = c .before .before .before .before .before .before .args in
-    let e = c .begun .ensures in (
+    let e = c .may-begin .ensures in (
       omega arith,
       omega (arith, e .0, l .inv .1),
       λ z. begins-more (now (a .bytes)) (a .i) (l .k) (l .inv .2 (omega arith)) (e .1 (omega arith)),

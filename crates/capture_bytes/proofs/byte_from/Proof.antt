@@ -1,5 +1,4 @@
 -- From a high nibble on it is a byte, from a low one on it is half of one and half of the next.
-use mathlib.Core.Path.{_≡_}
 use Prim.Native.Nat.{_+_}
 use native.Mathlib.Omega.{arith}
 use denote.Ref.{now}

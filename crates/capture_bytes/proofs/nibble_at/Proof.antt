@@ -1,6 +1,5 @@
 -- A byte's high nibble stands at an even place, its low one after it.
 use Prim.Native.Nat.{_/_}
-use native.Mathlib.Omega.{arith}
 use mathlib.Core.Path.{sym}
 use denote.Ref.{now}
 use borrow.Author.Needs.{needs}

@@ -1,7 +1,7 @@
 -- At each turn what is left brings what the whole does, and the line buffer is as lent; a portion that is answered or the last gives the whole, and any
 -- other is taken whole, and blocks after it.
 use mathlib.Core.Path.{_≡_, refl, _∙_}
-use Prim.Native.Nat.{ℕ, _+_, _-_, _*_, _≤_, _<_}
+use Prim.Native.Nat.{ℕ, _-_, _*_, _≤_, _<_}
 use native.Mathlib.Omega.{arith}
 use lib.ListN.{length, getD}
 use denote.Ref.{now}
@@ -23,40 +23,54 @@ loop-holds : tie.Need-loop-holds Inv-loop μ-loop
 loop-holds c = (start _ _ _ _ _ (c .code-is-byte .ensures), refl, refl, omega arith, omega arith, omega arith)
 
 add-lesser : tie.Need-add-lesser Inv-loop μ-loop
-add-lesser c = let l = c .loop in omega (arith, c .before .before .before .before .before .good .1 .1 .0 .1, l .inv .0 .forward, l .inv .4, l .inv .5, c .before .before .before .before .before .fits .from)
+add-lesser c =
+    let l = c .loop in
+    let start = c .before .before .before .before .before in
+    omega (arith, start .good .1 .1 .0 .1, l .inv .0 .forward, l .inv .4, l .inv .5, start .fits .from)
 
 add-at : tie.Need-add-at Inv-loop μ-loop
 add-at c =
-    let a = c .before .before .before .before .before .before .before .before .before .before .before .before .before .before .before .args in
-    let l = c .before .before .before .before .before .before .before .before .before .before .loop in
-    let known : (i : ℕ) → getD (now (a .bytes)) i 0 < 256 = λ i. c .before .before .before .before .before .before .before .before .before .before .before .before .before .shared-slice-known .given i .fits in
-    let end = c .before .before .before .before .before .before .before .before .before .lesser .result in
-    let within : end ≤ length (now (a .bytes)) = omega (arith, c .before .before .before .before .before .before .before .before .before .lesser .ensures) in
-    omega (arith, portion-within (l .inv .0) known end within, c .before .before .before .before .before .before .run-portion .ensures .count, c .before .before .before .before .before .before .before .before .before .before .before .before .before .before .before .good .1 .1 .0 .1, l .inv .0 .forward, l .inv .5, c .before .before .before .before .before .before .before .before .before .before .before .before .before .before .before .fits .from)
+    let run = c .before .before .before .before .before .before in
+    let n = run .before .before .before in
+    let turn = n .before in
+    let start = turn .before .before .before .before .before in
+    let l = turn .loop in
+    let a = start .args in
+    let known : (i : ℕ) → getD (now (a .bytes)) i 0 < 256 = λ i. turn .before .before .before .shared-slice-known .given i .fits in
+    let end = n .lesser .result in
+    let within : end ≤ length (now (a .bytes)) = omega (arith, n .lesser .ensures) in
+    omega (arith, portion-within (l .inv .0) known end within, run .run-portion .ensures .count, start .good .1 .1 .0 .1, l .inv .0 .forward, l .inv .5, start .fits .from)
 
 loop-less : tie.Need-loop-less Inv-loop μ-loop
 loop-less c =
-    let a = c .before .before .before .before .before .before .before .before .before .before .before .before .before .before .before .before .before .before .before .before .before .before .before .args in
-    let l = c .before .before .before .before .before .before .before .before .before .before .before .before .before .before .before .before .before .before .loop in
-    let known : (i : ℕ) → getD (now (a .bytes)) i 0 < 256 = λ i. c .before .before .before .before .before .before .before .before .before .before .before .before .before .before .before .before .before .before .before .before .before .shared-slice-known .given i .fits in
-    let n = c .before .before .before .before .before .before .before .before .before .before .before .before .before .before .before .before .before .lesser .ensures in
-    let end = c .before .before .before .before .before .before .before .before .before .before .before .before .before .before .before .before .before .lesser .result in
-    let within : end ≤ length (now (a .bytes)) = omega (arith, n) in
-    let p = c .before .before .before .before .before .before .before .before .before .before .before .before .before .before .run-portion in
-    let less = turn-less (l .inv .0) known end within (p .ensures) (p .kept .1 .0) (c .before .before .before .before .before .before .before .goes-on .ensures) (c .before .before .before .before .before .before .if1 .taken) (λ h. omega (arith, h, n, l .inv .3)) in
+    let on = c .before .before .before .before .before .before in
+    let run = on .before .before .before .before .before .before .before .before in
+    let n = run .before .before .before in
+    let turn = n .before in
+    let l = turn .loop in
+    let a = turn .before .before .before .before .before .args in
+    let known : (i : ℕ) → getD (now (a .bytes)) i 0 < 256 = λ i. turn .before .before .before .shared-slice-known .given i .fits in
+    let end = n .lesser .result in
+    let within : end ≤ length (now (a .bytes)) = omega (arith, n .lesser .ensures) in
+    let p = run .run-portion in
+    let less = turn-less (l .inv .0) known end within (p .ensures) (p .kept .1 .0) (on .before .goes-on .ensures) (on .if1 .taken) (λ h. omega (arith, h, n .lesser .ensures, l .inv .3)) in
     omega (arith, less, c .before .before .before .before .skip .ensures .from-on)
 
 loop-again : tie.Need-loop-again Inv-loop μ-loop
 loop-again c =
-    let a = c .before .before .before .before .before .before .before .before .before .before .before .before .before .before .before .before .before .before .before .before .before .before .before .args in
-    let l = c .before .before .before .before .before .before .before .before .before .before .before .before .before .before .before .before .before .before .loop in
-    let known : (i : ℕ) → getD (now (a .bytes)) i 0 < 256 = λ i. c .before .before .before .before .before .before .before .before .before .before .before .before .before .before .before .before .before .before .before .before .before .shared-slice-known .given i .fits in
-    let end = c .before .before .before .before .before .before .before .before .before .before .before .before .before .before .before .before .before .lesser .result in
-    let within : end ≤ length (now (a .bytes)) = omega (arith, c .before .before .before .before .before .before .before .before .before .before .before .before .before .before .before .before .before .lesser .ensures) in
-    let p = c .before .before .before .before .before .before .before .before .before .before .before .before .before .before .run-portion in
+    let on = c .before .before .before .before .before .before in
+    let run = on .before .before .before .before .before .before .before .before in
+    let n = run .before .before .before in
+    let turn = n .before in
+    let l = turn .loop in
+    let a = turn .before .before .before .before .before .args in
+    let known : (i : ℕ) → getD (now (a .bytes)) i 0 < 256 = λ i. turn .before .before .before .shared-slice-known .given i .fits in
+    let end = n .lesser .result in
+    let within : end ≤ length (now (a .bytes)) = omega (arith, n .lesser .ensures) in
+    let p = run .run-portion in
     let k = c .before .before .before .before .skip .ensures in
     let size = c .before .portion-size .ensures in
-    let u = next-turn (l .inv .0) known end within (p .ensures) (p .kept .1 .0) (c .before .before .before .before .before .before .before .goes-on .ensures) (c .before .before .before .before .before .before .if1 .taken) in (
+    let u = next-turn (l .inv .0) known end within (p .ensures) (p .kept .1 .0) (on .before .goes-on .ensures) (on .if1 .taken) in (
       upto-on u k,
       k .same-length ∙ p .kept .1 .0 ∙ l .inv .1,
       p .kept .1 .1 .1 .1 .1 .0 ∙ l .inv .2,
@@ -67,16 +81,19 @@ loop-again c =
     )
 
 sub-t26 : tie.Need-sub-t26 Inv-loop μ-loop
-sub-t26 c = omega (arith, c .before .before .before .before .before .before .before .before .before .before .before .before .loop .inv .0 .forward)
+sub-t26 c = let l = c .before .before .before .before .before .before .before .before .before .before .before .before .loop in omega (arith, l .inv .0 .forward)
 
 returns : tie.Need-returns Inv-loop μ-loop
 returns c =
-    let a = c .before .before .before .before .before .before .before .before .before .before .before .before .before .before .before .before .before .args in
-    let l = c .before .before .before .before .before .before .before .before .before .before .before .before .loop in
-    let known : (i : ℕ) → getD (now (a .bytes)) i 0 < 256 = λ i. c .before .before .before .before .before .before .before .before .before .before .before .before .before .before .before .shared-slice-known .given i .fits in
-    let end = c .before .before .before .before .before .before .before .before .before .before .before .lesser .result in
-    let within : end ≤ length (now (a .bytes)) = omega (arith, c .before .before .before .before .before .before .before .before .before .before .before .lesser .ensures) in
-    let p = c .before .before .before .before .before .before .before .before .run-portion in
+    let run = c .before .before .before .before .before .before .before .before in
+    let n = run .before .before .before in
+    let turn = n .before in
+    let l = turn .loop in
+    let a = turn .before .before .before .before .before .args in
+    let known : (i : ℕ) → getD (now (a .bytes)) i 0 < 256 = λ i. turn .before .before .before .shared-slice-known .given i .fits in
+    let end = n .lesser .result in
+    let within : end ≤ length (now (a .bytes)) = omega (arith, n .lesser .ensures) in
+    let p = run .run-portion in
     last-turn (l .inv .0) known end within (p .ensures) (p .kept .1 .0) (c .before .goes-on .ensures) (c .if1 .left)
 
 pub run-spec : {M : Type 1} → statement M

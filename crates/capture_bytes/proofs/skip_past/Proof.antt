@@ -1,8 +1,7 @@
 -- Bytes that are quiet past a body change the window and the count.
-use mathlib.Core.Path.{_≡_}
-use Prim.Native.Nat.{ℕ, _≤_, _<_}
+use Prim.Native.Nat.{ℕ, _<_}
 use native.Mathlib.Omega.{arith}
-use lib.ListN.{length, getD}
+use lib.ListN.{getD}
 use denote.Ref.{now}
 use borrow.Author.Needs.{needs}
 use Rattle.stream.specs.Written.{nibbles}
@@ -22,17 +21,22 @@ sub-word : tie.Need-sub-word
 sub-word c = omega (arith, there (c .before .before .before) .behind)
 
 word-requires : tie.Need-word-requires
-word-requires c κs = let q = there (c .before .before .before) in (omega (arith, q .behind, q .up-to, nibbles-length (now (c .before .before .before .before .before .before .args .bytes))), omega arith)
+word-requires c κs =
+    let q = there (c .before .before .before) in
+    (omega (arith, q .behind, q .up-to, nibbles-length (now (c .before .before .before .before .before .before .args .bytes))), omega arith)
 
-add-t13 : tie.Need-add-t13
-add-t13 c = omega (arith, there (c .before .before .before .before) .up-to, nibbles-length (now (c .before .before .before .before .before .before .before .args .bytes)), c .before .before .before .before .before .before .before .good .1 .0 .1)
+add-next : tie.Need-add-next
+add-next c =
+    let start = c .before .before .before .before .before .before .before in
+    omega (arith, there (c .before .before .before .before) .up-to, nibbles-length (now (start .args .bytes)), start .good .1 .0 .1)
 
 returns-2 : tie.Need-returns-2
 returns-2 c =
-    let a = c .before .before .before .before .before .before .before .args in
-    let known : (i : ℕ) → getD (now (a .bytes)) i 0 < 256 = λ i. c .before .before .before .before .before .before .shared-slice-known .given i .fits in
-    let pre = c .before .before .before .before .before .before .before .pre in
-    λ body. past-quiet (now (a .bytes)) known (there (c .before .before .before .before)) body _ _ (pre .0) (pre .1) (c .before .lesser .ensures) (c .word .ensures)
+    let quiet = c .before .before .before .before in
+    let a = quiet .before .before .before .args in
+    let known : (i : ℕ) → getD (now (a .bytes)) i 0 < 256 = λ i. quiet .before .before .shared-slice-known .given i .fits in
+    let pre = quiet .before .before .before .pre in
+    λ body. past-quiet (now (a .bytes)) known (there quiet) body _ _ (pre .0) (pre .1) (c .before .lesser .ensures) (c .word .ensures)
 
 pub skip-past-spec : {M : Type 1} → statement M
 skip-past-spec =
@@ -49,5 +53,5 @@ skip-past-spec =
     (λ c. search needs)
     word-requires
     (λ c. search needs)
-    add-t13
+    add-next
     returns-2)

@@ -1,6 +1,6 @@
 -- Past the body, or within it; at an odd count one nibble goes before, that completes no mark.
-use mathlib.Core.Path.{_≡_, sym, ap, _∙_}
-use Prim.Native.Nat.{ℕ, _+_, _≤_, _<_}
+use mathlib.Core.Path.{sym, ap, _∙_}
+use Prim.Native.Nat.{ℕ, _<_}
 use native.Mathlib.Omega.{arith}
 use lib.ListN.{length, getD}
 use denote.Ref.{now}
@@ -12,33 +12,43 @@ use Rattle.capture_bytes.proofs.skip_sound.Statement.{statement}
 use Rattle.capture_bytes.proofs.skip_sound.Tie as tie
 
 skip-past-requires : tie.Need-skip-past-requires
-skip-past-requires c κs = (search needs, passed (c .before .before .before .before .args .h) (c .before .before .before .before .pre .2) .count-small)
+skip-past-requires c κs = let start = c .before .before .before .before in (search needs, passed (start .args .h) (start .pre .2) .count-small)
 
 returns : tie.Need-returns
 returns c = c .skip-past .ensures _
 
 add-skip-within : tie.Need-add-skip-within
-add-skip-within c = omega (arith, c .before .before .before .before .before .before .before .before .before .before .if3 .left, c .before .before .before .before .before .before .before .before .before .before .before .before .before .before .before .before .before .good .1 .1 .0 .1)
+add-skip-within c =
+    let inside = c .before .before .before .before .before .before .before .before .before .before in
+    let start = inside .before .before .before .before .before .before .before in
+    omega (arith, inside .if3 .left, start .good .1 .1 .0 .1)
 
 skip-within-requires-2 : tie.Need-skip-within-requires-2
 skip-within-requires-2 c κs =
-    let a = c .before .before .before .before .before .before .before .before .before .before .before .before .before .before .before .before .before .args in
-    let pre = c .before .before .before .before .before .before .before .before .before .before .before .before .before .before .before .before .before .pre in
-    let past = c .before .before .before .before .before .before .before .before .before .before .before .before .before .if1 .left in
+    let odd = c .before .before .before .before .before .before .before .before .before .before .before in
+    let past = odd .before .before .if1 .left in
+    let start = odd .before .before .before .before .before .before in
+    let a = start .args in
+    let pre = start .pre in
     let n = ap (λ (h : Head). h .count) (c .before .shift .ensures) ∙ bump-one (a .h .count) (omega (arith, past)) in (
       omega (arith, n, pre .0),
-      omega (arith, n, c .before .before .before .before .before .before .before .before .before .before .before .if2 .left),
+      omega (arith, n, odd .if2 .left),
       omega (arith, n, past),
       ap length (c .before .before .before .before .leave-body .ensures) ∙ leave-length (a .h) (now (a .body)) ∙ pre .1,
     )
 
 returns-5 : tie.Need-returns-5
 returns-5 c =
-    let a = c .before .before .before .before .before .before .before .before .before .before .before .before .before .before .before .before .before .before .before .before .args in
-    let known : (i : ℕ) → getD (now (a .bytes)) i 0 < 256 = λ i. c .before .before .before .before .before .before .before .before .before .before .before .before .before .before .before .before .before .before .shared-slice-known .given i .fits in
+    let shifted = c .before .before .before .before in
+    let unmarked = shifted .before .before .before .before .before in
+    let inside = unmarked .before .before .before .before in
+    let known-bytes = inside .before .before .before .before .before in
+    let a = known-bytes .before .before .args in
+    let known : (i : ℕ) → getD (now (a .bytes)) i 0 < 256 = λ i. known-bytes .shared-slice-known .given i .fits in
     leads-on
-    (nibble-first (now (a .bytes)) known (a .h) (now (a .body)) (a .at) _ _ (omega (arith, c .before .before .before .before .before .before .before .before .before .before .before .before .before .if3 .left)) (c .before .before .before .before .before .before .before .before .before .before .before .before .nibble-at .ensures) (c .before .before .before .before .before .before .before .before .before .before .before .slide .ensures)
-    (sym (c .before .before .before .before .before .before .before .before .before .before .is-mark .ensures) ∙ c .before .before .before .before .before .before .before .before .before .if4 .left) (c .before .before .before .before .shift .ensures) (c .before .before .before .before .before .before .before .leave-body .ensures))
+    (nibble-first (now (a .bytes)) known (a .h) (now (a .body)) (a .at) _ _ (omega (arith, inside .if3 .left)) (unmarked .before .before .before .nibble-at .ensures)
+    (unmarked .before .before .slide .ensures) (sym (unmarked .before .is-mark .ensures) ∙ unmarked .if4 .left) (shifted .shift .ensures)
+    (shifted .before .before .before .leave-body .ensures))
     (c .before .before .skip-within2 .ensures)
 
 pub skip-sound-spec : {M : Type 1} → statement M

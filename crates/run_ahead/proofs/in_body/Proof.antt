@@ -1,5 +1,5 @@
--- At each turn the run from here on is the run from the start; the byte that leaves the window goes to its place of the body, and so do those of a block;
--- and the places left fall.
+-- At each turn the run from here on is the run from the start; the byte that leaves the window goes to its place of the body, and so do a block's bytes;
+-- the places left fall.
 use mathlib.Core.Path.{_≡_, refl, ap, _∙_, subst}
 use mathlib.Core.List.{List}
 use mathlib.Core.Logic.{_⊎_, inl, inr}
@@ -93,14 +93,17 @@ paired : (c : tie.After-slide-byte Inv-loop μ-loop)
     → let a = c .before .before .before .before .before .before .before .before .before .before .before .before .before .args in
     let l = c .before .before .before .before .before .loop in
     let place = (a .h .count - 14) / 2 in
-    Inv-loop (now (a .body)) (now (a .s)) (a .from) (a .h .profile) (a .h .at) (a .h .kept) place (c .before .before .before .before .before .before .sooner .result) (a .h .window) (a .h .kept .stray) place (a .from) 2
+    let end = c .before .before .before .before .before .before .sooner .result in
+    Inv-loop (now (a .body)) (now (a .s)) (a .from) (a .h .profile) (a .h .at) (a .h .kept) place end (a .h .window) (a .h .kept .stray) place (a .from) 2
     (set (l .body) (l .j) (c .before .before .top-byte .result)) (c .slide-byte .result) (c .before .stray-after .result) (l .j + 1) (l .i + 2) 1
 paired c =
     let l = c .before .before .before .before .before .loop in
     let kept = c .before .before .before .before .before .before .before .before .before .before .before .before .before .args .h .kept in
-    let t = there (c .before .before .before) in (
+    let t = there (c .before .before .before) in
+    let fits = fits-in (l .inv .3) 1 (t .fits) in (
       simp (c .slide-byte .ensures, c .before .stray-after .ensures, c .before .before .top-byte .ensures)
-          (leads-on _ _ _ _ _ _ _ _ _ _ (l .inv .0) (leads-in _ _ (14 + 2 * l .j) (strayed kept (l .stray)) (l .body) t (l .j) _ refl (omega (arith, fits-in (l .inv .3) 1 (t .fits))) (omega (arith, l .inv .2)) (omega arith))),
+          (leads-on _ _ _ _ _ _ _ _ _ _ (l .inv .0)
+          (leads-in _ _ (14 + 2 * l .j) (strayed kept (l .stray)) (l .body) t (l .j) _ refl (omega (arith, fits)) (omega (arith, l .inv .2)) (omega arith))),
       stands-next t (c .slide-byte .ensures),
       simp length-set (l .inv .2),
       placed-on (l .inv .3) 1,
@@ -112,10 +115,12 @@ far-pairs-requires c κs = let st = paired (c .before) .1 in (st .within, st .up
 
 -- a block stands there
 block : (c : tie.Then4 Inv-loop μ-loop)
-    → FarOn (c .before .before .before .slide-byte .result) (c .before .before .before .before .stray-after .result) (now (c .before .before .before .before .before .before .before .before .before .before .before .before .before .before .before .before .args .s)) (c .before .before .before .before .before .before .before .before .loop .i + 2) (c .before .before .before .before .before .before .before .before .before .sooner .result) (c .before .far-pairs .result)
+    → let pair = c .before .before .before in
+    let s = now (pair .before .before .before .before .before .before .before .before .before .before .before .before .before .args .s) in
+    FarOn (pair .slide-byte .result) (pair .before .stray-after .result) s (pair .before .before .before .before .before .loop .i + 2) (pair .before .before .before .before .before .before .sooner .result) (c .before .far-pairs .result)
 block c = c .before .far-pairs .ensures .0 (c .if4 .taken)
 
-room : (c : tie.Then4 Inv-loop μ-loop) → c .before .before .before .before .before .before .before .before .loop .j + 1 + c .before .far-pairs .result ≤ longest
+room : (c : tie.Then4 Inv-loop μ-loop) → let pair = c .before .before .before in pair .before .before .before .before .before .loop .j + 1 + c .before .far-pairs .result ≤ longest
 room c = fits-in (paired (c .before .before .before) .3) (c .before .far-pairs .result) (block c .up-to)
 
 sub-pack : tie.Need-sub-pack Inv-loop μ-loop
@@ -127,7 +132,7 @@ pack-requires c κs =
     let b = block (c .before) in (
       omega (arith, b .up-to, b .behind, p .1 .within),
       omega (arith, room (c .before), p .2),
-      behind-small (c .before .before .before .before .before .before .before .before .before .before .before .before .before .before .before .before .before .args .h .profile) (c .before .before .before .before .before .before .before .before .before .before .before .before .before .before .before .before .before .args .h .at) (strayed (c .before .before .before .before .before .before .before .before .before .before .before .before .before .before .before .before .before .args .h .kept) (c .before .before .before .before .before .stray-after .result)) b,
+      behind-small b,
       c .before .before .far-pairs .ensures .1,
     )
 
@@ -145,26 +150,31 @@ sub-window-from c = omega (arith, block (c .before .before .before .before) .beh
 
 window-from-requires : tie.Need-window-from-requires Inv-loop μ-loop
 window-from-requires c κs =
-    let b = block (c .before .before .before .before) in (
-      omega (arith, b .up-to, b .behind, paired (c .before .before .before .before .before .before .before) .1 .within),
-      last-small (c .before .before .before .before .before .before .before .before .before .before .before .before .before .before .before .before .before .before .before .before .args .h .profile) (c .before .before .before .before .before .before .before .before .before .before .before .before .before .before .before .before .before .before .before .before .args .h .at) (strayed (c .before .before .before .before .before .before .before .before .before .before .before .before .before .before .before .before .before .before .before .before .args .h .kept) (c .before .before .before .before .before .before .before .before .stray-after .result)) b,
-    )
+    let at = c .before .before .before .before in
+    let b = block at in
+    (omega (arith, b .up-to, b .behind, paired (at .before .before .before) .1 .within), last-small b)
 
 loop-less : tie.Need-loop-less Inv-loop μ-loop
-loop-less c = let f = block (c .before .before .before .before .before) .up-to in omega (arith, there (c .before .before .before .before .before .before .before .before .before .before .before) .fits)
+loop-less c =
+    let at = c .before .before .before .before .before in
+    let pair = at .before .before .before in
+    omega (arith, block at .up-to, there (pair .before .before .before) .fits)
 
 loop-again : tie.Need-loop-again Inv-loop μ-loop
 loop-again c =
-    let a = c .before .before .before .before .before .before .before .before .before .before .before .before .before .before .before .before .before .before .before .before .before .args in
-    let l = c .before .before .before .before .before .before .before .before .before .before .before .before .before .loop in
-    let n = c .before .before .before .before .before .before .far-pairs .result in
-    let p = paired (c .before .before .before .before .before .before .before .before) in
-    let b = block (c .before .before .before .before .before) in
-    let t = strayed (a .h .kept) (c .before .before .before .before .before .before .before .before .before .stray-after .result) in (
-      simp (c .window-from .ensures, c .before .before .before .pack .ensures)
-          (leads-on _ _ _ _ _ _ _ _ _ _ (p .0) (leads-blocks-in (a .h .profile) (a .h .at) t b (set (l .body) (l .j) (c .before .before .before .before .before .before .before .before .before .before .top-byte .result)) (l .j + 1) (p .1 .within) (room (c .before .before .before .before .before)) (omega (arith, p .2)))),
-      stands-past (a .h .profile) (a .h .at) t b (p .1) (c .window-from .ensures),
-      ap length (c .before .before .before .pack .ensures) ∙ packed-length (set (l .body) (l .j) (c .before .before .before .before .before .before .before .before .before .before .top-byte .result)) (l .j + 1) (now (a .s)) (l .i + 2 - 8) n ∙ p .2,
+    let at = c .before .before .before .before .before in
+    let pair = at .before .before .before in
+    let a = pair .before .before .before .before .before .before .before .before .before .before .before .before .before .args in
+    let l = pair .before .before .before .before .before .loop in
+    let n = at .before .far-pairs .result in
+    let p = paired pair in
+    let b = block at in
+    let B = set (l .body) (l .j) (pair .before .before .top-byte .result) in
+    let t = strayed (a .h .kept) (pair .before .stray-after .result) in
+    let many = leads-blocks-in (a .h .profile) (a .h .at) t b (p .1 .within) B (l .j + 1) (room at) (omega (arith, p .2)) in (
+      simp (c .window-from .ensures, c .before .before .before .pack .ensures) (leads-on _ _ _ _ _ _ _ _ _ _ (p .0) many),
+      stands-past b (p .1) (c .window-from .ensures),
+      ap length (c .before .before .before .pack .ensures) ∙ packed-length B (l .j + 1) (now (a .s)) (l .i + 2 - 8) n ∙ p .2,
       placed-on (p .3) n,
       omega arith,
     )

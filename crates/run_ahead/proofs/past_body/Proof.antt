@@ -49,9 +49,9 @@ sub-wait c = omega (arith, c .before .before .before .before .before .before .be
 -- after a pair
 paired : (c : tie.After-next-count2 Inv-loop μ-loop)
     → let a = c .before .before .before .before .before .before .before .before .before .before .args in
-    let l = c .before .before .before .before .before .before .before .loop in
-    Inv-loop (now (a .s)) (a .from) (a .h .profile) (a .h .at) (a .h .kept) (length (now (a .s))) (a .h .count) (a .h .window) (a .h .kept .stray) (a .from) 2
-    (c .next-count2 .result) (c .before .before .slide-byte .result) (c .before .before .before .stray-after .result) (l .i + 2) 1
+    let s = now (a .s) in
+    Inv-loop s (a .from) (a .h .profile) (a .h .at) (a .h .kept) (length s) (a .h .count) (a .h .window) (a .h .kept .stray) (a .from) 2
+    (c .next-count2 .result) (c .before .before .slide-byte .result) (c .before .before .before .stray-after .result) (c .before .before .before .before .before .before .before .loop .i + 2) 1
 paired c =
     let l = c .before .before .before .before .before .before .before .loop in
     let kept = c .before .before .before .before .before .before .before .before .before .before .args .h .kept in
@@ -68,7 +68,9 @@ far-pairs-requires c κs = let st = paired (c .before) .1 in (st .within, st .up
 
 -- a block stands there
 block : (c : tie.Then3 Inv-loop μ-loop)
-    → FarOn (c .before .before .before .before .before .slide-byte .result) (c .before .before .before .before .before .before .stray-after .result) (now (c .before .before .before .before .before .before .before .before .before .before .before .before .before .args .s)) (c .before .before .before .before .before .before .before .before .before .before .loop .i + 2) (length (now (c .before .before .before .before .before .before .before .before .before .before .before .before .before .args .s))) (c .before .far-pairs .result)
+    → let pair = c .before .before .before in
+    let s = now (pair .before .before .before .before .before .before .before .before .before .before .args .s) in
+    FarOn (pair .before .before .slide-byte .result) (pair .before .before .before .stray-after .result) s (pair .before .before .before .before .before .before .before .loop .i + 2) (length s) (c .before .far-pairs .result)
 block c = c .before .far-pairs .ensures .0 (c .if3 .taken)
 
 later-count-requires : tie.Need-later-count-requires Inv-loop μ-loop
@@ -84,24 +86,27 @@ sub-window-from : tie.Need-sub-window-from Inv-loop μ-loop
 sub-window-from c = omega (arith, block (c .before) .behind)
 
 window-from-requires : tie.Need-window-from-requires Inv-loop μ-loop
-window-from-requires c κs =
-    let b = block (c .before) in
-    let h = c .before .before .before .before .before .before .before .before .before .before .before .before .before .before .args .h in
-    (omega (arith, b .up-to, b .behind), last-small (h .profile) (h .at) (strayed (h .kept) (c .before .before .before .before .before .before .before .stray-after .result)) b)
+window-from-requires c κs = let b = block (c .before) in (omega (arith, b .up-to, b .behind), last-small b)
 
 loop-less : tie.Need-loop-less Inv-loop μ-loop
-loop-less c = let f = block (c .before .before) .up-to in omega (arith, there (c .before .before .before .before .before .before .before .before .before .before) .fits)
+loop-less c =
+    let at = c .before .before in
+    let pair = at .before .before .before in
+    omega (arith, block at .up-to, there (pair .before .before .before .before .before) .fits)
 
 loop-again : tie.Need-loop-again Inv-loop μ-loop
 loop-again c =
-    let h = c .before .before .before .before .before .before .before .before .before .before .before .before .before .before .before .args .h in
-    let p = paired (c .before .before .before .before .before) in
-    let b = block (c .before .before) in
-    let t = strayed (h .kept) (c .before .before .before .before .before .before .before .before .stray-after .result) in (
+    let at = c .before .before in
+    let pair = at .before .before .before in
+    let h = pair .before .before .before .before .before .before .before .before .before .before .args .h in
+    let count = pair .next-count2 .result in
+    let p = paired pair in
+    let b = block at in
+    let t = strayed (h .kept) (pair .before .before .before .stray-after .result) in (
       λ B. simp (c .window-from .ensures, c .before .later-count .ensures)
-          (leads-on _ _ B _ _ B _ _ B _ (p .0 B) (leads-blocks-past (h .profile) (h .at) t b B (c .before .before .before .before .before .next-count2 .result) (p .1 .within) (p .2))),
-      stands-past (h .profile) (h .at) t b (p .1) (c .window-from .ensures),
-      omega (arith, p .2, c .before .later-count .ensures, later-more (c .before .before .before .far-pairs .result) (c .before .before .before .before .before .next-count2 .result)),
+          (leads-on _ _ B _ _ B _ _ B _ (p .0 B) (leads-blocks-past (h .profile) (h .at) t b (p .1 .within) B count (p .2))),
+      stands-past b (p .1) (c .window-from .ensures),
+      omega (arith, p .2, c .before .later-count .ensures, later-more (at .before .far-pairs .result) count),
       omega arith,
     )
 

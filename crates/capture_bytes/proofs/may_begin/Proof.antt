@@ -1,10 +1,9 @@
 -- A mark may begin only where both tests hold.
-use mathlib.Core.Path.{_≡_}
 use mathlib.Core.Logic.{inl, inr}
 use native.Mathlib.Omega.{arith}
 use borrow.Author.Needs.{needs}
-use Rattle.capture_bytes.proofs.begun.Statement.{statement}
-use Rattle.capture_bytes.proofs.begun.Tie as tie
+use Rattle.capture_bytes.proofs.may_begin.Statement.{statement}
+use Rattle.capture_bytes.proofs.may_begin.Tie as tie
 
 returns : tie.Need-returns
 returns c = (search needs, λ e. absurd (omega arith))
@@ -15,5 +14,5 @@ returns-2 c = (search needs, λ e. inr (search needs))
 returns-3 : tie.Need-returns-3
 returns-3 c = (search needs, λ e. inl (search needs))
 
-pub begun-spec : {M : Type 1} → statement M
-begun-spec = tie.close (tie.spec returns returns-2 returns-3)
+pub may-begin-spec : {M : Type 1} → statement M
+may-begin-spec = tie.close (tie.spec returns returns-2 returns-3)
