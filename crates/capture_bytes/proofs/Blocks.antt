@@ -487,7 +487,7 @@ module _ (bs : List ℕ) (known : (i : ℕ) → getD bs i 0 < 256) where
         → Quiet h (nibbles bs) at n
     quiet-far stray one many = record { behind = behind; up-to = ends; shown = shown-there; no-mark = none; still = λ x l k. inl stray }
       where
-        none : (x : ℕ) → at < x + 8 → x + 8 ≤ at + 2 * n → isMark (windowFrom (nibbles bs) x) ≡ false
+        none : (x : ℕ) → at < x + 8 → x + 8 ≤ at + 2 * n → showsMark (windowFrom (nibbles bs) x) ≡ false
         none x l k =
             ⊎-elim
             (λ (d : (x + 1) / 2 < at / 2 + at % 2 - 3). none-there x (at / 2 - 3) (omega arith)
