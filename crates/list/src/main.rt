@@ -35,14 +35,26 @@ fn list_asked(asked: Asked) {
 // Lists the whole of an input. Its first piece is read before the head is written: an input that can't be read is told, and nothing is listed.
 fn list_input(lister: MarkLister, fd: i32, name: &[u8]) {
     let mut buf = io::large_buffer();
-    let got = libc::read(fd, &mut buf);
+    let mut out = io::large_buffer();
+    list_in(lister, fd, name, &mut buf, &mut out);
+}
+
+// The same, by way of a buffer for the pieces and one for the rows, which are cleared once.
+fn list_in(lister: MarkLister, fd: i32, name: &[u8], buf: &mut [u8], out: &mut [u8]) {
+    let got = libc::read(fd, buf);
     if got < 0 {
         os::fail(name);
         return;
     }
-    let n = io::count(got, &buf);
+    let n = io::count(got, buf);
     if write_head() {
-        list_from(lister, &buf[..n], fd, name);
+        let begun = list_piece(lister, &buf[..n], out);
+        let end = list_rest(begun, fd, name, buf, out);
+        if end.failed {
+            return;
+        }
+        let lister = end.lister;
+        write_end(lister);
     }
 }
 
@@ -50,17 +62,6 @@ fn write_head() -> bool {
     let mut out = io::buffer();
     let used = list_rows::header(&mut out);
     write(&out[..used])
-}
-
-// Lists an input of which the first piece has been read.
-fn list_from(lister: MarkLister, piece: &[u8], fd: i32, name: &[u8]) {
-    let begun = list_piece(lister, piece);
-    let end = list_rest(begun, fd, name);
-    if end.failed {
-        return;
-    }
-    let lister = end.lister;
-    write_end(lister);
 }
 
 fn write_end(lister: MarkLister) {
@@ -78,13 +79,13 @@ struct Turn {
 }
 
 // Lists the rest of an input. Nothing says that an input ends, so the loop counts its turns down, from a number that no run uses up.
-fn list_rest(begun: Turn, fd: i32, name: &[u8]) -> Turn {
+fn list_rest(begun: Turn, fd: i32, name: &[u8], buf: &mut [u8], out: &mut [u8]) -> Turn {
     let mut turn = begun;
     let mut turns = u64::MAX;
     while turns > 0 {
         let l = turn.lister;
         if turn.more {
-            turn = list_some(l, fd, name);
+            turn = list_some(l, fd, name, buf, out);
         } else {
             return turn;
         }
@@ -94,24 +95,22 @@ fn list_rest(begun: Turn, fd: i32, name: &[u8]) -> Turn {
 }
 
 // Reads once, and lists what came.
-fn list_some(lister: MarkLister, fd: i32, name: &[u8]) -> Turn {
-    let mut buf = io::large_buffer();
-    let got = libc::read(fd, &mut buf);
+fn list_some(lister: MarkLister, fd: i32, name: &[u8], buf: &mut [u8], out: &mut [u8]) -> Turn {
+    let got = libc::read(fd, buf);
     if got < 0 {
         os::fail(name);
         return failed(lister);
     }
-    let n = io::count(got, &buf);
-    list_piece(lister, &buf[..n])
+    let n = io::count(got, buf);
+    list_piece(lister, &buf[..n], out)
 }
 
 // Lists a piece, nibble after nibble, and writes its text as often as it fills the buffer. An empty piece is the input's end.
-fn list_piece(lister: MarkLister, piece: &[u8]) -> Turn {
-    let mut out = io::large_buffer();
+fn list_piece(lister: MarkLister, piece: &[u8], out: &mut [u8]) -> Turn {
     let mut l = lister;
     let mut at: usize = 0;
     while at < 2 * piece.len() {
-        let done = l.list(piece, at, &mut out);
+        let done = l.list(piece, at, out);
         let used = done.used;
         l = done.lister;
         if write(&out[..used]) {

@@ -1,5 +1,5 @@
 -- A call takes no more nibbles than are left and its text has room, so the front written has its length; a turn that goes on takes some.
-use mathlib.Core.Path.{sym, ap, _∙_, _≡_}
+use mathlib.Core.Path.{refl, sym, ap, _∙_, _≡_}
 use Prim.Native.Nat.{_+_, _*_, _≤_, _-_}
 use native.Mathlib.Omega.{arith}
 use lib.ListN.{drop, length-drop, length}
@@ -15,7 +15,7 @@ use Rattle.list.proofs.list_piece.Statement.{statement}
 use Rattle.list.proofs.list_piece.Tie as tie
 
 abbrev Inv-loop : tie.InvT-loop
-Inv-loop piece out₀ l₀ at₀ out l at = (at ≤ 2 * length piece) × (65536 ≡ length out)
+Inv-loop piece out₀ l₀ at₀ out l at = (at ≤ 2 * length piece) × (length out ≡ length out₀)
 
 abbrev μ-loop : tie.MeasureT-loop
 μ-loop piece out₀ l₀ at₀ out l at = 2 * length piece - at
@@ -41,26 +41,39 @@ taken-fits c =
 mul-loop : tie.Need-mul-loop Inv-loop μ-loop
 mul-loop c = omega (arith, c .before .before .before .good .1 .0 .1)
 
-array-share-prefix-out : tie.Need-array-share-prefix-out Inv-loop μ-loop
-array-share-prefix-out c = used-fits (c .before .before)
+-- the buffer for the rows keeps its length
+kept : (c : tie.After-list Inv-loop μ-loop) → length (c .list .last .1 .1 .1 .0) ≡ length (c .before .before .before .before .before .before .args .out .now)
+kept c = c .list .kept .1 .1 .1 .0 ∙ c .before .before .before .loop .inv .1
+
+loop-holds : tie.Need-loop-holds Inv-loop μ-loop
+loop-holds c = (search needs, refl)
+
+slice-reshare-prefix-write : tie.Need-slice-reshare-prefix-write Inv-loop μ-loop
+slice-reshare-prefix-write c = used-fits (c .before .before .before)
 
 slice-aggregate-write : tie.Need-slice-aggregate-write Inv-loop μ-loop
-slice-aggregate-write c = sym (length-take-le _ _ (used-fits (c .before .before .before)))
+slice-aggregate-write c = sym (length-take-le _ _ (used-fits (c .before .before .before .before)))
+
+same-length : tie.Need-same-length Inv-loop μ-loop
+same-length c = kept (c .before .before .before .before .before .before .before .before .before)
 
 add-at : tie.Need-add-at Inv-loop μ-loop
 add-at c =
-    let listed = c .before .before .before .before .before .before .before .before in
+    let listed = c .before .before .before .before .before .before .before .before .before in
     omega (arith, taken-fits listed, listed .before .before .before .before .before .before .good .1 .0 .1)
 
 loop-less : tie.Need-loop-less Inv-loop μ-loop
 loop-less c =
-    let listed = c .before .before .before .before .before .before .before .before in
+    let listed = c .before .before .before .before .before .before .before .before .before in
     omega (arith, c .before .if2 .left, taken-fits listed, listed .before .before .loop-test .taken)
 
 loop-again : tie.Need-loop-again Inv-loop μ-loop
 loop-again c =
-    let listed = c .before .before .before .before .before .before .before .before in
-    (taken-fits listed, listed .before .before .before .loop .inv .1 ∙ sym (listed .list .kept .1 .1 .1 .0))
+    let listed = c .before .before .before .before .before .before .before .before .before in
+    (taken-fits listed, kept listed)
+
+same-length-2 : tie.Need-same-length-2 Inv-loop μ-loop
+same-length-2 c = kept (c .before .before .before .before .before .before .before)
 
 pub list-piece-spec : {M : Type 1} → statement M
 list-piece-spec =
@@ -68,19 +81,20 @@ list-piece-spec =
     (tie.spec
     Inv-loop
     μ-loop
-    (λ c κs. search needs)
-    (λ c. search needs)
+    loop-holds
     mul-loop
-    (λ c. search needs)
     (λ c κs. search needs)
-    array-share-prefix-out
+    slice-reshare-prefix-write
     slice-aggregate-write
     (λ c κs. search needs)
     (λ c κs. search needs)
+    same-length
     (λ c. search needs)
     add-at
     loop-less
     loop-again
     (λ c κs. search needs)
+    same-length-2
+    (λ c. search needs)
     (λ c. search needs)
     (λ c. search needs))
