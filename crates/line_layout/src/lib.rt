@@ -1,8 +1,8 @@
 // The line layout of both sensor profiles (paper 01, 'Line layout').
 //
 // In: a profile, a line's kind, and a place, a body or two gap bytes. Out: what the place may hold; whether the body has the profile's length and
-// each of its bytes is allowed at its place; whether the two bytes may follow the end of the line. Nothing is refused. Cost: constant, but for the scan
-// of a body, which is linear.
+// each of its bytes is allowed at its place; whether the two bytes may follow the end of the line. Nothing is refused. Cost: constant, but for the
+// scan of a body, which is linear.
 ghost use mathlib.Core.Path.{_≡_};
 ghost use Prim.Native.Nat.{_≤_};
 ghost use lib.ListN.{getD};

@@ -1,8 +1,8 @@
 // The text of a list of saved settings (crate `saved_lines`), read.
 //
-// In: a text, of any bytes. Out: the list whose text it is; carriage returns don't count, and the last newline may be missing. Any other text is refused
-// with 37 NOT_SAVED_SETTINGS: the numbers of its lines are gathered, and their list's text is compared with it. So a number that is too large or has
-// a digit too many, a ninth line, a line for an unused place and a wrong word are refused by one test. Cost: linear in the text.
+// In: a text, of any bytes. Out: the list whose text it is; carriage returns don't count, and the last newline may be missing. Any other text is
+// refused with 37 NOT_SAVED_SETTINGS: the numbers of its lines are gathered, and their list's text is compared with it. So a number that is too
+// large or has a digit too many, a ninth line, a line for an unused place and a wrong word are refused by one test. Cost: linear in the text.
 ghost use mathlib.Core.Path.{_≡_};
 ghost use Prim.Native.Nat.{_≤_};
 ghost use lib.ListN.{drop};

@@ -5,6 +5,7 @@ ghost use mathlib.Core.Path.{_≡_};
 ghost use Prim.Native.Nat.{_≤_};
 ghost use lib.ListN.{length};
 use lent_buffer::Filled;
+use libc::STDERR_FILENO;
 use libc::STDIN_FILENO;
 use libc::STDOUT_FILENO;
 use line_code::Kind;
@@ -14,21 +15,13 @@ use profile::Profile;
 // The bytes of the largest capture: ten frames of a VV5300.
 const MOST: usize = 320000;
 
-// Lines of a frame from one place on, up to another: the sensor, whether borders are on, and what happens to each line on its way: two bits of
-// the nibble at a place flip, none where that is 0, and the nibbles from one place on, up to another, are missing.
-struct Lines {
-    profile: Profile,
-    on: bool,
-    from: usize,
-    to: usize,
-    flipped: usize,
-    out: usize,
-    back: usize,
-}
-
 fn main() {
     let mut script = io::buffer();
     let n = io::read_full(STDIN_FILENO, &mut script);
+    if n == 4096 {
+        io::write_all(STDERR_FILENO, b"the script is longer than 4,095 bytes\n");
+        return;
+    }
     run(&script[..n]);
 }
 
@@ -80,7 +73,7 @@ fn step(line: &[u8], bytes: &mut [u8], at: usize) -> usize {
     }
     match line[0] {
         b'#' => titled(line),
-        b'l' => put_lines(lines_in(line), bytes, at),
+        b'l' => put_lines(line, bytes, at),
         b'z' => put_zeros(number_at(line, 1), bytes, at),
         b'j' => judged(sensor(number_at(line, 1)), bytes, at),
         _ => at,
@@ -92,19 +85,6 @@ fn titled(line: &[u8]) -> usize {
     say(line);
     say(b"\n");
     0
-}
-
-fn lines_in(line: &[u8]) -> Lines {
-    let profile = sensor(number_at(line, 1));
-    Lines {
-        profile,
-        on: number_at(line, 2) == 1,
-        from: number_at(line, 3),
-        to: number_at(line, 4),
-        flipped: number_at(line, 5),
-        out: number_at(line, 6),
-        back: number_at(line, 7),
-    }
 }
 
 fn sensor(number: usize) -> Profile {
@@ -187,25 +167,27 @@ fn say_front(text: &[u8], count: usize) {
     }
 }
 
-// Puts lines at a nibble's place, and gives the place after them.
-fn put_lines(lines: Lines, bytes: &mut [u8], at: usize) -> usize {
+// Puts lines of a frame at a nibble's place, and gives the place after them. The numbers of the script's line: the sensor, whether borders are on,
+// the frame's place to start from and the one to stop at; and what happens to each line on its way: the nibble of which two bits flip, none where
+// that is 0, and the nibbles that are missing, from one place on, up to another.
+fn put_lines(line: &[u8], bytes: &mut [u8], at: usize) -> usize {
+    let to = number_at(line, 4);
     let mut next = at;
-    let mut place = lines.from;
-    while place < lines.to {
-        next = put_line(lines, place, bytes, next);
+    let mut place = number_at(line, 3);
+    while place < to {
+        next = put_line(line, place, bytes, next);
         place += 1;
     }
     next
 }
 
 // Puts the line at a place of a frame.
-fn put_line(lines: Lines, place: usize, bytes: &mut [u8], at: usize) -> usize {
+fn put_line(line: &[u8], place: usize, bytes: &mut [u8], at: usize) -> usize {
     let mut nibbles = [0u8; 800];
-    let profile = lines.profile;
-    let n = write(profile, lines.on, place, &mut nibbles);
-    flip(&mut nibbles, lines.flipped);
-    let next = put_nibbles(&nibbles, 0, lines.out, bytes, at);
-    put_nibbles(&nibbles, lines.back, n, bytes, next)
+    let n = write(line, place, &mut nibbles);
+    flip(&mut nibbles, number_at(line, 5));
+    let next = put_nibbles(&nibbles, 0, number_at(line, 6), bytes, at);
+    put_nibbles(&nibbles, number_at(line, 7), n, bytes, next)
 }
 
 // Flips two bits of the nibble at a place, none at 0.
@@ -219,13 +201,14 @@ fn flip(nibbles: &mut [u8], at: usize) {
 }
 
 // The nibbles of the line at a place of a frame, with no null bytes, and how many they are. Filler may stand in every body.
-fn write(profile: Profile, on: bool, place: usize, nibbles: &mut [u8]) -> usize {
+fn write(line: &[u8], place: usize, nibbles: &mut [u8]) -> usize {
     let body = [Profile::FILLER; Profile::LONGEST];
+    let profile = sensor(number_at(line, 1));
     let length = profile.body_length();
     if Profile::LONGEST < length {
         return 0;
     }
-    let kind = kind_at(profile, on, place);
+    let kind = kind_at(profile, number_at(line, 2) == 1, place);
     write_line(profile, kind, place, &body[..length], nibbles)
 }
 

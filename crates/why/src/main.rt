@@ -53,12 +53,21 @@ struct Search {
 fn seek_all(profile: Profile, wanted: u64, fd: i32, name: &[u8]) {
     let mut buf = io::large_buffer();
     let mut held = [0u8; why_line::KEPT];
-    seek_in(profile, wanted, fd, name, &mut buf, &mut held);
+    let mut out = io::large_buffer();
+    seek_in(profile, wanted, fd, name, &mut buf, &mut held, &mut out);
 }
 
 // Searches the whole of an input, behind the finder's first piece. Nothing says that an input ends, so the loop counts its turns down, from a
 // number that no run uses up.
-fn seek_in(profile: Profile, wanted: u64, fd: i32, name: &[u8], buf: &mut [u8], held: &mut [u8]) {
+fn seek_in(
+    profile: Profile,
+    wanted: u64,
+    fd: i32,
+    name: &[u8],
+    buf: &mut [u8],
+    held: &mut [u8],
+    out: &mut [u8],
+) {
     let finder = Finder::new(profile);
     let mut search = Search {
         finder,
@@ -69,7 +78,7 @@ fn seek_in(profile: Profile, wanted: u64, fd: i32, name: &[u8], buf: &mut [u8], 
     let mut from: usize = 0;
     let mut turns = u64::MAX;
     while turns > 0 {
-        search = seek_piece(search, wanted, buf, n, from, held);
+        search = seek_piece(search, wanted, buf, n, from, held, out);
         if search.ended {
             return;
         }
@@ -80,7 +89,7 @@ fn seek_in(profile: Profile, wanted: u64, fd: i32, name: &[u8], buf: &mut [u8], 
             return;
         }
         if got == 0 {
-            finish(search, wanted, held);
+            finish(search, wanted, held, out);
             return;
         }
         n = with_overlap(got, buf);
@@ -106,7 +115,8 @@ fn with_overlap(got: isize, buf: &[u8]) -> usize {
     n + mark_finder::OVERLAP
 }
 
-// Searches the first n bytes of a buffer, mark after mark, from a nibble's place on.
+// Searches the first n bytes of a buffer, mark after mark, from a nibble's place on. The lines on them are collected, and written when the buffer for
+// them may have no room for one more, and at the end.
 fn seek_piece(
     search: Search,
     wanted: u64,
@@ -114,6 +124,7 @@ fn seek_piece(
     n: usize,
     from: usize,
     held: &mut [u8],
+    out: &mut [u8],
 ) -> Search {
     let mut finder = search.finder;
     let mut told = search.told;
@@ -122,10 +133,12 @@ fn seek_piece(
     }
     let piece = &buf[..n];
     let mut at = from;
+    let mut used: usize = 0;
     while at / 2 < piece.len() {
         let found = finder.find(piece, at, held);
         let next = later(at, found.taken);
         if next <= at {
+            write_front(out, used);
             return end(finder, told);
         }
         at = next;
@@ -133,19 +146,24 @@ fn seek_piece(
         if found.answered {
             let mark = found.mark;
             if mark_finder::is_wanted(mark, wanted) {
-                told = tell(mark, held, found.length);
+                used = tell(mark, held, found.length, out, used);
+                told = 0 < used;
                 if is_last(told, wanted) {
+                    write_front(out, used);
                     return end(finder, told);
                 }
             }
         }
     }
-    let finder = finder.end_piece(piece, held);
-    Search {
-        finder,
-        told,
-        ended: false,
+    if write_front(out, used) {
+        let finder = finder.end_piece(piece, held);
+        return Search {
+            finder,
+            told,
+            ended: false,
+        };
     }
+    end(finder, told)
 }
 
 // A place and some nibbles more: the same place where there are more than any piece has.
@@ -176,11 +194,12 @@ fn is_last(told: bool, wanted: u64) -> bool {
 }
 
 // Tells the last mark, where it is asked for. Where nothing was told, says so.
-fn finish(search: Search, wanted: u64, held: &[u8]) {
+fn finish(search: Search, wanted: u64, held: &[u8], out: &mut [u8]) {
     let finder = search.finder;
     let mark = finder.finish();
     if mark_finder::is_wanted(mark, wanted) {
-        tell(mark, held, finder.length);
+        let used = tell(mark, held, finder.length, out, 0);
+        write_front(out, used);
         return;
     }
     if search.told {
@@ -197,14 +216,38 @@ fn finish(search: Search, wanted: u64, held: &[u8]) {
     }
 }
 
-// Tells a mark, whose bytes are the first n of those held.
-fn tell(mark: Located, held: &[u8], n: usize) -> bool {
+// Puts the line on a mark, whose bytes are the first n of those held, behind the lines collected, and gives how many bytes are collected then.
+// Where there may be no room for it, those are written first. 0 where that fails.
+fn tell(mark: Located, held: &[u8], n: usize, out: &mut [u8], used: usize) -> usize {
     if held.len() < n {
-        return false;
+        return 0;
     }
-    let mut out = io::buffer();
-    let used = why_line::tell(mark, &held[..n], &mut out);
-    write_front(&out, used)
+    if has_room(out.len(), used) {
+        return put_line(mark, &held[..n], out, used);
+    }
+    if write_front(out, used) {
+        return put_line(mark, &held[..n], out, 0);
+    }
+    0
+}
+
+// Whether a buffer of this length has room for a line behind its first n bytes.
+fn has_room(length: usize, n: usize) -> bool {
+    if n <= length {
+        return why_line::ROOM <= length - n;
+    }
+    false
+}
+
+fn put_line(mark: Located, bytes: &[u8], out: &mut [u8], at: usize) -> usize {
+    if out.len() < at {
+        return at;
+    }
+    let n = why_line::tell(mark, bytes, &mut out[at..]);
+    if out.len() - at < n {
+        return at;
+    }
+    at + n
 }
 
 // Writes the first n bytes of a buffer, or says why it cannot.

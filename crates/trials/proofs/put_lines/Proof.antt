@@ -7,10 +7,10 @@ use Rattle.trials.proofs.put_lines.Statement.{statement}
 use Rattle.trials.proofs.put_lines.Tie as tie
 
 abbrev Inv-loop : tie.InvT-loop
-Inv-loop lines bytes₀ at next₀ place₀ bytes next place = length bytes ≡ length bytes₀
+Inv-loop line bytes₀ at to next₀ place₀ bytes next place = length bytes ≡ length bytes₀
 
 abbrev μ-loop : tie.MeasureT-loop
-μ-loop lines bytes₀ at next₀ place₀ bytes next place = lines .to - place
+μ-loop line bytes₀ at to next₀ place₀ bytes next place = to - place
 
 pub put-lines-spec : {M : Type 1} → statement M
 put-lines-spec =
@@ -18,6 +18,8 @@ put-lines-spec =
     (tie.spec
     Inv-loop
     μ-loop
+    (λ c κs. search needs)
+    (λ c κs. search needs)
     (λ c. search needs)
     (λ c κs. search needs)
     (λ c. search needs)

@@ -5,8 +5,11 @@ use borrow.Author.Needs.{needs}
 use Rattle.why.proofs.tell.Statement.{statement}
 use Rattle.why.proofs.tell.Tie as tie
 
-slice-aggregate-tell : tie.Need-slice-aggregate-tell
-slice-aggregate-tell c = sym (length-take-le _ _ (c .before .before .if1 .left))
+slice-aggregate-put-line : tie.Need-slice-aggregate-put-line
+slice-aggregate-put-line c = sym (length-take-le _ _ (c .before .before .before .if1 .left))
+
+slice-aggregate-put-line-2 : tie.Need-slice-aggregate-put-line-2
+slice-aggregate-put-line-2 c = sym (length-take-le _ _ (c .before .before .before .before .before .before .if1 .left))
 
 pub tell-spec : {M : Type 1} → statement M
 tell-spec =
@@ -14,9 +17,14 @@ tell-spec =
     (tie.spec
     (λ c. search needs)
     (λ c κs. search needs)
-    slice-aggregate-tell
-    (λ c. search needs)
+    slice-aggregate-put-line
     (λ c κs. search needs)
     (λ c. search needs)
+    (λ c. search needs)
     (λ c κs. search needs)
+    slice-aggregate-put-line-2
+    (λ c κs. search needs)
+    (λ c. search needs)
+    (λ c. search needs)
+    (λ c. search needs)
     (λ c. search needs))
