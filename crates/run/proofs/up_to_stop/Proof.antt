@@ -26,8 +26,10 @@ abbrev μ-loop : tie.MeasureT-loop
 
 loop-holds : tie.Need-loop-holds Inv-loop μ-loop
 loop-holds c =
-    let a = c .before .before .before .before .before .before .before .before .args in
-    let first = ahead-reaches (now (a .nibbles)) (a .start) (now (a .body)) 0 (omega arith) (c .before .before .before .ahead .ensures) in
+    let first-ahead = c .before .before .before in
+    let entry = first-ahead .before .before .before .before .before in
+    let a = entry .args in
+    let first = ahead-reaches (now (a .nibbles)) (a .start) (now (a .body)) 0 (omega arith) (first-ahead .ahead .ensures) in
     (leads-here _ _ _ _, first .within, refl, search needs, refl)
 
 same-length-2 : tie.Need-same-length-2 Inv-loop μ-loop
@@ -35,41 +37,57 @@ same-length-2 c = ap length (c .before .before .before .before .loop .inv .2)
 
 returns : tie.Need-returns Inv-loop μ-loop
 returns c =
-    let a = c .before .before .before .before .before .before .before .before .before .before .before .before .before .args in
-    let first = ahead-reaches (now (a .nibbles)) (a .start) (now (a .body)) 0 (omega arith) (c .before .before .before .before .before .before .before .before .ahead .ensures) in
-    let l = c .before .before .before .before .loop in
+    let tested = c .before .before .before in
+    let turn = tested .before in
+    let first-ahead = turn .before .before .before .before in
+    let entry = first-ahead .before .before .before .before .before in
+    let a = entry .args in
+    let first = ahead-reaches (now (a .nibbles)) (a .start) (now (a .body)) 0 (omega arith) (first-ahead .ahead .ensures) in
+    let l = turn .loop in
     let e = c .refuse .ensures in
     let s = now (a .nibbles) in
     let led = leads-on s _ _ _ _ _ _ _ _ _ (first .leads) (l .inv .0) in
-    ends-as (ends (now (a .buffer)) (stops-above s _ _ _ _ _ led (c .before .before .before .loop-test .taken) (c .before .if1 .taken)) (e .1) (l .inv .2)) (e .0) refl (e .2)
+    ends-as (ends (now (a .buffer)) (stops-above s _ _ _ _ _ led (tested .loop-test .taken) (c .before .if1 .taken)) (e .1) (l .inv .2)) (e .0) refl (e .2)
 
 take-requires : tie.Need-take-requires Inv-loop μ-loop
 take-requires c κs =
-    let a = c .before .before .before .before .before .before .before .before .before .before .before .before .before .before .args in
-    let first = ahead-reaches (now (a .nibbles)) (a .start) (now (a .body)) 0 (omega arith) (c .before .before .before .before .before .before .before .before .before .ahead .ensures) in
-    let l = c .before .before .before .before .before .loop in
+    let turn = c .before .before .before .before .before in
+    let first-ahead = turn .before .before .before .before in
+    let entry = first-ahead .before .before .before .before .before in
+    let a = entry .args in
+    let first = ahead-reaches (now (a .nibbles)) (a .start) (now (a .body)) 0 (omega arith) (first-ahead .ahead .ensures) in
+    let l = turn .loop in
     let p = ap bodyLength (l .inv .4 ∙ first .same-profile) in
     (omega arith, omega (arith, p, ap length (l .inv .2)), l .inv .3)
 
 add-i : tie.Need-add-i Inv-loop μ-loop
 add-i c =
-    let good = c .before .before .before .before .before .before .before .before .before .before .before .before .before .before .before .before .before .before .before .before .good in
-    let loop-test = c .before .before .before .before .before .before .before .before .before .before .loop-test in
+    let tested = c .before .before .before .before .before .before .before .before .before .before in
+    let entered = tested .before .before .before .before .before .before .before .before .before .before in
+    let good = entered .good in
+    let loop-test = tested .loop-test in
     omega (arith, loop-test .taken, good)
 
 same-length-4 : tie.Need-same-length-4 Inv-loop μ-loop
 same-length-4 c =
-    let loop = c .before .before .before .before .before .before .before .before .before .before .before .before .before .loop in
-    let take = c .before .before .before .before .before .before .before .take in
+    let took = c .before .before .before .before .before .before .before in
+    let turn = took .before .before .before .before .before .before in
+    let loop = turn .loop in
+    let take = took .take in
     take .kept .1 .1 .1 .0 ∙ ap length (loop .inv .2)
 
 returns-2 : tie.Need-returns-2 Inv-loop μ-loop
 returns-2 c =
-    let loop-test = c .before .before .before .before .before .before .before .before .before .before .before .before .loop-test in
-    let a = c .before .before .before .before .before .before .before .before .before .before .before .before .before .before .before .before .before .before .before .before .before .before .args in
-    let first = ahead-reaches (now (a .nibbles)) (a .start) (now (a .body)) 0 (omega arith) (c .before .before .before .before .before .before .before .before .before .before .before .before .before .before .before .before .before .ahead .ensures) in
-    let l = c .before .before .before .before .before .before .before .before .before .before .before .before .before .loop in
-    let e = c .before .before .before .before .before .before .before .take .ensures in
+    let took = c .before .before .before .before .before .before .before in
+    let tested = took .before .before .before .before .before in
+    let turn = tested .before in
+    let first-ahead = turn .before .before .before .before in
+    let entry = first-ahead .before .before .before .before .before in
+    let loop-test = tested .loop-test in
+    let a = entry .args in
+    let first = ahead-reaches (now (a .nibbles)) (a .start) (now (a .body)) 0 (omega arith) (first-ahead .ahead .ensures) in
+    let l = turn .loop in
+    let e = took .take .ensures in
     let s = now (a .nibbles) in
     let led = leads-on s _ _ _ _ _ _ _ _ _ (first .leads) (l .inv .0) in
     let some = sym (c .before .is-answer .ensures ∙ ap isAnswer (e .says)) ∙ c .if2 .taken in
@@ -77,21 +95,32 @@ returns-2 c =
 
 loop-less : tie.Need-loop-less Inv-loop μ-loop
 loop-less c =
-    let loop-test = c .before .before .before .before .before .before .before .before .before .before .before .before .before .before .before .before .before .loop-test in
-    let a = c .before .before .before .before .before .before .before .before .before .before .before .before .before .before .before .before .before .before .before .before .before .before .before .before .before .before .before .args in
-    let l = c .before .before .before .before .before .before .before .before .before .before .before .before .before .before .before .before .before .before .loop in
-    let f = ahead-reaches (now (a .nibbles)) _ _ (l .i + 1) (omega (arith, loop-test .taken)) (c .before .before .before .ahead2 .ensures) in
+    let next-ahead = c .before .before .before in
+    let tested = next-ahead .before .before .before .before .before .before .before .before .before .before .before .before .before .before in
+    let turn = tested .before in
+    let entry = turn .before .before .before .before .before .before .before .before .before in
+    let loop-test = tested .loop-test in
+    let a = entry .args in
+    let l = turn .loop in
+    let f = ahead-reaches (now (a .nibbles)) _ _ (l .i + 1) (omega (arith, loop-test .taken)) (next-ahead .ahead2 .ensures) in
     omega (arith, loop-test .taken, f .from-on, f .within)
 
 loop-again : tie.Need-loop-again Inv-loop μ-loop
 loop-again c =
-    let loop-test = c .before .before .before .before .before .before .before .before .before .before .before .before .before .before .before .before .before .loop-test in
-    let a = c .before .before .before .before .before .before .before .before .before .before .before .before .before .before .before .before .before .before .before .before .before .before .before .before .before .before .before .args in
-    let l = c .before .before .before .before .before .before .before .before .before .before .before .before .before .before .before .before .before .before .loop in
-    let e = c .before .before .before .before .before .before .before .before .before .before .before .before .take .ensures in
+    let next-ahead = c .before .before .before in
+    let at-if2 = next-ahead .before .before in
+    let asked = at-if2 .before in
+    let took = asked .before .before .before .before .before .before in
+    let tested = took .before .before .before .before .before in
+    let turn = tested .before in
+    let entry = turn .before .before .before .before .before .before .before .before .before in
+    let loop-test = tested .loop-test in
+    let a = entry .args in
+    let l = turn .loop in
+    let e = took .take .ensures in
     let s = now (a .nibbles) in
-    let f = ahead-reaches s _ _ (l .i + 1) (omega (arith, loop-test .taken)) (c .before .before .before .ahead2 .ensures) in
-    let quiet = sym (c .before .before .before .before .before .before .is-answer .ensures ∙ ap isAnswer (e .says)) ∙ c .before .before .before .before .before .if2 .left in (
+    let f = ahead-reaches s _ _ (l .i + 1) (omega (arith, loop-test .taken)) (next-ahead .ahead2 .ensures) in
+    let quiet = sym (asked .is-answer .ensures ∙ ap isAnswer (e .says)) ∙ at-if2 .if2 .left in (
       leads-on s _ _ _ _ _ _ _ _ _ (l .inv .0)
           (leads-on s _ _ _ _ _ _ _ _ _ (leads-one s (l .h) (l .body) (l .i) (loop-test .taken) (omega arith) (e .next) (e .keeps) quiet) (f .leads)),
       f .within,
@@ -105,10 +134,12 @@ same-length-6 c = ap length (c .before .loop .inv .2)
 
 returns-3 : tie.Need-returns-3 Inv-loop μ-loop
 returns-3 c =
-    let a = c .before .before .before .before .before .before .before .before .before .before .args in
+    let first-ahead = c .before .before .before .before .before in
+    let entry = first-ahead .before .before .before .before .before in
+    let a = entry .args in
     let l = c .before .loop in
     let s = now (a .nibbles) in
-    let first = ahead-reaches s (a .start) (now (a .body)) 0 (omega arith) (c .before .before .before .before .before .ahead .ensures) in
+    let first = ahead-reaches s (a .start) (now (a .body)) 0 (omega arith) (first-ahead .ahead .ensures) in
     let led = leads-on s _ _ _ _ _ _ _ _ _ (first .leads) (l .inv .0) in
     ends (now (a .buffer)) (stops-end s _ _ _ _ _ led (c .loop-test .left)) refl (l .inv .2)
 
