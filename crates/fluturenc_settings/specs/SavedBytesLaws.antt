@@ -15,7 +15,7 @@ use Rattle.line_records.specs.Lines.{fromTwo}
 use Rattle.saved_setting.specs.declared.SavedSetting.{SavedSetting}
 use Rattle.saved_setting.specs.SavedSettings.{Reply, yields, refused, mayFollow, settingPlaces, versionsInOrder, isSavedList, ListReply, keepingList, savedWanted, foundIn, savedAgain}
 use Rattle.saved_laws.specs.Histories.{usedOf, SettingCall, saving, goingBack, calledOn, afterCalls}
-use Rattle.saved_laws.specs.OrderLaws.{sides}
+use Rattle.bits.specs.Tests.{sides}
 use Rattle.saved_laws.specs.HistoryLaws.{refusal-keeps, stays-ordered}
 use Rattle.fluturenc_settings.specs.SavedBytes.{placeSize, listSize, placeBytes, listBytes, frontSetting, firstSettings, listIn, bytesAfter}
 

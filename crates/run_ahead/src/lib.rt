@@ -82,7 +82,7 @@ const COUNT_STOP: u32 = Nibbles::MOST as u32 + 8;
 // The nibbles of a block; and how many pairs are taken before the first is tried, so that where marks are dense none is tried in vain.
 const BLOCK: usize = 32;
 
-const FEW: usize = 2;
+const FEW: usize = 6;
 
 // The code of a text, and the two bytes after it.
 fn before_body(h: Head, s: &[u8], from: usize) -> Reached

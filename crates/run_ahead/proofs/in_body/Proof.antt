@@ -94,7 +94,7 @@ paired : (c : tie.After-slide-byte Inv-loop μ-loop)
     let l = c .before .before .before .before .before .loop in
     let place = (a .h .count - 14) / 2 in
     let end = c .before .before .before .before .before .before .sooner .result in
-    Inv-loop (now (a .body)) (now (a .s)) (a .from) (a .h .profile) (a .h .at) (a .h .kept) place end (a .h .window) (a .h .kept .stray) place (a .from) 2
+    Inv-loop (now (a .body)) (now (a .s)) (a .from) (a .h .profile) (a .h .at) (a .h .kept) place end (a .h .window) (a .h .kept .stray) place (a .from) 6
     (set (l .body) (l .j) (c .before .before .top-byte .result)) (c .slide-byte .result) (c .before .stray-after .result) (l .j + 1) (l .i + 2) 1
 paired c =
     let l = c .before .before .before .before .before .loop in

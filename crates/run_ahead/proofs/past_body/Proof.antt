@@ -50,7 +50,7 @@ sub-wait c = omega (arith, c .before .before .before .before .before .before .be
 paired : (c : tie.After-next-count2 Inv-loop μ-loop)
     → let a = c .before .before .before .before .before .before .before .before .before .before .args in
     let s = now (a .s) in
-    Inv-loop s (a .from) (a .h .profile) (a .h .at) (a .h .kept) (length s) (a .h .count) (a .h .window) (a .h .kept .stray) (a .from) 2
+    Inv-loop s (a .from) (a .h .profile) (a .h .at) (a .h .kept) (length s) (a .h .count) (a .h .window) (a .h .kept .stray) (a .from) 6
     (c .next-count2 .result) (c .before .before .slide-byte .result) (c .before .before .before .stray-after .result) (c .before .before .before .before .before .before .before .loop .i + 2) 1
 paired c =
     let l = c .before .before .before .before .before .before .before .loop in

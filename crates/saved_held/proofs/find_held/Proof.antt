@@ -177,4 +177,4 @@ find-held-spec 𝓤 H 𝓜 𝓖 𝓡 =
     (tables 𝓤 H 𝓜 𝓡 code.env .C) (tables 𝓤 H 𝓜 𝓡 code.env .Λ) #held-settings·find-held code.function (code.unfolded 𝓤 H 𝓜 𝓡)
     (find-held-meets 𝓤 H (𝓖 .A) (givenOf 𝓤 H 𝓜 𝓖) (𝓜 .mem) (𝓡 .run) (tablesOf 𝓤 H 𝓜 (tables 𝓤 H 𝓜 𝓡 code.env))
     (cited 𝓤 H (Find 𝓤 H (𝓖 .A) (𝓜 .mem)
-    (𝓡 .run)) 𝓜 𝓡 code.env #saved-settings·find find-def.routine code.calls-saved-settings·find (find-thm.met 𝓤 H 𝓜 𝓖 𝓡)))
+    (𝓡 .run)) 𝓜 𝓡 code.env #saved-settings·find find-def.routine code.calls-saved-lent·find (find-thm.met 𝓤 H 𝓜 𝓖 𝓡)))
