@@ -57,7 +57,7 @@ use Rattle.saved_setting.proofs.Held as F
 use Rattle.saved_setting.proofs.Held.Laws as F′
 use Rattle.saved_lent.proofs.find as find
 use Rattle.saved_lent.proofs.find.Symbol as find-def
-use Rattle.saved_lent.proofs.find.Symbol.{name as #saved-settings·find}
+use Rattle.saved_lent.proofs.find.Symbol.{name as #saved-lent·find}
 use Rattle.saved_lent.proofs.find.Met as find-thm
 use Rattle.saved_held.proofs.find_held.Key.{name as #held-settings·find-held}
 use Rattle.saved_held.proofs.find_held as f
@@ -115,7 +115,7 @@ module _ {M : Type 1} (𝓤 : URA M) (H : Heap 𝓤) (A : Atoms 𝓤) (W : Given
       → ent 𝓤 (ensured 𝓤 H A find.ended (find.clauses 𝓤 H A mem run) (ν ∷ [], tt) (x l δ, (v, tt)) tt r) (fact 𝓤 (heldReply r ≡ foundIn ys v))
   said-of l ν δ r = exE 𝓤 _ (λ ws. snd∗ 𝓤 (sem 𝓤 H A (lasts find.ended (ν ∷ [], tt) (x l δ, (v, tt)) ws)) (fact 𝓤 (heldReply r ≡ foundIn ys v)))
 
-  module _ (C : Calls 𝓤 H) (Λ : Loops 𝓤 H) (fm : FmC 𝓤 H (W .laws) C) (known : Triple 𝓤 (C #saved-settings·find) (Find 𝓤 H A mem run)) where
+  module _ (C : Calls 𝓤 H) (Λ : Loops 𝓤 H) (fm : FmC 𝓤 H (W .laws) C) (known : Triple 𝓤 (C #saved-lent·find) (Find 𝓤 H A mem run)) where
     walk : ent 𝓤 (onEntry 𝓤 H A f.signature tt tt (ys, (v, tt)) at) (WpFn 𝓤 H C Λ code.function (arr-val ys ∷ vint w16 v ∷ []) Post)
     walk =
         qed W (‵ ftrue ∷ ‵ (owns (arr ∷ u16 ∷ []) (ys, (v, tt)) at) ∷ []) ∵ enter ! C Λ code.function (arr-val ys ∷ vint w16 v ∷ []) _ $
@@ -150,14 +150,14 @@ module _ {M : Type 1} (𝓤 : URA M) (H : Heap 𝓤) (A : Atoms 𝓤) (W : Given
         move ! (4 ∷ 5 ∷ []) $ free1 ! $ move ! (2 ∷ 3 ∷ []) $ free1 ! $ free0 ! $ keep ! (2 ∷ 3 ∷ 1 ∷ []) $ by ! (exits r w said))))))))))))))
 
 module _ {M : Type 1} (𝓤 : URA M) (H : Heap 𝓤) (A : Atoms 𝓤) (W : Given 𝓤 H A) (mem : Memory → SProp 𝓤) (run : Routine → Fun 𝓤) where
-  find-held-walks : (C : Calls 𝓤 H) (Λ : Loops 𝓤 H) → FmC 𝓤 H (W .laws) C → Triple 𝓤 (C #saved-settings·find) (Find 𝓤 H A mem run)
+  find-held-walks : (C : Calls 𝓤 H) (Λ : Loops 𝓤 H) → FmC 𝓤 H (W .laws) C → Triple 𝓤 (C #saved-lent·find) (Find 𝓤 H A mem run)
       → Walks 𝓤 H A f.ended stayed (WpFn 𝓤 H C Λ code.function) (f.clauses 𝓤 H A mem run)
   find-held-walks C Λ fm known = walked 𝓤 H A f.ended stayed (f.clauses 𝓤 H A mem run) (WpFn 𝓤 H C Λ code.function)
       (λ κs. (arr-vals, (uint-vals w16, tt))) (λ κs. (tells, (uint-tells w16, tt)))
       (λ κs qs bounds a g are. via 𝓤 _ (fst∗ 𝓤 _ (emp 𝓤)) (walk 𝓤 H A W mem run (a .0) (a .1 .0) (are .0) (are .1 .0) C Λ fm known))
 
 find-held-meets : {M : Type 1} (𝓤 : URA M) (H : Heap 𝓤) (A : Atoms 𝓤) (W : Given 𝓤 H A) (mem : Memory → SProp 𝓤) (run : Routine
-    → Fun 𝓤) (𝓣 : Tables 𝓤 H) → Triple 𝓤 (𝓣 .C #saved-settings·find) (Find 𝓤 H A mem run)
+    → Fun 𝓤) (𝓣 : Tables 𝓤 H) → Triple 𝓤 (𝓣 .C #saved-lent·find) (Find 𝓤 H A mem run)
     → Meets 𝓤 H A f.signature (WpFn 𝓤 H (𝓣 .C) (𝓣 .Λ) code.function) (f.spec 𝓤 H A mem run)
 find-held-meets 𝓤 H A W mem run 𝓣 known =
     walk-meets 𝓤 H A f.ended stayed W (
@@ -177,4 +177,4 @@ find-held-spec 𝓤 H 𝓜 𝓖 𝓡 =
     (tables 𝓤 H 𝓜 𝓡 code.env .C) (tables 𝓤 H 𝓜 𝓡 code.env .Λ) #held-settings·find-held code.function (code.unfolded 𝓤 H 𝓜 𝓡)
     (find-held-meets 𝓤 H (𝓖 .A) (givenOf 𝓤 H 𝓜 𝓖) (𝓜 .mem) (𝓡 .run) (tablesOf 𝓤 H 𝓜 (tables 𝓤 H 𝓜 𝓡 code.env))
     (cited 𝓤 H (Find 𝓤 H (𝓖 .A) (𝓜 .mem)
-    (𝓡 .run)) 𝓜 𝓡 code.env #saved-settings·find find-def.routine code.calls-saved-lent·find (find-thm.met 𝓤 H 𝓜 𝓖 𝓡)))
+    (𝓡 .run)) 𝓜 𝓡 code.env #saved-lent·find find-def.routine code.calls-saved-lent·find (find-thm.met 𝓤 H 𝓜 𝓖 𝓡)))

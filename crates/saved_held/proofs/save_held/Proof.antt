@@ -46,7 +46,7 @@ use Rattle.saved_setting.proofs.SavedList as R
 use Rattle.saved_setting.proofs.SavedList.Laws as R′
 use Rattle.saved_lent.proofs.save as callee
 use Rattle.saved_lent.proofs.save.Symbol as callee-def
-use Rattle.saved_lent.proofs.save.Symbol.{name as #saved-settings·save}
+use Rattle.saved_lent.proofs.save.Symbol.{name as #saved-lent·save}
 use Rattle.saved_lent.proofs.save.Met as callee-thm
 use Rattle.saved_held.proofs.save_held.Key.{name as #held-settings·save-held}
 use Rattle.saved_held.proofs.save_held as f
@@ -111,15 +111,15 @@ module _ {M : Type 1} (𝓤 : URA M) (H : Heap 𝓤) (A : Atoms 𝓤) (W : Given
       move ! (1 ∷ []) $ drop ! $ nothing ! $ move ! (1 ∷ 0 ∷ []) $ join ! $ join ! $ move ! (1 ∷ 0 ∷ []) $
       at-once ! $ show ! (Gives ν δ w) r $ show ! (Came 𝓤 H A ys Said ν δ w r) (zs .0) $ done !)))
 
-  module _ (C : Calls 𝓤 H) (Λ : Loops 𝓤 H) (fm : FmC 𝓤 H (W .laws) C) (known : Triple 𝓤 (C #saved-settings·save) (Callee 𝓤 H A mem run)) where
+  module _ (C : Calls 𝓤 H) (Λ : Loops 𝓤 H) (fm : FmC 𝓤 H (W .laws) C) (known : Triple 𝓤 (C #saved-lent·save) (Callee 𝓤 H A mem run)) where
     walk : ent 𝓤 (onEntry 𝓤 H A f.signature tt tt (ys, (v, tt)) at)
         (WpFn 𝓤 H C Λ code.function (arr-val ys ∷ LL.val G.the-type G′.the-laws v ∷ []) Post)
-    walk = held-change 𝓤 H A ys W is (fsep (G.the-row .own v (arg-vals v)) ftrue) #saved-settings·save G′.mir (LL.val G.the-type G′.the-laws v)
+    walk = held-change 𝓤 H A ys W is (fsep (G.the-row .own v (arg-vals v)) ftrue) #saved-lent·save G′.mir (LL.val G.the-type G′.the-laws v)
         arg-typed C Λ fm Said
         (λ l ν δ. Callee 𝓤 H A mem run .post (to-callee l ν δ)) (λ l ν δ. via 𝓤 _ (goes-in l ν δ) (known (to-callee l ν δ))) got Post exits
 
 module _ {M : Type 1} (𝓤 : URA M) (H : Heap 𝓤) (A : Atoms 𝓤) (W : Given 𝓤 H A) (mem : Memory → SProp 𝓤) (run : Routine → Fun 𝓤) where
-  save-held-walks : (C : Calls 𝓤 H) (Λ : Loops 𝓤 H) → FmC 𝓤 H (W .laws) C → Triple 𝓤 (C #saved-settings·save) (Callee 𝓤 H A mem run)
+  save-held-walks : (C : Calls 𝓤 H) (Λ : Loops 𝓤 H) → FmC 𝓤 H (W .laws) C → Triple 𝓤 (C #saved-lent·save) (Callee 𝓤 H A mem run)
       → Walks 𝓤 H A f.ended stayed (WpFn 𝓤 H C Λ code.function) (f.clauses 𝓤 H A mem run)
   save-held-walks C Λ fm known =
       walked 𝓤 H A f.ended stayed (f.clauses 𝓤 H A mem run) (WpFn 𝓤 H C Λ code.function) (λ κs. (arr-vals, (arg-vals, tt)))
@@ -127,7 +127,7 @@ module _ {M : Type 1} (𝓤 : URA M) (H : Heap 𝓤) (A : Atoms 𝓤) (W : Given
       (λ κs qs bounds a g are. via 𝓤 _ (fst∗ 𝓤 _ (emp 𝓤)) (walk 𝓤 H A W mem run (a .0) (a .1 .0) (are .0) (are .1 .0) C Λ fm known))
 
 save-held-meets : {M : Type 1} (𝓤 : URA M) (H : Heap 𝓤) (A : Atoms 𝓤) (W : Given 𝓤 H A) (mem : Memory → SProp 𝓤) (run : Routine → Fun 𝓤)
-    (𝓣 : Tables 𝓤 H) → Triple 𝓤 (𝓣 .C #saved-settings·save) (Callee 𝓤 H A mem run)
+    (𝓣 : Tables 𝓤 H) → Triple 𝓤 (𝓣 .C #saved-lent·save) (Callee 𝓤 H A mem run)
     → Meets 𝓤 H A f.signature (WpFn 𝓤 H (𝓣 .C) (𝓣 .Λ) code.function) (f.spec 𝓤 H A mem run)
 save-held-meets 𝓤 H A W mem run 𝓣 known =
     walk-meets 𝓤 H A f.ended stayed W
@@ -141,5 +141,5 @@ save-held-spec 𝓤 H 𝓜 𝓖 𝓡 =
     entered 𝓤 H (tripleOf 𝓤 H (𝓖 .A) f.signature (f.spec 𝓤 H (𝓖 .A) (𝓜 .mem) (𝓡 .run)))
     (tables 𝓤 H 𝓜 𝓡 code.env .C) (tables 𝓤 H 𝓜 𝓡 code.env .Λ) #held-settings·save-held code.function (code.unfolded 𝓤 H 𝓜 𝓡)
     (save-held-meets 𝓤 H (𝓖 .A) (givenOf 𝓤 H 𝓜 𝓖) (𝓜 .mem) (𝓡 .run) (tablesOf 𝓤 H 𝓜 (tables 𝓤 H 𝓜 𝓡 code.env))
-    (cited 𝓤 H (Callee 𝓤 H (𝓖 .A) (𝓜 .mem) (𝓡 .run)) 𝓜 𝓡 code.env #saved-settings·save callee-def.routine code.calls-saved-lent·save
+    (cited 𝓤 H (Callee 𝓤 H (𝓖 .A) (𝓜 .mem) (𝓡 .run)) 𝓜 𝓡 code.env #saved-lent·save callee-def.routine code.calls-saved-lent·save
     (callee-thm.met 𝓤 H 𝓜 𝓖 𝓡)))

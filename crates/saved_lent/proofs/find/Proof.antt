@@ -57,7 +57,7 @@ use Rattle.saved_places.proofs.find_in as find-in
 use Rattle.saved_places.proofs.find_in.Symbol as find-in-def
 use Rattle.saved_places.proofs.find_in.Symbol.{name as #saved-places·find-in}
 use Rattle.saved_places.proofs.find_in.Met as find-in-thm
-use Rattle.saved_lent.proofs.find.Key.{name as #saved-settings·find}
+use Rattle.saved_lent.proofs.find.Key.{name as #saved-lent·find}
 use Rattle.saved_lent.proofs.find as f
 use Rattle.saved_lent.proofs.find.Statement as stated
 use Rattle.saved_lent.proofs.find.Code as code
@@ -261,7 +261,7 @@ pub find-spec : {M : Type 1} → stated.statement M
 unfolding code.routine tablesOf
 find-spec 𝓤 H 𝓜 𝓖 𝓡 =
     entered 𝓤 H (tripleOf 𝓤 H (𝓖 .A) f.signature (f.spec 𝓤 H (𝓖 .A) (𝓜 .mem) (𝓡 .run)))
-    (tables 𝓤 H 𝓜 𝓡 code.env .C) (tables 𝓤 H 𝓜 𝓡 code.env .Λ) #saved-settings·find code.function (code.unfolded 𝓤 H 𝓜 𝓡)
+    (tables 𝓤 H 𝓜 𝓡 code.env .C) (tables 𝓤 H 𝓜 𝓡 code.env .Λ) #saved-lent·find code.function (code.unfolded 𝓤 H 𝓜 𝓡)
     (find-meets 𝓤 H (𝓖 .A) (givenOf 𝓤 H 𝓜 𝓖) (𝓜 .mem) (𝓡 .run) (tablesOf 𝓤 H 𝓜 (tables 𝓤 H 𝓜 𝓡 code.env))
     (cited 𝓤 H (FindIn 𝓤 H (𝓖 .A) (𝓜 .mem)
     (𝓡 .run)) 𝓜 𝓡 code.env #saved-places·find-in find-in-def.routine code.calls-saved-places·find-in (find-in-thm.met 𝓤 H 𝓜 𝓖 𝓡)))

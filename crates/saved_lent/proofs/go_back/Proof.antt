@@ -56,7 +56,7 @@ use Rattle.saved_places.proofs.back_in as callee
 use Rattle.saved_places.proofs.back_in.Symbol as callee-def
 use Rattle.saved_places.proofs.back_in.Symbol.{name as #saved-places·back-in}
 use Rattle.saved_places.proofs.back_in.Met as callee-thm
-use Rattle.saved_lent.proofs.go_back.Key.{name as #saved-settings·go-back}
+use Rattle.saved_lent.proofs.go_back.Key.{name as #saved-lent·go-back}
 use Rattle.saved_lent.proofs.go_back as f
 use Rattle.saved_lent.proofs.go_back.Statement as stated
 use Rattle.saved_lent.proofs.go_back.Code as code
@@ -178,7 +178,7 @@ pub go-back-spec : {M : Type 1} → stated.statement M
 unfolding code.routine tablesOf
 go-back-spec 𝓤 H 𝓜 𝓖 𝓡 =
     entered 𝓤 H (tripleOf 𝓤 H (𝓖 .A) f.signature (f.spec 𝓤 H (𝓖 .A) (𝓜 .mem) (𝓡 .run)))
-    (tables 𝓤 H 𝓜 𝓡 code.env .C) (tables 𝓤 H 𝓜 𝓡 code.env .Λ) #saved-settings·go-back code.function (code.unfolded 𝓤 H 𝓜 𝓡)
+    (tables 𝓤 H 𝓜 𝓡 code.env .C) (tables 𝓤 H 𝓜 𝓡 code.env .Λ) #saved-lent·go-back code.function (code.unfolded 𝓤 H 𝓜 𝓡)
     (go-back-meets 𝓤 H (𝓖 .A) (givenOf 𝓤 H 𝓜 𝓖) (𝓜 .mem) (𝓡 .run) (tablesOf 𝓤 H 𝓜 (tables 𝓤 H 𝓜 𝓡 code.env))
     (cited 𝓤 H (Callee 𝓤 H (𝓖 .A) (𝓜 .mem)
     (𝓡 .run)) 𝓜 𝓡 code.env #saved-places·back-in callee-def.routine code.calls-saved-places·back-in (callee-thm.met 𝓤 H 𝓜 𝓖 𝓡)))

@@ -57,7 +57,7 @@ use Rattle.saved_places.proofs.save_in as callee
 use Rattle.saved_places.proofs.save_in.Symbol as callee-def
 use Rattle.saved_places.proofs.save_in.Symbol.{name as #saved-places·save-in}
 use Rattle.saved_places.proofs.save_in.Met as callee-thm
-use Rattle.saved_lent.proofs.save.Key.{name as #saved-settings·save}
+use Rattle.saved_lent.proofs.save.Key.{name as #saved-lent·save}
 use Rattle.saved_lent.proofs.save as f
 use Rattle.saved_lent.proofs.save.Statement as stated
 use Rattle.saved_lent.proofs.save.Code as code
@@ -179,7 +179,7 @@ pub save-spec : {M : Type 1} → stated.statement M
 unfolding code.routine tablesOf
 save-spec 𝓤 H 𝓜 𝓖 𝓡 =
     entered 𝓤 H (tripleOf 𝓤 H (𝓖 .A) f.signature (f.spec 𝓤 H (𝓖 .A) (𝓜 .mem) (𝓡 .run)))
-    (tables 𝓤 H 𝓜 𝓡 code.env .C) (tables 𝓤 H 𝓜 𝓡 code.env .Λ) #saved-settings·save code.function (code.unfolded 𝓤 H 𝓜 𝓡)
+    (tables 𝓤 H 𝓜 𝓡 code.env .C) (tables 𝓤 H 𝓜 𝓡 code.env .Λ) #saved-lent·save code.function (code.unfolded 𝓤 H 𝓜 𝓡)
     (save-meets 𝓤 H (𝓖 .A) (givenOf 𝓤 H 𝓜 𝓖) (𝓜 .mem) (𝓡 .run) (tablesOf 𝓤 H 𝓜 (tables 𝓤 H 𝓜 𝓡 code.env))
     (cited 𝓤 H (Callee 𝓤 H (𝓖 .A) (𝓜 .mem)
     (𝓡 .run)) 𝓜 𝓡 code.env #saved-places·save-in callee-def.routine code.calls-saved-places·save-in (callee-thm.met 𝓤 H 𝓜 𝓖 𝓡)))
