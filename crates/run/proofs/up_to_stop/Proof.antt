@@ -111,7 +111,8 @@ loop-again c =
     let at-if2 = next-ahead .before .before in
     let asked = at-if2 .before in
     let took = asked .before .before .before .before .before .before in
-    let tested = took .before .before .before .before .before in
+    let below = took .before .before .before in
+    let tested = below .before .before in
     let turn = tested .before in
     let entry = turn .before .before .before .before .before .before .before .before .before in
     let loop-test = tested .loop-test in
@@ -122,7 +123,7 @@ loop-again c =
     let f = ahead-reaches s _ _ (l .i + 1) (omega (arith, loop-test .taken)) (next-ahead .ahead2 .ensures) in
     let quiet = sym (asked .is-answer .ensures ∙ ap isAnswer (e .says)) ∙ at-if2 .if2 .left in (
       leads-on s _ _ _ _ _ _ _ _ _ (l .inv .0)
-          (leads-on s _ _ _ _ _ _ _ _ _ (leads-one s (l .h) (l .body) (l .i) (loop-test .taken) (omega arith) (e .next) (e .keeps) quiet) (f .leads)),
+          (leads-on s _ _ _ _ _ _ _ _ _ (leads-one s (l .h) (l .body) (l .i) (loop-test .taken) (omega (arith, below .if1 .left)) (e .next) (e .keeps) quiet) (f .leads)),
       f .within,
       e .leaves ∙ ap (λ (o : Outcome). bufferAfter o (l .buffer)) (no-answer (takeOutcome (l .h) (l .body) (getD s (l .i) 0)) quiet) ∙ l .inv .2,
       search needs,

@@ -129,9 +129,10 @@ sub-pack c = block c .behind
 pack-requires : tie.Need-pack-requires Inv-loop μ-loop
 pack-requires c κs =
     let p = paired (c .before .before .before .before) in
+    let l = c .before .before .before .before .before .before .before .before .before .loop in
     let b = block (c .before) in (
       omega (arith, b .up-to, b .behind, p .1 .within),
-      omega (arith, room (c .before), p .2),
+      simp length-set (omega (arith, room (c .before), l .inv .2)),
       behind-small b,
       c .before .before .far-pairs .ensures .1,
     )
