@@ -127,8 +127,8 @@ either-sized : (b : Bool) (x y : rows.AfterCall) → (b ≡ true → Sized (x .o
 either-sized true x y h g = h refl
 either-sized false x y h g = g
 
-row-sized : (g : Gatherer) (j : Judge) (kept place kind : ℕ) (body held : List ℕ) → Sized (rows.onward g j kept place kind body held .output)
-unfolding rows.onward
+row-sized : (g : Gatherer) (j : Judge) (kept place kind : ℕ) (body held : List ℕ) → Sized (rows.rowKept g j kept place kind body held .output)
+unfolding rows.rowKept
 row-sized g j kept place kind body held = either-sized (rowFits (g .keeping) kept kind body held) _ (rows.refuses g noRoom held) (λ _. tt) tt
 
 handed-sized : (g : Gatherer) (l : Shown) (held : List ℕ) → Sized (rows.handed g l held .output)
