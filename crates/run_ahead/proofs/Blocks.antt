@@ -19,7 +19,7 @@ use Rattle.reader_head.specs.Head.{countStop, bump}
 use Rattle.reader_head.specs.HeadLaws.{bump-more}
 use Rattle.run_ahead.specs.Ahead.{isNear, takePairs}
 use Rattle.run_ahead.specs.Parts.{bytePlace, slideByte, strayAfter, strayed, Leads}
-use Rattle.run_ahead.specs.Blocks.{AllNibbles, Apart, Far, FarOn, windowFrom, byteFrom, packedInto, laterCount}
+use Rattle.run_ahead.specs.Blocks.{NibblesFrom, Apart, Far, FarOn, windowFrom, byteFrom, packedInto, laterCount}
 use Rattle.run_ahead.proofs.Pairs.{head, Stands, Turn, lt-or-ge, bump-one, leads-in, leads-past, leads-here, leads-on}
 
 -- What holds of each place from i on, as far as a loop came.
@@ -34,7 +34,7 @@ not-both e = absurd (true≢false (sym e))
 
 -- A block grows, and has parts.
 
-pub far-none : {stray : Bool} (s : List ℕ) (k : ℕ) → AllNibbles s k 8 → Far stray s k 0
+pub far-none : {stray : Bool} (s : List ℕ) (k : ℕ) → NibblesFrom s k 8 → Far stray s k 0
 far-none s k h = record { small = λ x a b. h x a (omega arith); apart = λ x a b. absurd (omega arith); same = inr (λ x a b. absurd (omega arith)) }
 
 pub far-more : {stray : Bool} (s : List ℕ) (k n l m : ℕ) → l ≡ k + n → Far stray s k n → Far stray s l m → Far stray s k (n + m)
@@ -77,7 +77,7 @@ not-near w a b c d e f ha hb hc l =
     (λ (z : 4095 ≤ w / 4096 % 4096). ap (λ (t : Bool). eqb (w / 4096 % 4096) 4095 && t) (ne-eqb (w / 16 % 16) 0 (λ (q : w / 16 % 16 ≡ 0). omega arith)) ∙ and-false (eqb (w / 4096 % 4096) 4095))
     (lt-or-ge (w / 4096 % 4096) 4095)
 
-module _ (s : List ℕ) (k : ℕ) (h : AllNibbles s k 8) where
+module _ (s : List ℕ) (k : ℕ) (h : NibblesFrom s k 8) where
   window-on : slideByte (windowFrom s k) (getD s (k + 8) 0) (getD s (k + 9) 0) ≡ windowFrom s (k + 2)
   window-on =
       let a = h k (omega arith) (omega arith) in
@@ -236,7 +236,7 @@ module _ (p : Profile) (m : Mark) (t : Kept) (s : List ℕ) where
 
   -- two nibbles behind it, in which no mark can end
   module _ (k : ℕ) (f : Far (t .stray) s k 2) where
-    eight : AllNibbles s k 8
+    eight : NibblesFrom s k 8
     eight x a b = f .small x a (omega arith)
 
     slid : slideByte (windowFrom s k) (getD s (k + 8) 0) (getD s (k + 8 + 1) 0) ≡ windowFrom s (k + 2)
@@ -322,10 +322,10 @@ module _ (p : Profile) (m : Mark) (t : Kept) {w : ℕ} {s : List ℕ} {i end n :
 
 -- The nibbles that leave the window meanwhile, and the last eight; and behind them a loop stands at a window that is the run's own.
 module _ {w : ℕ} {stray : Bool} {s : List ℕ} {i end n : ℕ} (f : FarOn w stray s i end n) where
-  pub behind-small : AllNibbles s (i - 8) (2 * n)
+  pub behind-small : NibblesFrom s (i - 8) (2 * n)
   behind-small x a b = f .far .small x a (omega arith)
 
-  pub last-small : AllNibbles s (i + 2 * n - 8) 8
+  pub last-small : NibblesFrom s (i + 2 * n - 8) 8
   last-small x a b = let u = f .behind in f .far .small x (omega arith) (omega arith)
 
   pub stands-past : {from w′ : ℕ} → Stands s from end w i → w′ ≡ windowFrom s (i + 2 * n - 8) → Stands s from end w′ (i + 2 * n)

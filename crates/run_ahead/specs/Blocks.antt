@@ -8,8 +8,8 @@ use lib.ListN.{getD, set}
 use Rattle.reader_head.specs.Head.{bump}
 
 -- the n inputs from the place k on are nibbles
-abbrev pub AllNibbles : List ℕ → ℕ → ℕ → Type 0
-AllNibbles s k n = (x : ℕ) → k ≤ x → x < k + n → getD s x 0 < 16
+abbrev pub NibblesFrom : List ℕ → ℕ → ℕ → Type 0
+NibblesFrom s k n = (x : ℕ) → k ≤ x → x < k + n → getD s x 0 < 16
 
 -- the window of the eight nibbles at the place k is as far as this from one that a mark may follow, with F at k + 2, k + 3 and k + 4, and 0 at k + 6
 abbrev pub Apart : ℕ → List ℕ → ℕ → Type 0
@@ -17,7 +17,7 @@ Apart r s k = getD s (k + 2) 0 + getD s (k + 3) 0 + getD s (k + 4) 0 + r ≤ 45 
 
 -- behind eight nibbles at the place k stand n in which no mark can end; and the n that leave the window meanwhile make nothing stray that was not
 pub record Far (stray : Bool) (s : List ℕ) (k n : ℕ) : Type 0 where
-  pub small : AllNibbles s k (n + 8)
+  pub small : NibblesFrom s k (n + 8)
   pub apart : (x : ℕ) → k ≤ x → x < k + n → Apart 1 s x
   pub same : (stray ≡ true) ⊎ ((x : ℕ) → k ≤ x → x < k + n → 15 ≤ getD s x 0)
 

@@ -20,7 +20,7 @@ ghost use lib.ListN.{length, getD};
 ghost use Rattle.profile.specs.Profile.{longest};
 ghost use Rattle.run_ahead.specs.Ahead.{pastBody, isNear, aheadOf, AheadGives};
 ghost use Rattle.run_ahead.specs.Parts.{LeadsTo, Reaches, UpToPast, isPair, bytePlace, slideByte, strayAfter, strayKept, byteKept};
-ghost use Rattle.run_ahead.specs.Blocks.{AllNibbles, Apart, Far, FarOn, windowFrom, packedInto, laterCount};
+ghost use Rattle.run_ahead.specs.Blocks.{NibblesFrom, Apart, Far, FarOn, windowFrom, packedInto, laterCount};
 use mark_text::Kept;
 use period::Nibbles;
 use profile::Profile;
@@ -258,7 +258,7 @@ fn far_pairs(window: u32, stray: bool, s: &[u8], from: usize, end: usize) -> usi
 // Whether a block can be taken behind the eight nibbles at a place: it has nibbles alone, no mark can end in it, and what leaves the window meanwhile
 // is nothing but F, or a stray nibble is noted already.
 fn is_far(stray: bool, s: &[u8], k: usize) -> bool
-    requires { ⌜ (k + 40 ≤ length (now s)) × AllNibbles (now s) k 8 ⌝ }
+    requires { ⌜ (k + 40 ≤ length (now s)) × NibblesFrom (now s) k 8 ⌝ }
     ensures { λ r. ⌜ (r ≡ true → Far stray (now (s .entry)) k 32) ⌝ }
 {
     if 15 < most_of(s, k + 8, BLOCK) {
@@ -292,7 +292,7 @@ fn most_of(s: &[u8], i: usize, n: usize) -> u8
 
 // A number that none of the nibbles of a block is farther from F.
 fn most_off(s: &[u8], i: usize) -> u8
-    requires { ⌜ (i + 32 ≤ length (now s)) × AllNibbles (now s) i 32 ⌝ }
+    requires { ⌜ (i + 32 ≤ length (now s)) × NibblesFrom (now s) i 32 ⌝ }
     ensures { λ r. ⌜ ((x : ℕ) → i ≤ x → x < i + 32 → 15 ≤ getD (now (s .entry)) x 0 + r) ⌝ }
 {
     let mut most: u8 = 0;
@@ -306,7 +306,7 @@ fn most_off(s: &[u8], i: usize) -> u8
 
 // A number that none of the windows of a block is nearer to one before a mark.
 fn least_gap(s: &[u8], i: usize) -> u8
-    requires { ⌜ (i + 40 ≤ length (now s)) × AllNibbles (now s) i 40 ⌝ }
+    requires { ⌜ (i + 40 ≤ length (now s)) × NibblesFrom (now s) i 40 ⌝ }
     ensures { λ r. ⌜ ((x : ℕ) → i ≤ x → x < i + 32 → Apart r (now (s .entry)) x) ⌝ }
 {
     let mut least: u8 = 255;
@@ -349,7 +349,7 @@ fn at_most(a: u8, b: u8) -> u8
 
 // Puts so many bytes of the run, from a place on, into a body, from its place j on, in blocks.
 fn pack(s: &[u8], i: usize, body: &mut [u8], j: usize, n: usize)
-    requires { ⌜ (i + 2 * n ≤ length (now s)) × (j + n ≤ length (now body)) × AllNibbles (now s) i (2 * n) × (n % 16 ≡ 0) ⌝ }
+    requires { ⌜ (i + 2 * n ≤ length (now s)) × (j + n ≤ length (now body)) × NibblesFrom (now s) i (2 * n) × (n % 16 ≡ 0) ⌝ }
     ensures { λ r. ⌜ now (body .exit) ≡ packedInto (now (body .entry)) j (now (s .entry)) i n ⌝ }
 {
     let mut k: usize = 0;
@@ -361,7 +361,7 @@ fn pack(s: &[u8], i: usize, body: &mut [u8], j: usize, n: usize)
 
 // One block: first into an array of its own, since a body might be the run itself, for all that the compiler knows.
 fn pack_block(s: &[u8], i: usize, body: &mut [u8], j: usize)
-    requires { ⌜ (i + 32 ≤ length (now s)) × (j + 16 ≤ length (now body)) × AllNibbles (now s) i 32 ⌝ }
+    requires { ⌜ (i + 32 ≤ length (now s)) × (j + 16 ≤ length (now body)) × NibblesFrom (now s) i 32 ⌝ }
     ensures { λ r. ⌜ now (body .exit) ≡ packedInto (now (body .entry)) j (now (s .entry)) i 16 ⌝ }
 {
     let mut to = [0u8; 16];
@@ -379,7 +379,7 @@ fn pack_block(s: &[u8], i: usize, body: &mut [u8], j: usize)
 
 // The eight nibbles from a place on, as a window.
 fn window_from(s: &[u8], i: usize) -> u32
-    requires { ⌜ (i + 8 ≤ length (now s)) × AllNibbles (now s) i 8 ⌝ }
+    requires { ⌜ (i + 8 ≤ length (now s)) × NibblesFrom (now s) i 8 ⌝ }
     ensures { λ r. ⌜ r ≡ windowFrom (now (s .entry)) i ⌝ }
 {
     let w = slide_byte(0, s, i);

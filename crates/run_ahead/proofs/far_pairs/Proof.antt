@@ -4,7 +4,7 @@ use Prim.Native.Nat.{ℕ, _+_, _*_, _-_, _%_, _≤_, _<_}
 use native.Mathlib.Omega.{arith}
 use denote.Ref.{now}
 use borrow.Author.Needs.{needs}
-use Rattle.run_ahead.specs.Blocks.{AllNibbles, Far, FarOn}
+use Rattle.run_ahead.specs.Blocks.{NibblesFrom, Far, FarOn}
 use Rattle.run_ahead.proofs.Blocks.{far-none, far-more}
 use Rattle.run_ahead.proofs.far_pairs.Statement.{statement}
 use Rattle.run_ahead.proofs.far_pairs.Tie as tie
@@ -28,7 +28,7 @@ returns-3 : tie.Need-returns-3 Inv-loop μ-loop
 returns-3 c = ((λ l. absurd (omega arith)), omega arith)
 
 behind : (c : tie.Else3 Inv-loop μ-loop)
-    → let a = c .before .before .before .before .before .args in AllNibbles (now (a .s)) (a .from - 8) 8
+    → let a = c .before .before .before .before .before .args in NibblesFrom (now (a .s)) (a .from - 8) 8
 behind c x u v = omega (arith, c .before .most-of .ensures x u v, c .if3 .left)
 
 window-from-requires : tie.Need-window-from-requires Inv-loop μ-loop

@@ -7,14 +7,14 @@ use native.Mathlib.Omega.{arith}
 use lib.ListN.{getD}
 use denote.Ref.{now}
 use borrow.Author.Needs.{needs}
-use Rattle.run_ahead.specs.Blocks.{AllNibbles}
+use Rattle.run_ahead.specs.Blocks.{NibblesFrom}
 use Rattle.run_ahead.proofs.Pairs.{lt-or-ge}
 use Rattle.run_ahead.proofs.Blocks.{not-both}
 use Rattle.run_ahead.proofs.is_far.Statement.{statement}
 use Rattle.run_ahead.proofs.is_far.Tie as tie
 
 -- eight nibbles, and the block's own
-nibbles : (c : tie.Else1) → AllNibbles (now (c .before .before .before .args .s)) (c .before .before .before .args .k) 40
+nibbles : (c : tie.Else1) → NibblesFrom (now (c .before .before .before .args .s)) (c .before .before .before .args .k) 40
 nibbles c x u v =
     let first = c .before .before .before in
     let k = first .args .k in
