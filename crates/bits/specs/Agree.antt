@@ -14,9 +14,9 @@ agree f g (suc n) e zero h = head-eq_of_cons-eq e
 agree f g (suc n) e (suc i) h = agree (λ j. f (suc j)) (λ j. g (suc j)) n (tail-eq_of_cons-eq e) i (le_of_suc-le-suc h)
 
 -- and everywhere if both have the same value from the bound on
-pub agree-all : {A : Type 0} (f g : ℕ → A) (z : A) (n : ℕ) → listed f n ≡ listed g n
+pub agree_all : {A : Type 0} (f g : ℕ → A) (z : A) (n : ℕ) → listed f n ≡ listed g n
     → ((i : ℕ) → n ≤ i → f i ≡ z) → ((i : ℕ) → n ≤ i → g i ≡ z) → (i : ℕ) → f i ≡ g i
-agree-all f g z zero e p q i = p i zero-le ∙ sym (q i zero-le)
-agree-all f g z (suc n) e p q zero = head-eq_of_cons-eq e
-agree-all f g z (suc n) e p q (suc i) =
-    agree-all (λ j. f (suc j)) (λ j. g (suc j)) z n (tail-eq_of_cons-eq e) (λ j h. p (suc j) (suc-le-suc h)) (λ j h. q (suc j) (suc-le-suc h)) i
+agree_all f g z zero e p q i = p i zero-le ∙ sym (q i zero-le)
+agree_all f g z (suc n) e p q zero = head-eq_of_cons-eq e
+agree_all f g z (suc n) e p q (suc i) =
+    agree_all (λ j. f (suc j)) (λ j. g (suc j)) z n (tail-eq_of_cons-eq e) (λ j h. p (suc j) (suc-le-suc h)) (λ j h. q (suc j) (suc-le-suc h)) i

@@ -2,7 +2,7 @@
 use Rattle.std.specs.Prelude.{List, ◌++◌, ℕ, ◌*◌, ◌/◌, min, take, drop}
 use Rattle.stream.specs.Written.{nibbles}
 use Rattle.reader_head.specs.declared.Head.{Head}
-use Rattle.run.specs.Run.{Ran, lentRunOf}
+use Rattle.run.specs.Run.{Ran, lent_run_of}
 
 -- how many bytes are taken apart, of so many, in a buffer with so much room: as many as it has room for
 abbrev pub fitting : ℕ → ℕ → ℕ
@@ -18,4 +18,4 @@ portion bytes at end = drop at (nibbles (take end bytes))
 
 -- a run over the nibbles of bytes, from a place on
 abbrev pub run_from : Head → List ℕ → List ℕ → ℕ → ℕ → Ran
-run_from h body bytes from room = lentRunOf h body (drop from (nibbles bytes)) room
+run_from h body bytes from room = lent_run_of h body (drop from (nibbles bytes)) room

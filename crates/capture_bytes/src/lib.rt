@@ -10,14 +10,14 @@
 // clean lines, and an eighth on a bus at rest and on noise.
 ghost use Rattle.std.specs.Prelude.{◌≡◌, true, ◌&&◌, not, List, ℕ, ◌+◌, ◌*◌, ◌/◌, ◌%◌, ◌≤◌, ◌<◌, min, ltb, length, get_or};
 ghost use Rattle.profile.specs.Profile.{longest};
-ghost use Rattle.reader_head.specs.Head.{countStop, passes};
+ghost use Rattle.reader_head.specs.Head.{count_stop, passes};
 ghost use Rattle.reader_laws.specs.Passing.{Byte};
-ghost use Rattle.run_ahead.specs.Ahead.{pastBody};
-ghost use Rattle.run.specs.Run.{lentRunOf};
+ghost use Rattle.run_ahead.specs.Ahead.{past_body};
+ghost use Rattle.run.specs.Run.{lent_run_of};
 ghost use Rattle.run.specs.Gives.{LentRunGives};
-ghost use Rattle.stream.specs.Answers.{isAnswer};
+ghost use Rattle.stream.specs.Answers.{is_answer};
 ghost use Rattle.stream.specs.Written.{nibbles};
-ghost use Rattle.capture_bytes.specs.Packed.{byteFrom, windowFrom, packedInto, NoneBegun, NoneBegins, AllNull, Quiet, LeadsOn, Skips};
+ghost use Rattle.capture_bytes.specs.Packed.{byte_from, window_from, packed_into, NoneBegun, NoneBegins, AllNull, Quiet, LeadsOn, Skips};
 ghost use Rattle.capture_bytes.specs.Unpacked.{fitting, unpacked, portion, run_from};
 
 use period::Nibbles;
@@ -106,7 +106,7 @@ fn skip_sound(h: Head, body: &mut [u8], bytes: &[u8], at: usize) -> Reached
 
 // Past a text's body: of bytes there nothing is kept.
 fn skip_past(h: Head, bytes: &[u8], at: usize) -> Reached
-    requires { (pastBody ≤ h.count) × (h.count ≤ countStop) }
+    requires { (past_body ≤ h.count) × (h.count ≤ count_stop) }
     ensures { (body : List ℕ) → LeadsOn (nibbles bytes.now) h body at result.head body result.at }
 {
     let n = quiet_bytes(h, bytes, at, MOST);
@@ -137,7 +137,7 @@ const COUNT_STOP: usize = Nibbles::MOST as usize + reader_head::WINDOW as usize;
 
 // Within a text's body, at an even count: the bytes that leave the window go into the body as they are.
 fn skip_within(h: Head, body: &mut [u8], bytes: &[u8], at: usize) -> Reached
-    requires { (14 ≤ h.count) × (h.count % 2 ≡ 0) × (h.count ≤ pastBody) × (length body.old ≡ longest) }
+    requires { (14 ≤ h.count) × (h.count % 2 ≡ 0) × (h.count ≤ past_body) × (length body.old ≡ longest) }
     ensures { LeadsOn (nibbles bytes.now) h body.old at result.head body.new result.at }
 {
     let place = ((h.count - BODY) / 2) as usize;
@@ -317,7 +317,7 @@ fn nibble_at(bytes: &[u8], at: usize) -> u8
 // The byte of the two nibbles from a byte's high one on, or from its low one.
 fn byte_from(bytes: &[u8], i: usize, odd: usize) -> u8
     requires { (i + odd < length bytes.now) × (odd ≤ 1) }
-    ensures { result ≡ byteFrom (nibbles bytes.now) (2 * i + odd) }
+    ensures { result ≡ byte_from (nibbles bytes.now) (2 * i + odd) }
 {
     if odd == 0 {
         return bytes[i];
@@ -328,7 +328,7 @@ fn byte_from(bytes: &[u8], i: usize, odd: usize) -> u8
 // Four of them as a window.
 fn word(bytes: &[u8], i: usize, odd: usize) -> u32
     requires { (i + odd + 3 < length bytes.now) × (odd ≤ 1) }
-    ensures { result ≡ windowFrom (nibbles bytes.now) (2 * i + odd) }
+    ensures { result ≡ window_from (nibbles bytes.now) (2 * i + odd) }
 {
     let w = with_byte(0, byte_from(bytes, i, odd));
     let w = with_byte(w, byte_from(bytes, i + 1, odd));
@@ -346,7 +346,7 @@ fn with_byte(w: u32, byte: u8) -> u32
 // Puts so many of them into a body, from its place j on.
 fn copy(bytes: &[u8], i: usize, odd: usize, body: &mut [u8], j: usize, n: usize)
     requires { (i + odd + n ≤ length bytes.now) × (odd ≤ 1) × (j + n ≤ length body.old) }
-    ensures { body.new ≡ packedInto body.old j (nibbles bytes.now) (2 * i + odd) n }
+    ensures { body.new ≡ packed_into body.old j (nibbles bytes.now) (2 * i + odd) n }
 {
     let mut k: usize = 0;
     while k < n {
@@ -397,7 +397,7 @@ const PORTION: usize = 64;
 
 // Whether there is no answer yet, and a nibble left at a place.
 fn goes_on(answer: Answer, at: usize, bytes: usize) -> bool
-    ensures { result ≡ (not (isAnswer answer) && ltb (at / 2) bytes) }
+    ensures { result ≡ (not (is_answer answer) && ltb (at / 2) bytes) }
 {
     match answer {
         Answer::Nothing => at / 2 < bytes,
@@ -418,7 +418,7 @@ fn run_portion(
     line: &mut [u8],
 ) -> RunStepped
     requires { (end ≤ length bytes.now) × (end ≤ at / 2 + 64) }
-    ensures { LentRunGives h.profile (lentRunOf h body.old (portion bytes.now at end) (length line.old)) result body.new line.old line.new }
+    ensures { LentRunGives h.profile (lent_run_of h body.old (portion bytes.now at end) (length line.old)) result body.new line.old line.new }
 {
     let first = lesser(at / 2, end);
     let mut nibbles = [0u8; 2 * PORTION];

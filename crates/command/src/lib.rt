@@ -3,7 +3,7 @@
 // In: what the program takes (crate command_words). Out: what its arguments ask for, whatever they are, and whether all were understood; an input
 // by its place among them. Cost: linear in the words.
 ghost use Rattle.std.specs.Prelude.{◌-◌};
-ghost use Rattle.command.specs.Arguments.{sensorAndFile, AskedByAll, AskedBySome};
+ghost use Rattle.command.specs.Arguments.{sensor_and_file, AskedByAll, AskedBySome};
 
 use command_word::meaning;
 use command_words::{Asked, Usage};
@@ -12,7 +12,7 @@ use text::put;
 
 // Reads the arguments of a program that takes a sensor and a file: `[vv5404|vv6404|vv5300] [FILE]`.
 pub fn sensor_and_file() -> Asked
-    ensures { AskedBySome sensorAndFile result }
+    ensures { AskedBySome sensor_and_file result }
 {
     words(Usage {
         mark: false,

@@ -13,31 +13,31 @@ same (c ∷ s) [] = false
 same (c ∷ s) (d ∷ t) = eqb c d && same s t
 
 -- a number above this takes no digit more: no capture has so many marks
-abbrev pub tenthOfMarks : ℕ
-tenthOfMarks = 100000000000000000
+abbrev pub tenth_of_marks : ℕ
+tenth_of_marks = 100000000000000000
 
 -- a number with the digits of a text behind it; 0 where another character is among them, or where they are too many
-abbrev pub markOnto : ℕ → List ℕ → ℕ
-markOnto n [] = n
-markOnto n (c ∷ t) =
-    cond (ltb c (digit 0)) 0 (cond (ltb (digit 9) c) 0 (cond (ltb tenthOfMarks n) 0 (markOnto (10 * n + (c - digit 0)) t)))
+abbrev pub mark_onto : ℕ → List ℕ → ℕ
+mark_onto n [] = n
+mark_onto n (c ∷ t) =
+    cond (ltb c (digit 0)) 0 (cond (ltb (digit 9) c) 0 (cond (ltb tenth_of_marks n) 0 (mark_onto (10 * n + (c - digit 0)) t)))
 
 -- the number that a word of digits is; 0 for any other word
-abbrev pub markIn : List ℕ → ℕ
-markIn t = markOnto 0 t
+abbrev pub mark_in : List ℕ → ℕ
+mark_in t = mark_onto 0 t
 
 -- what a word asks for that names no sensor and is no option: a word of digits is a mark's number, and any other is a name
-unfoldable pub nameWord : List ℕ → Word
-nameWord t = cond (eqb (markIn t) 0) Name (Mark (markIn t))
+unfoldable pub name_word : List ℕ → Word
+name_word t = cond (eqb (mark_in t) 0) Name (Mark (mark_in t))
 
 -- what a word asks for that names no sensor: one that begins with - and is no option is unknown
-unfoldable pub otherWord : List ℕ → Word
-otherWord t =
+unfoldable pub other_word : List ℕ → Word
+other_word t =
     cond (same t (ascii "odd-pixels-first")) OddPixelsFirst
-    (cond (same t (ascii "-o")) Output (cond (same (take 1 t) (ascii "-")) Unknown (nameWord t)))
+    (cond (same t (ascii "-o")) Output (cond (same (take 1 t) (ascii "-")) Unknown (name_word t)))
 
 -- what a word asks for: the VV6404 is of the VV5404's profile
 unfoldable pub word_of : List ℕ → Word
 word_of t =
     cond (same t (ascii "vv5404")) (Sensor VV5404)
-    (cond (same t (ascii "vv6404")) (Sensor VV5404) (cond (same t (ascii "vv5300")) (Sensor VV5300) (otherWord t)))
+    (cond (same t (ascii "vv6404")) (Sensor VV5404) (cond (same t (ascii "vv5300")) (Sensor VV5300) (other_word t)))

@@ -6,7 +6,7 @@
 // any other is a name. Nothing is refused. Cost: linear in the word.
 ghost use Rattle.std.specs.Prelude.{◌≡◌, take};
 ghost use Rattle.text.specs.Text.{ascii};
-ghost use Rattle.command_word.specs.Word.{same, markIn, nameWord, otherWord, word_of};
+ghost use Rattle.command_word.specs.Word.{same, mark_in, name_word, other_word, word_of};
 
 use profile::Profile;
 
@@ -57,7 +57,7 @@ pub fn is(text: &[u8], that: &[u8]) -> bool
 
 // What a word asks for that names no sensor.
 fn other_meaning(text: &[u8]) -> Word
-    ensures { result ≡ otherWord text.now }
+    ensures { result ≡ other_word text.now }
 {
     if is(text, b"odd-pixels-first") {
         return Word::OddPixelsFirst;
@@ -73,7 +73,7 @@ fn other_meaning(text: &[u8]) -> Word
 
 // What a word asks for that names no sensor and is no option.
 fn mark_or_name(text: &[u8]) -> Word
-    ensures { result ≡ nameWord text.now }
+    ensures { result ≡ name_word text.now }
 {
     let mark = mark_in(text);
     if mark == 0 {
@@ -87,7 +87,7 @@ const TENTH_OF_MARKS: u64 = 100_000_000_000_000_000;
 
 // The number that a word of digits is; 0 for any other word.
 fn mark_in(text: &[u8]) -> u64
-    ensures { result ≡ markIn text.now }
+    ensures { result ≡ mark_in text.now }
 {
     let mut mark: u64 = 0;
     let mut i: usize = 0;

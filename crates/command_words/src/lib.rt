@@ -6,7 +6,7 @@
 // for, and whether all words were understood. Not understood: a word that begins with `-` and is no option; what the program does not take; a
 // sensor, a mark's number, an output or a file too many; -o without a name behind it. Cost: constant for each word.
 ghost use Rattle.std.specs.Prelude.{◌≡◌};
-ghost use Rattle.command_words.specs.Asked.{noneAsked, notUnderstood, sensorAsked, secondAsked, nameAsked, markAsked, oddAsked, outputAsked, outputNamed, afterDash, withWord, endAsked};
+ghost use Rattle.command_words.specs.Asked.{none_asked, not_understood, sensor_asked, second_asked, name_asked, mark_asked, odd_asked, output_asked, output_named, after_dash, with_word, end_asked};
 
 use command_word::Word;
 use profile::Profile;
@@ -39,7 +39,7 @@ pub struct Asked {
 impl Asked {
     // Before any word.
     pub fn new() -> Asked
-        ensures { result ≡ noneAsked }
+        ensures { result ≡ none_asked }
     {
         let profile = Profile::VV5404;
         Asked {
@@ -57,7 +57,7 @@ impl Asked {
 
     // With one word more, at place i among the arguments.
     pub fn with(self, usage: Usage, word: Word, i: usize) -> Asked
-        ensures { result ≡ withWord usage self word i }
+        ensures { result ≡ with_word usage self word i }
     {
         let awaited = self.awaited;
         if awaited {
@@ -75,7 +75,7 @@ impl Asked {
 
     // Behind the last word: -o has a name behind it.
     pub fn end(self) -> Asked
-        ensures { result ≡ endAsked self }
+        ensures { result ≡ end_asked self }
     {
         if self.awaited {
             return self.not_understood();
@@ -85,7 +85,7 @@ impl Asked {
 
     // With the word after -o: a name, whatever it asks for elsewhere, but not -o again.
     fn after_dash(self, word: Word, i: usize) -> Asked
-        ensures { result ≡ afterDash self word i }
+        ensures { result ≡ after_dash self word i }
     {
         match word {
             Word::Sensor(_) => self.with_output_name(i),
@@ -98,7 +98,7 @@ impl Asked {
     }
 
     fn with_sensor(self, profile: Profile) -> Asked
-        ensures { result ≡ sensorAsked self profile }
+        ensures { result ≡ sensor_asked self profile }
     {
         if self.named {
             return self.not_understood();
@@ -118,7 +118,7 @@ impl Asked {
 
     // A program that takes no mark takes a word of digits for a name.
     fn with_mark(mut self, usage: Usage, mark: u64, i: usize) -> Asked
-        ensures { result ≡ markAsked usage self mark i }
+        ensures { result ≡ mark_asked usage self mark i }
     {
         if usage.mark {
             if self.mark == 0 {
@@ -131,7 +131,7 @@ impl Asked {
     }
 
     fn with_name(mut self, usage: Usage, i: usize) -> Asked
-        ensures { result ≡ nameAsked usage self i }
+        ensures { result ≡ name_asked usage self i }
     {
         if self.first == 0 {
             self.first = i;
@@ -141,7 +141,7 @@ impl Asked {
     }
 
     fn with_second(mut self, usage: Usage, i: usize) -> Asked
-        ensures { result ≡ secondAsked usage self i }
+        ensures { result ≡ second_asked usage self i }
     {
         if usage.second {
             if self.second == 0 {
@@ -154,7 +154,7 @@ impl Asked {
     }
 
     fn with_odd(mut self, usage: Usage) -> Asked
-        ensures { result ≡ oddAsked usage self }
+        ensures { result ≡ odd_asked usage self }
     {
         if usage.odd {
             self.odd = true;
@@ -164,7 +164,7 @@ impl Asked {
     }
 
     fn with_output(mut self, usage: Usage) -> Asked
-        ensures { result ≡ outputAsked usage self }
+        ensures { result ≡ output_asked usage self }
     {
         if usage.output {
             if self.output == 0 {
@@ -177,7 +177,7 @@ impl Asked {
     }
 
     fn with_output_name(mut self, i: usize) -> Asked
-        ensures { result ≡ outputNamed self i }
+        ensures { result ≡ output_named self i }
     {
         self.output = i;
         self.awaited = false;
@@ -185,7 +185,7 @@ impl Asked {
     }
 
     fn not_understood(mut self) -> Asked
-        ensures { result ≡ notUnderstood self }
+        ensures { result ≡ not_understood self }
     {
         self.understood = false;
         self

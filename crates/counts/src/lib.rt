@@ -1,10 +1,10 @@
 // Counts, single and side by side. They are held at the greatest u64, which no capture reaches. Cost: constant.
 ghost use Rattle.std.specs.Prelude.{◌≡◌};
-ghost use Rattle.counts.specs.Counts.{oneMore, oneMoreAt, allZero};
+ghost use Rattle.counts.specs.Counts.{one_more, one_more_at, all_zero};
 
 // A count and one more.
 pub fn one_more(count: u64) -> u64
-    ensures { result ≡ oneMore count }
+    ensures { result ≡ one_more count }
 {
     if count < u64::MAX {
         return count + 1;
@@ -14,7 +14,7 @@ pub fn one_more(count: u64) -> u64
 
 // Counts side by side, with one more at a place: none where there is no such place.
 pub fn add_at(counts: &mut [u64], i: usize)
-    ensures { counts.new ≡ oneMoreAt counts.old i }
+    ensures { counts.new ≡ one_more_at counts.old i }
 {
     if i < counts.len() {
         counts[i] = one_more(counts[i]);
@@ -23,7 +23,7 @@ pub fn add_at(counts: &mut [u64], i: usize)
 
 // Whether counts side by side are all 0.
 pub fn are_zero(counts: &[u64]) -> bool
-    ensures { result ≡ allZero counts.now }
+    ensures { result ≡ all_zero counts.now }
 {
     let mut i: usize = 0;
     while i < counts.len() {

@@ -4,9 +4,9 @@
 // each line handed out; and whether a frame is covered: whether, of one layout, every line up to the EOF line came. Nothing is refused: a table
 // that is shorter has no place for what lies behind it. Cost: constant for an answer, linear in a frame's lines for the whole.
 ghost use Rattle.std.specs.Prelude.{◌≡◌, ◌+◌};
-ghost use Rattle.frame_layout.specs.FrameLayout.{endPlace};
-ghost use Rattle.line_code.specs.LineCode.{kindNumber};
-ghost use Rattle.coverage.specs.Coverage.{cell_of, hasCome, withLine, withAnswer, allCame, isCovered};
+ghost use Rattle.frame_layout.specs.FrameLayout.{end_place};
+ghost use Rattle.line_code.specs.LineCode.{kind_number};
+ghost use Rattle.coverage.specs.Coverage.{cell_of, has_come, with_line, with_answer, all_came, is_covered};
 
 use frame_layout::Borders;
 use line_code::Kind;
@@ -18,7 +18,7 @@ pub const CELLS: usize = 6 * 304;
 
 // Notes an answer: the kind and number of a line.
 pub fn note(answer: Answer, came: &mut [u8])
-    ensures { came.new ≡ withAnswer came.old answer }
+    ensures { came.new ≡ with_answer came.old answer }
 {
     match answer {
         Answer::Nothing => {}
@@ -32,7 +32,7 @@ pub fn note(answer: Answer, came: &mut [u8])
 }
 
 fn note_line(kind: u8, number: u16, came: &mut [u8])
-    ensures { came.new ≡ withLine came.old kind number }
+    ensures { came.new ≡ with_line came.old kind number }
 {
     let cell = cell_of(kind, number);
     if cell < came.len() {
@@ -42,7 +42,7 @@ fn note_line(kind: u8, number: u16, came: &mut [u8])
 
 // Whether every line up to the EOF line came, of a layout with borders or of one without.
 pub fn is_covered(profile: Profile, came: &[u8]) -> bool
-    ensures { result ≡ isCovered profile came.now }
+    ensures { result ≡ is_covered profile came.now }
 {
     if have_come(profile, Borders::On, came) {
         return true;
@@ -52,7 +52,7 @@ pub fn is_covered(profile: Profile, came: &[u8]) -> bool
 
 // Whether every line of a layout up to the EOF line came.
 fn have_come(profile: Profile, borders: Borders, came: &[u8]) -> bool
-    ensures { result ≡ allCame profile borders came.now (endPlace profile borders + 1) }
+    ensures { result ≡ all_came profile borders came.now (end_place profile borders + 1) }
 {
     let mut left = borders.end_place(profile) + 1;
     while 0 < left {
@@ -69,7 +69,7 @@ fn have_come(profile: Profile, borders: Borders, came: &[u8]) -> bool
 
 // Whether a line of this kind came with this number.
 fn has_come(kind: Kind, number: u16, came: &[u8]) -> bool
-    ensures { result ≡ hasCome came.now (kindNumber kind) number }
+    ensures { result ≡ has_come came.now (kind_number kind) number }
 {
     let cell = cell_of(kind.number(), number);
     if cell < came.len() {

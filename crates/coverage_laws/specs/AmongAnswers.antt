@@ -1,6 +1,6 @@
 -- A line among the answers to a capture. Definitions only.
 use Rattle.std.specs.Prelude.{◌≡◌, true, List, ◌∷◌, ◌++◌, ℕ}
-use Rattle.line_code.specs.LineCode.{kindNumber}
+use Rattle.line_code.specs.LineCode.{kind_number}
 use Rattle.profile.specs.declared.Profile.{Profile}
 use Rattle.stream.specs.declared.LineFacts.{LineFacts}
 use Rattle.stream.specs.declared.Answer.{Answer}
@@ -14,4 +14,4 @@ LineAmong f w = (before : List Answer) × (later : List Answer) × (w ≡ before
 
 -- one of them is a line that is due at this place of a layout
 abbrev pub DueAmong : Profile → Borders → ℕ → List Answer → Type 0
-DueAmong p b place w = (f : LineFacts) × (due_at p b place (kindNumber f.kind) f.number ≡ true) × LineAmong f w
+DueAmong p b place w = (f : LineFacts) × (due_at p b place (kind_number f.kind) f.number ≡ true) × LineAmong f w

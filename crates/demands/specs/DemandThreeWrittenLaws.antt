@@ -3,30 +3,30 @@ use Rattle.std.specs.Prelude.{◌≡◌, refl, List, ◌++◌, ℕ, ◌≤◌, l
 use Rattle.std.proofs.Common.{◌∙◌, ap, ap₂, subst}
 use Rattle.lent_buffer.specs.Filled.{used}
 use Rattle.profile.specs.declared.Profile.{Profile}
-use Rattle.stream.specs.Written.{Sent, Writable, AllWritable, no_lines, and-line, written, stream}
-use Rattle.writer.specs.WriterTable.{LineAnswer, line, writeSent}
-use Rattle.writer.specs.WriterLaws.{sent-answer}
-use Rattle.refinement.specs.RunsLaws.{runs-demand-three}
-use Rattle.demands.specs.DemandThreeWritten.{WroteAll, wrote_none, and-wrote, MeetsWritten}
+use Rattle.stream.specs.Written.{Sent, Writable, AllWritable, no_lines_lem, and_line, written, stream}
+use Rattle.writer.specs.WriterTable.{LineAnswer, line, write_sent}
+use Rattle.writer.specs.WriterLaws.{sent_answer}
+use Rattle.refinement.specs.RunsLaws.{runs_demand_three}
+use Rattle.demands.specs.DemandThreeWritten.{WroteAll, wrote_none, and_wrote, MeetsWritten}
 
 -- one line
-pub wrote : (p : Profile) (s : Sent) (room n : ℕ) (w : List ℕ) → writeSent p s room ≡ used n w → Writable p s × (w ≡ written s)
-wrote p s room n w e = go ((sent-answer p s room (used n w)).0 e)
+pub wrote : (p : Profile) (s : Sent) (room n : ℕ) (w : List ℕ) → write_sent p s room ≡ used n w → Writable p s × (w ≡ written s)
+wrote p s room n w e = go ((sent_answer p s room (used n w)).0 e)
   where
     go : {n : ℕ} {w : List ℕ} → LineAnswer p s room (used n w) → Writable p s × (w ≡ written s)
     go (line g r) = (g, refl)
 
 -- all of them
-pub wrote-clean : (p : Profile) (ss : List Sent) (c : List ℕ) → WroteAll p ss c → AllWritable p ss × (c ≡ stream ss)
-wrote-clean p ss c wrote_none = (no_lines, refl)
-wrote-clean p ss c (and-wrote {s} {ss = rest} {w} {c = later} room n e h) =
+pub wrote_clean : (p : Profile) (ss : List Sent) (c : List ℕ) → WroteAll p ss c → AllWritable p ss × (c ≡ stream ss)
+wrote_clean p ss c wrote_none = (no_lines_lem, refl)
+wrote_clean p ss c (and_wrote {s} {ss = rest} {w} {c = later} room n e h) =
     let one = wrote p s room n w e in
-    let all = wrote-clean p rest later h in
-    (and-line one.0 all.0, ap₂ ◌++◌ one.1 all.1)
+    let all = wrote_clean p rest later h in
+    (and_line one.0 all.0, ap₂ ◌++◌ one.1 all.1)
 
 -- the law
-pub demand-three-written : (p : Profile) → MeetsWritten p
-demand-three-written p ss c h i j ij jl new cs last taken =
-    let k = wrote-clean p ss c h in
-    runs-demand-three p ss k.0 i j ij (subst (λ (v : List ℕ). j ≤ length v) k.1 jl) new cs last
+pub demand_three_written : (p : Profile) → MeetsWritten p
+demand_three_written p ss c h i j ij jl new cs last taken =
+    let k = wrote_clean p ss c h in
+    runs_demand_three p ss k.0 i j ij (subst (λ (v : List ℕ). j ≤ length v) k.1 jl) new cs last
     (taken ∙ ap (λ (v : List ℕ). take i v ++ (new ++ drop j v)) k.1)

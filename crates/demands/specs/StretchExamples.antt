@@ -4,32 +4,32 @@ use Rattle.std.specs.Prelude.{◌≡◌, refl, true, List, [], ◌∷◌, map}
 use Rattle.std.proofs.Common.{subst}
 use Rattle.std.specs.Int.Count.{ones}
 use Rattle.line_code.specs.declared.Kind.TheVariants.{VL, SOF}
-use Rattle.line_code.specs.LineCode.{cleanByte}
-use Rattle.line_number.specs.LineNumber.{numberByte}
+use Rattle.line_code.specs.LineCode.{clean_byte}
+use Rattle.line_number.specs.LineNumber.{number_byte}
 use Rattle.profile.specs.declared.Profile.{Profile}
 use Rattle.profile.specs.declared.Profile.TheVariants.{VV5404, VV5300}
 use Rattle.stream.specs.Written.{Sent, stream}
-use Rattle.stream.specs.Nibbles.{nibblesOnly}
-use Rattle.reader.specs.Reader.{freshReader}
-use Rattle.recovery.specs.Calls.{asSent, lineCollector}
+use Rattle.stream.specs.Nibbles.{nibbles_only}
+use Rattle.reader.specs.Reader.{fresh_reader}
+use Rattle.recovery.specs.Calls.{as_sent, line_collector}
 use Rattle.recovery.specs.Examples.{sample, four}
-use Rattle.refinement.specs.Runs.{RunCall, runsCollected}
-use Rattle.stretch_laws.specs.Stretches.{changedOf, Sublist}
-use Rattle.stretch_laws.specs.Examples.{twoStretches, segments-clean, whole-lines}
-use Rattle.demands.specs.StretchesWrittenLaws.{stretches-written}
-use Rattle.demands.specs.Examples.{four-wrote, callsOn, calls_last, calls-taken}
+use Rattle.refinement.specs.Runs.{RunCall, runs_collected}
+use Rattle.stretch_laws.specs.Stretches.{changed_of, Sublist}
+use Rattle.stretch_laws.specs.Examples.{two_stretches, segments_clean, whole_lines_lem}
+use Rattle.demands.specs.StretchesWrittenLaws.{stretches_written}
+use Rattle.demands.specs.Examples.{four_wrote, calls_on, calls_last, calls_taken}
 
-changed-nibbles : (p : Profile) → nibblesOnly (changedOf (twoStretches p)) ≡ true
-unfolding cleanByte numberByte ones
-changed-nibbles VV5404 = refl
-changed-nibbles VV5300 = refl
+changed_nibbles : (p : Profile) → nibbles_only (changed_of (two_stretches p)) ≡ true
+unfolding clean_byte number_byte ones
+changed_nibbles VV5404 = refl
+changed_nibbles VV5300 = refl
 
 abbrev calls : Profile → List RunCall
-calls p = callsOn p (changedOf (twoStretches p))
+calls p = calls_on p (changed_of (two_stretches p))
 
 -- the first and the third line come out as sent, in this order
-pub two-come : (p : Profile) → Sublist (asSent (sample p SOF 0) ∷ asSent (sample p VL 10) ∷ []) (runsCollected lineCollector p (freshReader p) (calls p))
-two-come p =
-    let w = changedOf (twoStretches p) in
-    subst (λ (ss : List Sent). Sublist (map asSent ss) (runsCollected lineCollector p (freshReader p) (calls p))) (whole-lines p)
-    (stretches-written p (four p) (stream (four p)) (four-wrote p) (twoStretches p) (segments-clean p) (calls p) (calls_last p w) (calls-taken p w (changed-nibbles p))).lines-come
+pub two_come : (p : Profile) → Sublist (as_sent (sample p SOF 0) ∷ as_sent (sample p VL 10) ∷ []) (runs_collected line_collector p (fresh_reader p) (calls p))
+two_come p =
+    let w = changed_of (two_stretches p) in
+    subst (λ (ss : List Sent). Sublist (map as_sent ss) (runs_collected line_collector p (fresh_reader p) (calls p))) (whole_lines_lem p)
+    (stretches_written p (four p) (stream (four p)) (four_wrote p) (two_stretches p) (segments_clean p) (calls p) (calls_last p w) (calls_taken p w (changed_nibbles p))).lines_come

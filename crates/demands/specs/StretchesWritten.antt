@@ -2,9 +2,9 @@
 use Rattle.std.specs.Prelude.{◌≡◌, List, ℕ}
 use Rattle.profile.specs.declared.Profile.{Profile}
 use Rattle.stream.specs.Written.{Sent}
-use Rattle.reader.specs.Reader.{freshReader}
-use Rattle.refinement.specs.Runs.{RunCall, runsTaken, FinishLastRun}
-use Rattle.stretch_laws.specs.Stretches.{Segment, cleanOf, changedOf, StretchesRead}
+use Rattle.reader.specs.Reader.{fresh_reader}
+use Rattle.refinement.specs.Runs.{RunCall, runs_taken, FinishLastRun}
+use Rattle.stretch_laws.specs.Stretches.{Segment, clean_of, changed_of, StretchesRead}
 use Rattle.demands.specs.DemandThreeWritten.{WroteAll}
 
 -- of a fresh reader of the profile p: whatever the writer wrote of the lines ss, whatever stretches of it are replaced by whatever nibbles, and whatever
@@ -14,8 +14,8 @@ ReadsWrittenStretches p =
     (ss : List Sent) (c : List ℕ)
     → WroteAll p ss c
     → (gs : List Segment)
-    → cleanOf gs ≡ c
+    → clean_of gs ≡ c
     → (cs : List RunCall)
     → FinishLastRun cs
-    → runsTaken (freshReader p) cs ≡ changedOf gs
-    → StretchesRead p (freshReader p) ss gs cs
+    → runs_taken (fresh_reader p) cs ≡ changed_of gs
+    → StretchesRead p (fresh_reader p) ss gs cs

@@ -3,9 +3,9 @@
 // In: the bytes of differences (crate diff_records). Out: the difference that they start with, and how many bytes it has. Nothing is refused: any bytes
 // are read as a difference, what is missing at the end as 0. Cost: constant.
 ghost use Rattle.std.specs.Prelude.{◌≡◌, ◌+◌, ◌<◌, get_or};
-ghost use Rattle.line_records.specs.Lines.{fromTwo};
-ghost use Rattle.diff_records.specs.ReadBack.{frontOf, frontSize};
-ghost use Rattle.diff_change.specs.Front.{changeOf};
+ghost use Rattle.line_records.specs.Lines.{from_two};
+ghost use Rattle.diff_records.specs.ReadBack.{front_of, front_size};
+ghost use Rattle.diff_change.specs.Front.{change_of};
 
 // A difference without a body: of a line that one list only holds, its number; of a number, both kinds; of a number and a place, both bytes.
 #[derive(Drop)]
@@ -18,7 +18,7 @@ pub enum Change {
 
 // The difference that some bytes start with.
 pub fn front(records: &[u8]) -> Change
-    ensures { result ≡ changeOf (frontOf records.now) }
+    ensures { result ≡ change_of (front_of records.now) }
 {
     let tag = byte(records, 0);
     let number = two(records, 1);
@@ -36,7 +36,7 @@ pub fn front(records: &[u8]) -> Change
 
 // The bytes of the difference that some bytes start with.
 pub fn front_size(records: &[u8]) -> usize
-    ensures { result ≡ frontSize records.now }
+    ensures { result ≡ front_size records.now }
 {
     let tag = byte(records, 0);
     if tag == diff_records::ONLY_FIRST {
@@ -54,7 +54,7 @@ pub fn front_size(records: &[u8]) -> usize
 // The number in two bytes at a place, high byte first.
 fn two(bytes: &[u8], i: usize) -> usize
     requires { i < 256 }
-    ensures { (result ≡ fromTwo (get_or bytes.now i 0) (get_or bytes.now (i + 1) 0)) × (result < 65536) }
+    ensures { (result ≡ from_two (get_or bytes.now i 0) (get_or bytes.now (i + 1) 0)) × (result < 65536) }
 {
     256 * wide(byte(bytes, i)) + wide(byte(bytes, i + 1))
 }

@@ -3,7 +3,7 @@
 // In: a difference (crate diff_change), a lent buffer and a place in it. Out: the row there in ASCII, and the place after it, as crate text puts texts:
 // where the buffer ends before the row does, the rest is left out. Nothing is refused. Cost: linear in the row.
 ghost use Rattle.text.specs.Put.{Puts};
-ghost use Rattle.diff_change_row.specs.ChangeRow.{changeRow, lineWord, kindWord, kindsWords, pairWords};
+ghost use Rattle.diff_change_row.specs.ChangeRow.{change_row, line_word, kind_word, kinds_words, pair_words};
 
 use diff_change::Change;
 use line_code::Kind;
@@ -11,7 +11,7 @@ use text::{put, put_decimal};
 
 // Puts the row of a difference at a place, and gives the place after it; as each function below.
 pub fn put_row(change: Change, out: &mut [u8], at: usize) -> usize
-    ensures { Puts out.old at (changeRow change) result out.new }
+    ensures { Puts out.old at (change_row change) result out.new }
 {
     match change {
         Change::First(number) => {
@@ -37,7 +37,7 @@ pub fn put_row(change: Change, out: &mut [u8], at: usize) -> usize
 }
 
 fn put_line(number: usize, out: &mut [u8], at: usize) -> usize
-    ensures { Puts out.old at (lineWord number) result out.new }
+    ensures { Puts out.old at (line_word number) result out.new }
 {
     let at = put(b"line ", out, at);
     put_decimal(number as u64, out, at)
@@ -45,7 +45,7 @@ fn put_line(number: usize, out: &mut [u8], at: usize) -> usize
 
 // Both kinds in words.
 fn put_kinds(x: u8, y: u8, out: &mut [u8], at: usize) -> usize
-    ensures { Puts out.old at (kindsWords x y) result out.new }
+    ensures { Puts out.old at (kinds_words x y) result out.new }
 {
     let at = put(b": ", out, at);
     let at = put_kind(x, out, at);
@@ -56,7 +56,7 @@ fn put_kinds(x: u8, y: u8, out: &mut [u8], at: usize) -> usize
 
 // A kind in words, or any other byte as it is.
 fn put_kind(kind: u8, out: &mut [u8], at: usize) -> usize
-    ensures { Puts out.old at (kindWord kind) result out.new }
+    ensures { Puts out.old at (kind_word kind) result out.new }
 {
     if kind == Kind::BL.number() {
         return put(b"blank", out, at);
@@ -77,7 +77,7 @@ fn put_kind(kind: u8, out: &mut [u8], at: usize) -> usize
 }
 
 fn put_pair(x: u8, y: u8, out: &mut [u8], at: usize) -> usize
-    ensures { Puts out.old at (pairWords x y) result out.new }
+    ensures { Puts out.old at (pair_words x y) result out.new }
 {
     let at = put(b": ", out, at);
     let at = put_decimal(x as u64, out, at);

@@ -9,16 +9,16 @@
 ghost use Rattle.std.specs.Prelude.{◌≡◌, not, ◌&&◌, leb, length};
 ghost use Rattle.lent_buffer.specs.Filled.{Gives};
 ghost use Rattle.text.specs.Put.{Puts};
-ghost use Rattle.line_records.specs.Lines.{fullLines, headedLines, rises, numbersSmall, kindsKnown, noneCut};
-ghost use Rattle.diff_records.specs.Difference.{differences, encodedAll};
-ghost use Rattle.diff_lines.specs.Compare.{compareOf};
+ghost use Rattle.line_records.specs.Lines.{full_lines, headed_lines, rises, numbers_small, kinds_known, none_cut};
+ghost use Rattle.diff_records.specs.Difference.{differences, encoded_all};
+ghost use Rattle.diff_lines.specs.Compare.{compare_of};
 
 use lent_buffer::Filled;
 use line_records::LINE;
 
 // Compares two lists.
 pub fn compare(first: &[u8], second: &[u8], buffer: &mut [u8]) -> Filled
-    ensures { Gives (compareOf first.now second.now (length buffer.old)) result buffer.old buffer.new }
+    ensures { Gives (compare_of first.now second.now (length buffer.old)) result buffer.old buffer.new }
 {
     if either_falls(first, second) {
         return Filled::Refused(refusal::NUMBERS_NOT_RISING);
@@ -41,7 +41,7 @@ pub fn compare(first: &[u8], second: &[u8], buffer: &mut [u8]) -> Filled
 
 // Whether in either list a number is not above the one before it.
 fn either_falls(first: &[u8], second: &[u8]) -> bool
-    ensures { (rises (headedLines first.now) && rises (headedLines second.now)) ≡ not result }
+    ensures { (rises (headed_lines first.now) && rises (headed_lines second.now)) ≡ not result }
 {
     if line_records::some_falls(first) {
         return true;
@@ -51,7 +51,7 @@ fn either_falls(first: &[u8], second: &[u8]) -> bool
 
 // Whether in either list a number is above 4095.
 fn either_past(first: &[u8], second: &[u8]) -> bool
-    ensures { (numbersSmall (headedLines first.now) && numbersSmall (headedLines second.now)) ≡ not result }
+    ensures { (numbers_small (headed_lines first.now) && numbers_small (headed_lines second.now)) ≡ not result }
 {
     if line_records::some_number_past(first) {
         return true;
@@ -61,7 +61,7 @@ fn either_past(first: &[u8], second: &[u8]) -> bool
 
 // Whether in either list a kind is not 1 to 5.
 fn either_bad(first: &[u8], second: &[u8]) -> bool
-    ensures { (kindsKnown (headedLines first.now) && kindsKnown (headedLines second.now)) ≡ not result }
+    ensures { (kinds_known (headed_lines first.now) && kinds_known (headed_lines second.now)) ≡ not result }
 {
     if line_records::some_kind_bad(first) {
         return true;
@@ -71,7 +71,7 @@ fn either_bad(first: &[u8], second: &[u8]) -> bool
 
 // Whether either list is cut within a line.
 fn either_cut(first: &[u8], second: &[u8]) -> bool
-    ensures { (noneCut first.now && noneCut second.now) ≡ not result }
+    ensures { (none_cut first.now && none_cut second.now) ≡ not result }
 {
     if first.len() % LINE != 0 {
         return true;
@@ -84,7 +84,7 @@ fn either_cut(first: &[u8], second: &[u8]) -> bool
 
 // Whether there is room for all differences.
 fn fits(first: &[u8], second: &[u8], room: usize) -> bool
-    ensures { result ≡ leb (length (encodedAll (differences (fullLines first.now) (fullLines second.now)))) room }
+    ensures { result ≡ leb (length (encoded_all (differences (full_lines first.now) (full_lines second.now)))) room }
 {
     let mut left = room;
     let mut i: usize = 0;
@@ -111,7 +111,7 @@ fn fits(first: &[u8], second: &[u8], room: usize) -> bool
 
 // Puts all differences at the front, and gives their length.
 fn put_all(first: &[u8], second: &[u8], buffer: &mut [u8]) -> usize
-    ensures { Puts buffer.old 0 (encodedAll (differences (fullLines first.now) (fullLines second.now))) result buffer.new }
+    ensures { Puts buffer.old 0 (encoded_all (differences (full_lines first.now) (full_lines second.now))) result buffer.new }
 {
     let mut at: usize = 0;
     let mut i: usize = 0;

@@ -13,9 +13,9 @@ pub each_map : {P Q : Difference → Type 0} {ds : List Difference} → ((d : Di
 each_map f done = done
 each_map f (also {d} h g) = also (f d h) (each_map f g)
 
-pub each-unless : {P : Difference → Type 0} (t : Bool) (d : Difference) {ds : List Difference} → P d → Each P ds → Each P (unless t d ds)
-each-unless true d h g = g
-each-unless false d h g = also h g
+pub each_unless : {P : Difference → Type 0} (t : Bool) (d : Difference) {ds : List Difference} → P d → Each P ds → Each P (unless t d ds)
+each_unless true d h g = g
+each_unless false d h g = also h g
 
 pub each_both : {P Q R : Difference → Type 0} {ds : List Difference} → ((d : Difference) → P d → Q d → R d) → Each P ds → Each Q ds → Each R ds
 each_both f done done = done

@@ -2,7 +2,7 @@
 use Rattle.std.specs.Prelude.{◌≡◌, ℕ, ◌<◌, length, get_or}
 use mathlib.Core.List.{List, Memᴰ}
 use Rattle.line_records.specs.Lines.{FullLine}
-use Rattle.diff_records.specs.Difference.{Difference, onlyFirst, onlySecond, bothKinds, bothBytes}
+use Rattle.diff_records.specs.Difference.{Difference, only_first, only_second, both_kinds, both_bytes}
 
 -- a list holds no line of a number
 abbrev pub NoneOf : ℕ → List FullLine → Type 0
@@ -13,29 +13,29 @@ pub record Both (ls ms : List FullLine) (n : ℕ) : Type 0 where
   pub one : FullLine
   pub other : FullLine
   pub one_in : Memᴰ one ls
-  pub other-in : Memᴰ other ms
+  pub other_in : Memᴰ other ms
   pub one_number : one.number ≡ n
-  pub other-number : other.number ≡ n
+  pub other_number : other.number ≡ n
 
 -- and these have different kinds
 pub record KindsDiffer (ls ms : List FullLine) (n k m : ℕ) : Type 0 where
   pub lines : Both ls ms n
-  pub one-kind : lines.one.kind ≡ k
-  pub other-kind : lines.other.kind ≡ m
+  pub one_kind : lines.one.kind ≡ k
+  pub other_kind : lines.other.kind ≡ m
   pub differ : k ≡ m → ⊥
 
 -- or different bytes at a place of their bodies
 pub record BytesDiffer (ls ms : List FullLine) (n p x y : ℕ) : Type 0 where
   pub lines : Both ls ms n
-  pub one-within : p < length lines.one.body
-  pub other-within : p < length lines.other.body
+  pub one_within : p < length lines.one.body
+  pub other_within : p < length lines.other.body
   pub one_byte : get_or lines.one.body p 0 ≡ x
   pub other_byte : get_or lines.other.body p 0 ≡ y
   pub differ : x ≡ y → ⊥
 
 -- a difference is true of two lists
 abbrev pub Differs : List FullLine → List FullLine → Difference → Type 0
-Differs ls ms (onlyFirst l) = Memᴰ l ls × NoneOf l.number ms
-Differs ls ms (onlySecond l) = Memᴰ l ms × NoneOf l.number ls
-Differs ls ms (bothKinds n k m) = KindsDiffer ls ms n k m
-Differs ls ms (bothBytes n p x y) = BytesDiffer ls ms n p x y
+Differs ls ms (only_first l) = Memᴰ l ls × NoneOf l.number ms
+Differs ls ms (only_second l) = Memᴰ l ms × NoneOf l.number ls
+Differs ls ms (both_kinds n k m) = KindsDiffer ls ms n k m
+Differs ls ms (both_bytes n p x y) = BytesDiffer ls ms n p x y

@@ -1,38 +1,38 @@
 -- Differences read back from their bytes (02, A13).
 use Rattle.std.specs.Prelude.{cond, List, [], ◌∷◌, ℕ, zero, suc, eqb, length, get_or, take, drop}
 use Rattle.profile.specs.Profile.{width}
-use Rattle.line_records.specs.Lines.{FullLine, fromTwo}
-use Rattle.diff_records.specs.Difference.{Difference, onlyFirst, onlySecond, bothKinds, bothBytes}
+use Rattle.line_records.specs.Lines.{FullLine, from_two}
+use Rattle.diff_records.specs.Difference.{Difference, only_first, only_second, both_kinds, both_bytes}
 
 -- The difference that some bytes start with: what is missing at their end counts as 0.
 
 -- the number in two bytes at two places
-abbrev pub twoAt : List ℕ → ℕ → ℕ → ℕ
-twoAt bs i j = fromTwo (get_or bs i 0) (get_or bs j 0)
+abbrev pub two_at : List ℕ → ℕ → ℕ → ℕ
+two_at bs i j = from_two (get_or bs i 0) (get_or bs j 0)
 
 -- the line that is given whole
-abbrev pub givenLine : List ℕ → FullLine
-givenLine bs = record { kind = get_or bs 3 0; number = twoAt bs 1 2; body = take width (drop 4 bs) }
+abbrev pub given_line : List ℕ → FullLine
+given_line bs = record { kind = get_or bs 3 0; number = two_at bs 1 2; body = take width (drop 4 bs) }
 
 -- by its first byte
-unfoldable pub frontOf : List ℕ → Difference
-frontOf bs =
-    cond (eqb (get_or bs 0 0) 1) (onlyFirst (givenLine bs))
-    (cond (eqb (get_or bs 0 0) 2) (onlySecond (givenLine bs))
-    (cond (eqb (get_or bs 0 0) 3) (bothKinds (twoAt bs 1 2) (get_or bs 3 0) (get_or bs 4 0)) (bothBytes (twoAt bs 1 2) (twoAt bs 3 4) (get_or bs 5 0) (get_or bs 6 0))))
+unfoldable pub front_of : List ℕ → Difference
+front_of bs =
+    cond (eqb (get_or bs 0 0) 1) (only_first (given_line bs))
+    (cond (eqb (get_or bs 0 0) 2) (only_second (given_line bs))
+    (cond (eqb (get_or bs 0 0) 3) (both_kinds (two_at bs 1 2) (get_or bs 3 0) (get_or bs 4 0)) (both_bytes (two_at bs 1 2) (two_at bs 3 4) (get_or bs 5 0) (get_or bs 6 0))))
 
 -- how many bytes it has
-unfoldable pub frontSize : List ℕ → ℕ
-frontSize bs = cond (eqb (get_or bs 0 0) 1) 360 (cond (eqb (get_or bs 0 0) 2) 360 (cond (eqb (get_or bs 0 0) 3) 5 7))
+unfoldable pub front_size : List ℕ → ℕ
+front_size bs = cond (eqb (get_or bs 0 0) 1) 360 (cond (eqb (get_or bs 0 0) 2) 360 (cond (eqb (get_or bs 0 0) 3) 5 7))
 
 -- All of them.
 
 -- the differences of some bytes, one after another, at most n of them
-abbrev pub firstDifferences : ℕ → List ℕ → List Difference
-firstDifferences zero bs = []
-firstDifferences (suc n) [] = []
-firstDifferences (suc n) (tag ∷ bs) = frontOf (tag ∷ bs) ∷ firstDifferences n (drop (frontSize (tag ∷ bs)) (tag ∷ bs))
+abbrev pub first_differences : ℕ → List ℕ → List Difference
+first_differences zero bs = []
+first_differences (suc n) [] = []
+first_differences (suc n) (tag ∷ bs) = front_of (tag ∷ bs) ∷ first_differences n (drop (front_size (tag ∷ bs)) (tag ∷ bs))
 
 -- the differences that some bytes tell
-abbrev pub differencesIn : List ℕ → List Difference
-differencesIn bs = firstDifferences (length bs) bs
+abbrev pub differences_in : List ℕ → List Difference
+differences_in bs = first_differences (length bs) bs

@@ -7,9 +7,9 @@
 ghost use Rattle.std.specs.Prelude.{◌≡◌, [], ◌∷◌, ◌≤◌, ◌<◌, eqb, length};
 ghost use Rattle.text.specs.Put.{Puts};
 ghost use Rattle.profile.specs.Profile.{width};
-ghost use Rattle.line_records.specs.Lines.{lineSize, noLine, frontLine};
-ghost use Rattle.diff_records.specs.Difference.{bothKinds, bothBytes, wholeLine, unless, placesFrom, betweenLines, encodedAll};
-ghost use Rattle.diff_records.specs.Next.{nextDifferences, howFar, unequal, different};
+ghost use Rattle.line_records.specs.Lines.{line_size, no_line, front_line};
+ghost use Rattle.diff_records.specs.Difference.{both_kinds, both_bytes, whole_line, unless, places_from, between_lines, encoded_all};
+ghost use Rattle.diff_records.specs.Next.{next_differences, how_far, unequal, different};
 
 use line_records::{HEAD, LINE, NO_LINE};
 use text::put;
@@ -32,7 +32,7 @@ pub const BYTES_SIZE: usize = 7;
 
 // How far a list is passed, by the number that it starts with and the one that the other does.
 pub fn how_far(own: usize, other: usize) -> usize
-    ensures { result ≡ howFar own other }
+    ensures { result ≡ how_far own other }
 {
     if other < own {
         return 0;
@@ -45,7 +45,7 @@ pub fn how_far(own: usize, other: usize) -> usize
 
 // The bytes of the next number's differences.
 pub fn next_size(a: &[u8], b: &[u8]) -> usize
-    ensures { result ≡ length (encodedAll (nextDifferences a.now b.now)) }
+    ensures { result ≡ length (encoded_all (next_differences a.now b.now)) }
 {
     let n = line_records::next_number(a);
     let m = line_records::next_number(b);
@@ -63,7 +63,7 @@ pub fn next_size(a: &[u8], b: &[u8]) -> usize
 
 // Puts the next number's differences at a place, and gives the place after them; as each function below.
 pub fn put_next(a: &[u8], b: &[u8], buffer: &mut [u8], at: usize) -> usize
-    ensures { Puts buffer.old at (encodedAll (nextDifferences a.now b.now)) result buffer.new }
+    ensures { Puts buffer.old at (encoded_all (next_differences a.now b.now)) result buffer.new }
 {
     let n = line_records::next_number(a);
     let m = line_records::next_number(b);
@@ -81,8 +81,8 @@ pub fn put_next(a: &[u8], b: &[u8], buffer: &mut [u8], at: usize) -> usize
 
 // The bytes of what differs between two lines of one number.
 fn between_size(a: &[u8], b: &[u8]) -> usize
-    requires { (lineSize ≤ length a.now) × (lineSize ≤ length b.now) }
-    ensures { result ≡ length (encodedAll (betweenLines (frontLine a.now) (frontLine b.now))) }
+    requires { (line_size ≤ length a.now) × (line_size ≤ length b.now) }
+    ensures { result ≡ length (encoded_all (between_lines (front_line a.now) (front_line b.now))) }
 {
     KINDS_SIZE * unequal(a[0], b[0]) + BYTES_SIZE * different(&a[HEAD..LINE], &b[HEAD..LINE])
 }
@@ -113,8 +113,8 @@ fn unequal(x: u8, y: u8) -> usize
 
 // A line whole: its number, kind and body.
 fn put_line(tag: u8, n: usize, line: &[u8], buffer: &mut [u8], at: usize) -> usize
-    requires { (lineSize ≤ length line.now) × (n ≡ (frontLine line.now).number) × (n < noLine) }
-    ensures { Puts buffer.old at (tag ∷ wholeLine (frontLine line.now)) result buffer.new }
+    requires { (line_size ≤ length line.now) × (n ≡ (front_line line.now).number) × (n < no_line) }
+    ensures { Puts buffer.old at (tag ∷ whole_line (front_line line.now)) result buffer.new }
 {
     let head = [tag, (n / 256) as u8, (n % 256) as u8, line[0]];
     let body_at = put(&head, buffer, at);
@@ -123,8 +123,8 @@ fn put_line(tag: u8, n: usize, line: &[u8], buffer: &mut [u8], at: usize) -> usi
 
 // What differs between two lines of one number: the kinds, then the places.
 fn put_between(n: usize, a: &[u8], b: &[u8], buffer: &mut [u8], at: usize) -> usize
-    requires { (lineSize ≤ length a.now) × (lineSize ≤ length b.now) × (n ≡ (frontLine a.now).number) × (n < noLine) }
-    ensures { Puts buffer.old at (encodedAll (betweenLines (frontLine a.now) (frontLine b.now))) result buffer.new }
+    requires { (line_size ≤ length a.now) × (line_size ≤ length b.now) × (n ≡ (front_line a.now).number) × (n < no_line) }
+    ensures { Puts buffer.old at (encoded_all (between_lines (front_line a.now) (front_line b.now))) result buffer.new }
 {
     let places_at = put_kinds(n, a[0], b[0], buffer, at);
     put_places(n, &a[HEAD..LINE], &b[HEAD..LINE], buffer, places_at)
@@ -132,8 +132,8 @@ fn put_between(n: usize, a: &[u8], b: &[u8], buffer: &mut [u8], at: usize) -> us
 
 // Both kinds, where they differ.
 fn put_kinds(n: usize, x: u8, y: u8, buffer: &mut [u8], at: usize) -> usize
-    requires { n < noLine }
-    ensures { Puts buffer.old at (encodedAll (unless (eqb x y) (bothKinds n x y) [])) result buffer.new }
+    requires { n < no_line }
+    ensures { Puts buffer.old at (encoded_all (unless (eqb x y) (both_kinds n x y) [])) result buffer.new }
 {
     if x == y {
         return at;
@@ -144,8 +144,8 @@ fn put_kinds(n: usize, x: u8, y: u8, buffer: &mut [u8], at: usize) -> usize
 
 // The places where two bodies differ.
 fn put_places(n: usize, a: &[u8], b: &[u8], buffer: &mut [u8], at: usize) -> usize
-    requires { (n < noLine) × (length a.now ≡ width) × (length b.now ≡ width) }
-    ensures { Puts buffer.old at (encodedAll (placesFrom n 0 a.now b.now)) result buffer.new }
+    requires { (n < no_line) × (length a.now ≡ width) × (length b.now ≡ width) }
+    ensures { Puts buffer.old at (encoded_all (places_from n 0 a.now b.now)) result buffer.new }
 {
     let mut next = at;
     let mut p: usize = 0;
@@ -158,8 +158,8 @@ fn put_places(n: usize, a: &[u8], b: &[u8], buffer: &mut [u8], at: usize) -> usi
 
 // A place and both bytes, where they differ.
 fn put_place(n: usize, p: usize, x: u8, y: u8, buffer: &mut [u8], at: usize) -> usize
-    requires { (n < noLine) × (p < noLine) }
-    ensures { Puts buffer.old at (encodedAll (unless (eqb x y) (bothBytes n p x y) [])) result buffer.new }
+    requires { (n < no_line) × (p < no_line) }
+    ensures { Puts buffer.old at (encoded_all (unless (eqb x y) (both_bytes n p x y) [])) result buffer.new }
 {
     if x == y {
         return at;

@@ -5,8 +5,8 @@
 // the rows and goes on from there writes one row for each difference of the lists, in their order. Nothing is refused: a buffer of ROOM has
 // room for every number's rows; in a shorter one they are cut. Cost: linear in the line.
 ghost use Rattle.text.specs.Put.{Puts};
-ghost use Rattle.diff_records.specs.ReadBack.{differencesIn};
-ghost use Rattle.diff_rows.specs.Rows.{rowsText, RowsPut};
+ghost use Rattle.diff_records.specs.ReadBack.{differences_in};
+ghost use Rattle.diff_rows.specs.Rows.{rows_text, RowsPut};
 
 use profile::Profile;
 
@@ -42,7 +42,7 @@ pub fn next_rows(a: &[u8], b: &[u8], out: &mut [u8]) -> Piece
 
 // Puts a row for each difference that some bytes tell.
 fn put_rows(records: &[u8], out: &mut [u8], at: usize) -> usize
-    ensures { Puts out.old at (rowsText (differencesIn records.now)) result out.new }
+    ensures { Puts out.old at (rows_text (differences_in records.now)) result out.new }
 {
     let mut next = at;
     let mut i: usize = 0;

@@ -5,71 +5,71 @@ use Rattle.std.proofs.Common.{◌∙◌, add-one, drop-cons}
 use mathlib.Core.List.{List, [], ◌∷◌, ◌++◌}
 use Rattle.std.proofs.Math.Seq.{drop-drop}
 use Rattle.profile.specs.Profile.{width}
-use Rattle.line_records.specs.Lines.{headSize, frontLine, fullLines, Next}
-use Rattle.line_records.specs.LinesLaws.{lentFrom, lent-from-is}
-use Rattle.diff_records.specs.Difference.{Difference, bothKinds, bothBytes, unless, placesFrom, betweenLines, differences}
-use Rattle.diff_records.specs.Next.{nextDifferences, howFar}
+use Rattle.line_records.specs.Lines.{head_size, front_line, full_lines, Next}
+use Rattle.line_records.specs.LinesLaws.{lent_from, lent_from_is}
+use Rattle.diff_records.specs.Difference.{Difference, both_kinds, both_bytes, unless, places_from, between_lines, differences}
+use Rattle.diff_records.specs.Next.{next_differences, how_far}
 use Rattle.diff_records.specs.NextLaws.{Stepped, stepped}
 use Rattle.diff_summary.specs.declared.Summary.{Summary}
-use Rattle.diff_change.specs.Front.{changeOf}
-use Rattle.diff_summary.specs.Summary.{withChange, withDifferences}
+use Rattle.diff_change.specs.Front.{change_of}
+use Rattle.diff_summary.specs.Summary.{with_change, with_differences}
 
-counted-append : (s : Summary) (ds es : List Difference) → withDifferences s (ds ++ es) ≡ withDifferences (withDifferences s ds) es
-counted-append s [] es = refl
-counted-append s (d ∷ ds) es = counted-append (withChange s (changeOf d)) ds es
+counted_append : (s : Summary) (ds es : List Difference) → with_differences s (ds ++ es) ≡ with_differences (with_differences s ds) es
+counted_append s [] es = refl
+counted_append s (d ∷ ds) es = counted_append (with_change s (change_of d)) ds es
 
 -- one difference, or none, before others
-counted-unless : (s : Summary) (t : Bool) (d : Difference) (ds : List Difference) → withDifferences s (unless t d ds) ≡ withDifferences (withDifferences s (unless t d [])) ds
-counted-unless s true d ds = refl
-counted-unless s false d ds = refl
+counted_unless : (s : Summary) (t : Bool) (d : Difference) (ds : List Difference) → with_differences s (unless t d ds) ≡ with_differences (with_differences s (unless t d [])) ds
+counted_unless s true d ds = refl
+counted_unless s false d ds = refl
 
 -- the places from one on, by the bytes there
-pub places-counted : (xs ys : List ℕ) (p : ℕ) → p < length xs → p < length ys → (s : Summary) (n : ℕ)
-    → withDifferences (withDifferences s (unless (eqb (get_or xs p 0) (get_or ys p 0)) (bothBytes n p (get_or xs p 0) (get_or ys p 0)) [])) (placesFrom n (p + 1) (drop (p + 1) xs) (drop (p + 1) ys))
-    ≡ withDifferences s (placesFrom n p (drop p xs) (drop p ys))
-places-counted xs ys p h g s n =
+pub places_counted : (xs ys : List ℕ) (p : ℕ) → p < length xs → p < length ys → (s : Summary) (n : ℕ)
+    → with_differences (with_differences s (unless (eqb (get_or xs p 0) (get_or ys p 0)) (both_bytes n p (get_or xs p 0) (get_or ys p 0)) [])) (places_from n (p + 1) (drop (p + 1) xs) (drop (p + 1) ys))
+    ≡ with_differences s (places_from n p (drop p xs) (drop p ys))
+places_counted xs ys p h g s n =
     sym
-    (ap (λ (l : List ℕ). withDifferences s (placesFrom n p l (drop p ys))) (drop-cons xs p 0 h)
-    ∙ ap (λ (l : List ℕ). withDifferences s (placesFrom n p (get_or xs p 0 ∷ drop (suc p) xs) l)) (drop-cons ys p 0 g)
-    ∙ counted-unless s (eqb (get_or xs p 0) (get_or ys p 0)) (bothBytes n p (get_or xs p 0) (get_or ys p 0)) (placesFrom n (suc p) (drop (suc p) xs) (drop (suc p) ys))
-    ∙ ap (λ (k : ℕ). withDifferences (withDifferences s (unless (eqb (get_or xs p 0) (get_or ys p 0)) (bothBytes n p (get_or xs p 0) (get_or ys p 0)) [])) (placesFrom n k (drop k xs) (drop k ys))) (sym (add-one p)))
+    (ap (λ (l : List ℕ). with_differences s (places_from n p l (drop p ys))) (drop-cons xs p 0 h)
+    ∙ ap (λ (l : List ℕ). with_differences s (places_from n p (get_or xs p 0 ∷ drop (suc p) xs) l)) (drop-cons ys p 0 g)
+    ∙ counted_unless s (eqb (get_or xs p 0) (get_or ys p 0)) (both_bytes n p (get_or xs p 0) (get_or ys p 0)) (places_from n (suc p) (drop (suc p) xs) (drop (suc p) ys))
+    ∙ ap (λ (k : ℕ). with_differences (with_differences s (unless (eqb (get_or xs p 0) (get_or ys p 0)) (both_bytes n p (get_or xs p 0) (get_or ys p 0)) [])) (places_from n k (drop k xs) (drop k ys))) (sym (add-one p)))
 
 -- the kinds of the lines that two lists start with, then the places
-pub between-counted : (x y : List ℕ) (n : ℕ) → n ≡ (frontLine x).number → (s : Summary)
-    → withDifferences (withDifferences s (unless (eqb (get_or x 0 0) (get_or y 0 0)) (bothKinds n (get_or x 0 0) (get_or y 0 0)) [])) (placesFrom n 0 (take width (drop headSize x)) (take width (drop headSize y)))
-    ≡ withDifferences s (betweenLines (frontLine x) (frontLine y))
-unfolding betweenLines frontLine
-between-counted x y n h s =
+pub between_counted : (x y : List ℕ) (n : ℕ) → n ≡ (front_line x).number → (s : Summary)
+    → with_differences (with_differences s (unless (eqb (get_or x 0 0) (get_or y 0 0)) (both_kinds n (get_or x 0 0) (get_or y 0 0)) [])) (places_from n 0 (take width (drop head_size x)) (take width (drop head_size y)))
+    ≡ with_differences s (between_lines (front_line x) (front_line y))
+unfolding between_lines front_line
+between_counted x y n h s =
     sym
-    (counted-unless s (eqb (get_or x 0 0) (get_or y 0 0)) _ _
-    ∙ ap (λ (k : ℕ). withDifferences (withDifferences s (unless (eqb (get_or x 0 0) (get_or y 0 0)) (bothKinds k (get_or x 0 0) (get_or y 0 0)) [])) (placesFrom k 0 (take width (drop headSize x)) (take width (drop headSize y)))) (sym h))
+    (counted_unless s (eqb (get_or x 0 0) (get_or y 0 0)) _ _
+    ∙ ap (λ (k : ℕ). with_differences (with_differences s (unless (eqb (get_or x 0 0) (get_or y 0 0)) (both_kinds k (get_or x 0 0) (get_or y 0 0)) [])) (places_from k 0 (take width (drop head_size x)) (take width (drop head_size y)))) (sym h))
 
 -- From a place of each list on.
 
 -- the differences there
-unfoldable pub differencesFrom : List ℕ → List ℕ → ℕ → ℕ → List Difference
-differencesFrom first second i j = differences (fullLines (drop i first)) (fullLines (drop j second))
+unfoldable pub differences_from : List ℕ → List ℕ → ℕ → ℕ → List Difference
+differences_from first second i j = differences (full_lines (drop i first)) (full_lines (drop j second))
 
-module _ (first second : List ℕ) (i j n m : ℕ) (p : Next (lentFrom first i) n) (q : Next (lentFrom second j) m) where
-  here : Stepped (lentFrom first i) (lentFrom second j) n m
-  here = stepped (lentFrom first i) (lentFrom second j) n m p q
+module _ (first second : List ℕ) (i j n m : ℕ) (p : Next (lent_from first i) n) (q : Next (lent_from second j) m) where
+  here : Stepped (lent_from first i) (lent_from second j) n m
+  here = stepped (lent_from first i) (lent_from second j) n m p q
 
-  of_parts : differencesFrom first second i j ≡ differences (fullLines (lentFrom first i)) (fullLines (lentFrom second j))
-  unfolding differencesFrom
+  of_parts : differences_from first second i j ≡ differences (full_lines (lent_from first i)) (full_lines (lent_from second j))
+  unfolding differences_from
   of_parts =
-      ap (λ (l : List ℕ). differences (fullLines l) (fullLines (drop j second))) (sym (lent-from-is first i))
-      ∙ ap (λ (l : List ℕ). differences (fullLines (lentFrom first i)) (fullLines l)) (sym (lent-from-is second j))
+      ap (λ (l : List ℕ). differences (full_lines l) (full_lines (drop j second))) (sym (lent_from_is first i))
+      ∙ ap (λ (l : List ℕ). differences (full_lines (lent_from first i)) (full_lines l)) (sym (lent_from_is second j))
 
-  pub walk-counted : (s : Summary) → withDifferences (withDifferences s (nextDifferences (lentFrom first i) (lentFrom second j))) (differencesFrom first second (i + howFar n m) (j + howFar m n)) ≡ withDifferences s (differencesFrom first second i j)
-  unfolding differencesFrom
-  walk-counted s =
+  pub walk_counted : (s : Summary) → with_differences (with_differences s (next_differences (lent_from first i) (lent_from second j))) (differences_from first second (i + how_far n m) (j + how_far m n)) ≡ with_differences s (differences_from first second i j)
+  unfolding differences_from
+  walk_counted s =
       sym
-      (ap (withDifferences s) (of_parts ∙ here.gives)
-      ∙ counted-append s (nextDifferences (lentFrom first i) (lentFrom second j)) _
-      ∙ ap (λ (l : List ℕ). withDifferences (withDifferences s (nextDifferences (lentFrom first i) (lentFrom second j))) (differences (fullLines l) (fullLines (drop (howFar m n) (lentFrom second j)))))
-      (ap (drop (howFar n m)) (lent-from-is first i) ∙ drop-drop (howFar n m) i first)
-      ∙ ap (λ (l : List ℕ). withDifferences (withDifferences s (nextDifferences (lentFrom first i) (lentFrom second j))) (differences (fullLines (drop (i + howFar n m) first)) (fullLines l)))
-      (ap (drop (howFar m n)) (lent-from-is second j) ∙ drop-drop (howFar m n) j second))
+      (ap (with_differences s) (of_parts ∙ here.gives)
+      ∙ counted_append s (next_differences (lent_from first i) (lent_from second j)) _
+      ∙ ap (λ (l : List ℕ). with_differences (with_differences s (next_differences (lent_from first i) (lent_from second j))) (differences (full_lines l) (full_lines (drop (how_far m n) (lent_from second j)))))
+      (ap (drop (how_far n m)) (lent_from_is first i) ∙ drop-drop (how_far n m) i first)
+      ∙ ap (λ (l : List ℕ). with_differences (with_differences s (next_differences (lent_from first i) (lent_from second j))) (differences (full_lines (drop (i + how_far n m) first)) (full_lines l)))
+      (ap (drop (how_far m n)) (lent_from_is second j) ∙ drop-drop (how_far m n) j second))
 
-  pub walk_end : howFar n m + howFar m n ≡ 0 → differencesFrom first second i j ≡ []
+  pub walk_end : how_far n m + how_far m n ≡ 0 → differences_from first second i j ≡ []
   walk_end e = of_parts ∙ here.ends e

@@ -3,10 +3,10 @@
 // In: two lists (crate line_records). Out: how many lines one list only holds, how many numbers have two kinds, how many pixels differ, in how many
 // lines and by how much at most. Nothing is refused. Cost: linear.
 ghost use Rattle.std.specs.Prelude.{◌≡◌, [], ◌≤◌, eqb, length};
-ghost use Rattle.line_records.specs.Lines.{lineSize, frontLine, fullLines};
-ghost use Rattle.diff_records.specs.Difference.{bothKinds, bothBytes, unless, placesFrom, betweenLines, differences};
-ghost use Rattle.diff_records.specs.Next.{nextDifferences};
-ghost use Rattle.diff_summary.specs.Summary.{absoluteDifference, greater_of, fresh, withCounts, linesWith, leastWith, withPixel, withChange, withDifferences, summaryOf};
+ghost use Rattle.line_records.specs.Lines.{line_size, front_line, full_lines};
+ghost use Rattle.diff_records.specs.Difference.{both_kinds, both_bytes, unless, places_from, between_lines, differences};
+ghost use Rattle.diff_records.specs.Next.{next_differences};
+ghost use Rattle.diff_summary.specs.Summary.{absolute_difference, greater_of, fresh, with_counts, lines_with, least_with, with_pixel, with_change, with_differences, summary_of};
 
 use counts::one_more;
 use diff_change::Change;
@@ -28,7 +28,7 @@ pub struct Summary {
 
 // The summary of all differences between two lists of lines (crate line_records), number after number.
 pub fn summed(first: &[u8], second: &[u8]) -> Summary
-    ensures { result ≡ summaryOf (differences (fullLines first.now) (fullLines second.now)) }
+    ensures { result ≡ summary_of (differences (full_lines first.now) (full_lines second.now)) }
 {
     let mut s = Summary::new();
     let mut i: usize = 0;
@@ -68,7 +68,7 @@ impl Summary {
 
     // With what differs of the next number.
     fn with_next(self, a: &[u8], b: &[u8]) -> Summary
-        ensures { result ≡ withDifferences self (nextDifferences a.now b.now) }
+        ensures { result ≡ with_differences self (next_differences a.now b.now) }
     {
         let n = line_records::next_number(a);
         let m = line_records::next_number(b);
@@ -86,8 +86,8 @@ impl Summary {
 
     // With what differs between two lines of one number.
     fn with_between(self, n: usize, a: &[u8], b: &[u8]) -> Summary
-        requires { (lineSize ≤ length a.now) × (lineSize ≤ length b.now) × (n ≡ (frontLine a.now).number) }
-        ensures { result ≡ withDifferences self (betweenLines (frontLine a.now) (frontLine b.now)) }
+        requires { (line_size ≤ length a.now) × (line_size ≤ length b.now) × (n ≡ (front_line a.now).number) }
+        ensures { result ≡ with_differences self (between_lines (front_line a.now) (front_line b.now)) }
     {
         let s = self.with_kinds(n, a[0], b[0]);
         s.with_places(n, &a[HEAD..LINE], &b[HEAD..LINE])
@@ -95,7 +95,7 @@ impl Summary {
 
     // With both kinds, where they differ.
     fn with_kinds(self, n: usize, x: u8, y: u8) -> Summary
-        ensures { result ≡ withDifferences self (unless (eqb x y) (bothKinds n x y) []) }
+        ensures { result ≡ with_differences self (unless (eqb x y) (both_kinds n x y) []) }
     {
         if x == y {
             return self;
@@ -106,7 +106,7 @@ impl Summary {
     // With the places where two bodies differ.
     fn with_places(self, n: usize, a: &[u8], b: &[u8]) -> Summary
         requires { length a.now ≡ length b.now }
-        ensures { result ≡ withDifferences self (placesFrom n 0 a.now b.now) }
+        ensures { result ≡ with_differences self (places_from n 0 a.now b.now) }
     {
         let mut s = self;
         let mut p: usize = 0;
@@ -119,7 +119,7 @@ impl Summary {
 
     // With a place and both bytes, where they differ.
     fn with_place(self, n: usize, p: usize, x: u8, y: u8) -> Summary
-        ensures { result ≡ withDifferences self (unless (eqb x y) (bothBytes n p x y) []) }
+        ensures { result ≡ with_differences self (unless (eqb x y) (both_bytes n p x y) []) }
     {
         if x == y {
             return self;
@@ -129,7 +129,7 @@ impl Summary {
 
     // With one difference more.
     fn count(self, change: Change) -> Summary
-        ensures { result ≡ withChange self change }
+        ensures { result ≡ with_change self change }
     {
         match change {
             Change::First(_) => self.with(one_more(self.first), self.second, self.kinds),
@@ -141,7 +141,7 @@ impl Summary {
 
     // With these counts, and its pixels as they are.
     fn with(self, first: u64, second: u64, kinds: u64) -> Summary
-        ensures { result ≡ withCounts self first second kinds }
+        ensures { result ≡ with_counts self first second kinds }
     {
         Summary {
             first,
@@ -157,7 +157,7 @@ impl Summary {
 
     // With one pixel more, of the line with a number; the pixels of a line come one after another.
     fn pixel(self, number: usize, by: u8) -> Summary
-        ensures { result ≡ withPixel self number by }
+        ensures { result ≡ with_pixel self number by }
     {
         let pixels = one_more(self.pixels);
         let lines = self.lines_with(number);
@@ -176,7 +176,7 @@ impl Summary {
     }
 
     fn lines_with(self, number: usize) -> u64
-        ensures { result ≡ linesWith self number }
+        ensures { result ≡ lines_with self number }
     {
         if self.pixels == 0 {
             return 1;
@@ -188,7 +188,7 @@ impl Summary {
     }
 
     fn least_with(self, number: usize) -> usize
-        ensures { result ≡ leastWith self number }
+        ensures { result ≡ least_with self number }
     {
         if self.pixels == 0 {
             return number;
@@ -199,7 +199,7 @@ impl Summary {
 
 // How far two bytes are apart.
 fn absolute_difference(x: u8, y: u8) -> u8
-    ensures { result ≡ absoluteDifference x y }
+    ensures { result ≡ absolute_difference x y }
 {
     if x < y {
         return y - x;

@@ -4,20 +4,20 @@ use Rattle.text.specs.Text.{ascii, decimal}
 use Rattle.diff_summary.specs.declared.Summary.{Summary}
 
 -- a count behind its words
-unfoldable pub countText : List ℕ → ℕ → List ℕ
-countText words n = words ++ (decimal n ++ ascii "\n")
+unfoldable pub count_text : List ℕ → ℕ → List ℕ
+count_text words n = words ++ (decimal n ++ ascii "\n")
 
 -- where the pixels are, and by how much they differ, where there are any
-unfoldable pub placesText : Summary → List ℕ
-placesText s =
+unfoldable pub places_text : Summary → List ℕ
+places_text s =
     cond (eqb s.pixels 0) []
-    (countText (ascii "lines they are in: ") s.lines
-    ++ (countText (ascii "first of these lines: ") s.least
-    ++ (countText (ascii "last of these lines: ") s.last ++ countText (ascii "greatest difference: ") s.most)))
+    (count_text (ascii "lines they are in: ") s.lines
+    ++ (count_text (ascii "first of these lines: ") s.least
+    ++ (count_text (ascii "last of these lines: ") s.last ++ count_text (ascii "greatest difference: ") s.most)))
 
 -- the summary, a line for each count
-unfoldable pub summaryText : Summary → List ℕ
-summaryText s =
-    countText (ascii "lines only in the first capture: ") s.first
-    ++ (countText (ascii "lines only in the second capture: ") s.second
-    ++ (countText (ascii "lines of two kinds (5 where only one capture has borders): ") s.kinds ++ (countText (ascii "pixels that differ: ") s.pixels ++ placesText s)))
+unfoldable pub summary_text : Summary → List ℕ
+summary_text s =
+    count_text (ascii "lines only in the first capture: ") s.first
+    ++ (count_text (ascii "lines only in the second capture: ") s.second
+    ++ (count_text (ascii "lines of two kinds (5 where only one capture has borders): ") s.kinds ++ (count_text (ascii "pixels that differ: ") s.pixels ++ places_text s)))

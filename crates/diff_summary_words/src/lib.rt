@@ -3,14 +3,14 @@
 // In: a summary (crate diff_summary), a lent buffer and a place in it. Out: its text there in ASCII, and the place after it, as crate text puts texts:
 // where the buffer ends before the text does, the rest is left out. Nothing is refused. Cost: linear in the text.
 ghost use Rattle.text.specs.Put.{Puts};
-ghost use Rattle.diff_summary_words.specs.SummaryWords.{countText, placesText, summaryText};
+ghost use Rattle.diff_summary_words.specs.SummaryWords.{count_text, places_text, summary_text};
 
 use diff_summary::Summary;
 use text::{put, put_decimal};
 
 // Puts the summary: a count a line, and where the pixels are; as each function below, it gives the place after what it puts.
 pub fn put_summary(summary: Summary, out: &mut [u8], at: usize) -> usize
-    ensures { Puts out.old at (summaryText summary) result out.new }
+    ensures { Puts out.old at (summary_text summary) result out.new }
 {
     let at = put_count(b"lines only in the first capture: ", summary.first, out, at);
     let at = put_count(
@@ -31,7 +31,7 @@ pub fn put_summary(summary: Summary, out: &mut [u8], at: usize) -> usize
 
 // Puts where the pixels are, and by how much they differ, where there are any.
 fn put_places(summary: Summary, out: &mut [u8], at: usize) -> usize
-    ensures { Puts out.old at (placesText summary) result out.new }
+    ensures { Puts out.old at (places_text summary) result out.new }
 {
     if summary.pixels == 0 {
         return at;
@@ -44,7 +44,7 @@ fn put_places(summary: Summary, out: &mut [u8], at: usize) -> usize
 
 // Puts words, a number, and a newline.
 fn put_count(words: &[u8], n: u64, out: &mut [u8], at: usize) -> usize
-    ensures { Puts out.old at (countText words.now n) result out.new }
+    ensures { Puts out.old at (count_text words.now n) result out.new }
 {
     let at = put(words, out, at);
     let at = put_decimal(n, out, at);

@@ -4,107 +4,107 @@ use Rattle.std.specs.Prelude.{◌≡◌, refl, Bool, true, false, cond, List, []
 use Rattle.std.proofs.Common.{◌∙◌, sym, subst, true≢false, arith, leb-true, leb-false, ltb-false}
 use Rattle.std.proofs.Math.Option.{none, some}
 use Rattle.std.proofs.lemmas.List.{length-replicate}
-use Rattle.refusal.specs.Refusal.{notANibble, badState, noRoom}
+use Rattle.refusal.specs.Refusal.{not_a_nibble, bad_state, no_room}
 use Rattle.profile.specs.declared.Profile.{Profile}
-use Rattle.profile.specs.Profile.{bodyLength, longest}
+use Rattle.profile.specs.Profile.{body_length, longest}
 use Rattle.stream.specs.declared.Mark.{Mark}
 use Rattle.stream.specs.declared.Mark.TheVariants.{NoMark, Open}
 use Rattle.stream.specs.Answers.{Outcome, nothing, is_line}
-use Rattle.stream.specs.Stream.{kind_at, beforeBy}
+use Rattle.stream.specs.Stream.{kind_at, before_by}
 use Rattle.mark_text.specs.declared.Kept.{Kept}
-use Rattle.mark_text.specs.MarkText.{nothingKept, kept_at, body_at}
-use Rattle.mark_answer.specs.KeptAnswer.{keptAnswer}
+use Rattle.mark_text.specs.MarkText.{nothing_kept, kept_at, body_at}
+use Rattle.mark_answer.specs.KeptAnswer.{kept_answer}
 use Rattle.reader_head.specs.declared.Head.{Head}
 use Rattle.reader.specs.declared.Reader.{Reader}
-use Rattle.reader_head.specs.Head.{topPlace, showsMark, slide, bump, countStop, leaveKept, leaveBody, openedBy, shifted, flushed, passes}
-use Rattle.reader.specs.Reader.{Took, takeHead, takeOutcome, taking, freshReader, refusing, feedOf, finishOf}
+use Rattle.reader_head.specs.Head.{top_place, shows_mark, slide, bump, count_stop, leave_kept, leave_body, opened_by, shifted, flushed, passes}
+use Rattle.reader.specs.Reader.{Took, take_head, take_outcome, taking, fresh_reader, refusing, feed_of, finish_of}
 use Rattle.reader_laws.specs.Passing.{finished, Ok}
-use Rattle.reader_laws.specs.Passes.{fresh_ok, feed-ok, passes-test}
-use Rattle.refinement.specs.RefineLaws.{no_body, finish-passed}
+use Rattle.reader_laws.specs.Passes.{fresh_ok, feed_ok, passes_test}
+use Rattle.refinement.specs.RefineLaws.{no_body, finish_passed}
 use Rattle.explained.specs.Explained.{Store}
-use Rattle.explained.specs.Used.{endsLine, SameUsed, no-nibbles, used-fewer, used-commit, answer-same}
+use Rattle.explained.specs.Used.{ends_line, SameUsed, no_nibbles, used_fewer, used_commit, answer_same}
 
 -- Readers.
 
 -- a head from its parts
-abbrev pub headWith : Profile → Mark → ℕ → ℕ → Kept → Head
-headWith p m c w t = record { profile = p; at = m; count = c; window = w; kept = t }
+abbrev pub head_with : Profile → Mark → ℕ → ℕ → Kept → Head
+head_with p m c w t = record { profile = p; at = m; count = c; window = w; kept = t }
 
 -- a reader from its parts
-abbrev pub readerWith : Profile → Mark → ℕ → ℕ → Store → Reader
-readerWith p m c w s = record { head = headWith p m c w s.kept; body = s.body }
+abbrev pub reader_with : Profile → Mark → ℕ → ℕ → Store → Reader
+reader_with p m c w s = record { head = head_with p m c w s.kept; body = s.body }
 
 -- the same but for what is kept, and of that the same is used
 pub data Interchangeable (p : Profile) : Reader → Reader → Type 0 where
-  differ-unused : (m : Mark) (c w : ℕ) (s s₂ : Store) → w < 2 ^ 32 → SameUsed p (endsLine m) (c - 8) s s₂
-      → Interchangeable p (readerWith p m c w s) (readerWith p m c w s₂)
+  differ_unused : (m : Mark) (c w : ℕ) (s s₂ : Store) → w < 2 ^ 32 → SameUsed p (ends_line m) (c - 8) s s₂
+      → Interchangeable p (reader_with p m c w s) (reader_with p m c w s₂)
 
 -- what is kept after the window's oldest nibble has left
 abbrev leave : Profile → Mark → ℕ → ℕ → Store → Store
-leave p m c w s = record { kept = leaveKept (headWith p m c w s.kept); body = leaveBody (headWith p m c w s.kept) s.body }
+leave p m c w s = record { kept = leave_kept (head_with p m c w s.kept); body = leave_body (head_with p m c w s.kept) s.body }
 
-leave_same : (p : Profile) (m : Mark) (c w : ℕ) (s s₂ : Store) → w < 2 ^ 32 → SameUsed p (endsLine m) (c - 8) s s₂
-    → SameUsed p (endsLine m) (c - 7) (leave p m c w s) (leave p m c w s₂)
-unfolding leaveKept leaveBody
+leave_same : (p : Profile) (m : Mark) (c w : ℕ) (s s₂ : Store) → w < 2 ^ 32 → SameUsed p (ends_line m) (c - 8) s s₂
+    → SameUsed p (ends_line m) (c - 7) (leave p m c w s) (leave p m c w s₂)
+unfolding leave_kept leave_body
 leave_same p m c w s s₂ h f = go (leb 8 c) refl
   where
     left : Bool → Store → Store
     left b s =
         record {
-          kept = cond b (kept_at p (c - 8) (w / topPlace) s.kept) s.kept;
-          body = cond b (body_at (c - 8) (w / topPlace) s.body) s.body;
+          kept = cond b (kept_at p (c - 8) (w / top_place) s.kept) s.kept;
+          body = cond b (body_at (c - 8) (w / top_place) s.body) s.body;
         }
 
-    go : (b : Bool) → leb 8 c ≡ b → SameUsed p (endsLine m) (c - 7) (left b s) (left b s₂)
+    go : (b : Bool) → leb 8 c ≡ b → SameUsed p (ends_line m) (c - 7) (left b s) (left b s₂)
     go true e =
         let k = leb-true 8 c e in
-        used-fewer (suc (c - 8)) (c - 7) (omega arith) (used-commit p (c - 8) (w / topPlace) (omega arith) f)
-    go false e = let k = leb-false 8 c e in used-fewer (c - 8) (c - 7) (omega arith) f
+        used_fewer (suc (c - 8)) (c - 7) (omega arith) (used_commit p (c - 8) (w / top_place) (omega arith) f)
+    go false e = let k = leb-false 8 c e in used_fewer (c - 8) (c - 7) (omega arith) f
 
 record SameTook (p : Profile) (f g : Took) : Type 0 where
   reader : Interchangeable p f.reader g.reader
   outcome : f.outcome ≡ g.outcome
 
-bump-least : (c : ℕ) → bump c - 8 ≤ c - 7
+bump_least : (c : ℕ) → bump c - 8 ≤ c - 7
 unfolding bump
-bump-least c = go (ltb c countStop)
+bump_least c = go (ltb c count_stop)
   where
     go : (b : Bool) → cond b (c + 1) c - 8 ≤ c - 7
     go true = omega arith
     go false = omega arith
 
-slide-small : (w n : ℕ) → n < 16 → slide w n < 2 ^ 32
+slide_small : (w n : ℕ) → n < 16 → slide w n < 2 ^ 32
 unfolding slide
-slide-small w n h = omega arith
+slide_small w n h = omega arith
 
-same-take : (p : Profile) {r r₂ : Reader} (n : ℕ) → n < 16 → Interchangeable p r r₂ → SameTook p (taking r n) (taking r₂ n)
-unfolding takeHead takeOutcome
-same-take p n g (differ-unused m c w s s₂ h f) = go (showsMark (slide w n))
+same_take : (p : Profile) {r r₂ : Reader} (n : ℕ) → n < 16 → Interchangeable p r r₂ → SameTook p (taking r n) (taking r₂ n)
+unfolding take_head take_outcome
+same_take p n g (differ_unused m c w s s₂ h f) = go (shows_mark (slide w n))
   where
     code : ℕ
     code = slide w n % 256
 
-    l : SameUsed p (endsLine m) (c - 7) (leave p m c w s) (leave p m c w s₂)
+    l : SameUsed p (ends_line m) (c - 7) (leave p m c w s) (leave p m c w s₂)
     l = leave_same p m c w s s₂ h f
 
     new : Store → Store
-    new s = record { kept = nothingKept; body = (leave p m c w s).body }
+    new s = record { kept = nothing_kept; body = (leave p m c w s).body }
 
     told : Store → Bool → Outcome
-    told s b = cond b (keptAnswer p m (c - 7) (leave p m c w s).kept (leave p m c w s).body (some code)) nothing
+    told s b = cond b (kept_answer p m (c - 7) (leave p m c w s).kept (leave p m c w s).body (some code)) nothing
 
-    same-told : told s true ≡ told s₂ true
-    same-told = answer-same p m (c - 7) (c - 7) (some code) (omega arith) l
+    same_told : told s true ≡ told s₂ true
+    same_told = answer_same p m (c - 7) (c - 7) (some code) (omega arith) l
 
     opens : Store → Outcome → Reader
-    opens s o = readerWith p (Open (beforeBy (kind_at m) (is_line o)) code) 2 code (new s)
+    opens s o = reader_with p (Open (before_by (kind_at m) (is_line o)) code) 2 code (new s)
 
     after : Store → Bool → Took
     after s b =
         record {
           reader =
               record {
-                head = cond b (openedBy (headWith p m c w s.kept) code (is_line (told s b))) (shifted (headWith p m c w s.kept) n);
+                head = cond b (opened_by (head_with p m c w s.kept) code (is_line (told s b))) (shifted (head_with p m c w s.kept) n);
                 body = (leave p m c w s).body;
               };
           outcome = told s b;
@@ -114,21 +114,21 @@ same-take p n g (differ-unused m c w s s₂ h f) = go (showsMark (slide w n))
     go true =
         record {
           reader =
-              subst (λ o. Interchangeable p (opens s (told s true)) (opens s₂ o)) same-told
-              (differ-unused (Open (beforeBy (kind_at m) (is_line (told s true))) code) 2 code (new s) (new s₂) (omega arith)
+              subst (λ o. Interchangeable p (opens s (told s true)) (opens s₂ o)) same_told
+              (differ_unused (Open (before_by (kind_at m) (is_line (told s true))) code) 2 code (new s) (new s₂) (omega arith)
               (record {
-                nibbles = no-nibbles p _ 0 (new s) (new s₂) (omega arith);
-                stray-same = λ q. refl;
+                nibbles = no_nibbles p _ 0 (new s) (new s₂) (omega arith);
+                stray_same = λ q. refl;
                 size = l.size;
-                size-two = l.size-two;
+                size_two = l.size_two;
               }));
-          outcome = same-told;
+          outcome = same_told;
         }
     go false =
         record {
           reader =
-              differ-unused m (bump c) (slide w n) (leave p m c w s) (leave p m c w s₂) (slide-small w n g)
-              (used-fewer (c - 7) (bump c - 8) (bump-least c) l);
+              differ_unused m (bump c) (slide w n) (leave p m c w s) (leave p m c w s₂) (slide_small w n g)
+              (used_fewer (c - 7) (bump c - 8) (bump_least c) l);
           outcome = refl;
         }
 
@@ -138,58 +138,58 @@ same-take p n g (differ-unused m c w s s₂ h f) = go (showsMark (slide w n))
 record Flushed (p : Profile) (m : Mark) (k c w : ℕ) (t t₂ : Kept) : Type 0 where
   count : ℕ
   body : List ℕ
-  body-two : List ℕ
-  long : min (c + k) countStop ≤ count + 8
-  same-used :
-      SameUsed p (endsLine m) count (record { kept = (flushed k (headWith p m c w t)).kept; body = body })
-      (record { kept = (flushed k (headWith p m c w t₂)).kept; body = body-two })
+  body_two : List ℕ
+  long : min (c + k) count_stop ≤ count + 8
+  same_used :
+      SameUsed p (ends_line m) count (record { kept = (flushed k (head_with p m c w t)).kept; body = body })
+      (record { kept = (flushed k (head_with p m c w t₂)).kept; body = body_two })
 
-bump-most : (c k : ℕ) → min (c + suc k) countStop ≤ min (bump c + k) countStop
+bump_most : (c k : ℕ) → min (c + suc k) count_stop ≤ min (bump c + k) count_stop
 unfolding bump
-bump-most c k = go (ltb c countStop) refl
+bump_most c k = go (ltb c count_stop) refl
   where
-    go : (b : Bool) → ltb c countStop ≡ b → min (c + suc k) countStop ≤ min (cond b (c + 1) c + k) countStop
+    go : (b : Bool) → ltb c count_stop ≡ b → min (c + suc k) count_stop ≤ min (cond b (c + 1) c + k) count_stop
     go true e = omega arith
-    go false e = let z = ltb-false c countStop e in omega arith
+    go false e = let z = ltb-false c count_stop e in omega arith
 
-flush-same : (p : Profile) (m : Mark) (k c w : ℕ) (s s₂ : Store) → w < 2 ^ 32 → SameUsed p (endsLine m) (c - 8) s s₂
+flush_same : (p : Profile) (m : Mark) (k c w : ℕ) (s s₂ : Store) → w < 2 ^ 32 → SameUsed p (ends_line m) (c - 8) s s₂
     → Flushed p m k c w s.kept s₂.kept
-flush-same p m zero c w s s₂ h f = record { count = c - 8; body = s.body; body-two = s₂.body; long = omega arith; same-used = f }
-flush-same p m (suc k) c w s s₂ h f =
+flush_same p m zero c w s s₂ h f = record { count = c - 8; body = s.body; body_two = s₂.body; long = omega arith; same_used = f }
+flush_same p m (suc k) c w s s₂ h f =
     go
-    (flush-same p m k (bump c) (slide w 0) (leave p m c w s) (leave p m c w s₂) (slide-small w 0 (omega arith))
-    (used-fewer (c - 7) (bump c - 8) (bump-least c) (leave_same p m c w s s₂ h f)))
+    (flush_same p m k (bump c) (slide w 0) (leave p m c w s) (leave p m c w s₂) (slide_small w 0 (omega arith))
+    (used_fewer (c - 7) (bump c - 8) (bump_least c) (leave_same p m c w s s₂ h f)))
   where
     go : Flushed p m k (bump c) (slide w 0) (leave p m c w s).kept (leave p m c w s₂).kept → Flushed p m (suc k) c w s.kept s₂.kept
     go q =
         record {
           count = q.count;
           body = q.body;
-          body-two = q.body-two;
-          long = (let z = q.long in let y = bump-most c k in omega arith);
-          same-used = q.same-used;
+          body_two = q.body_two;
+          long = (let z = q.long in let y = bump_most c k in omega arith);
+          same_used = q.same_used;
         }
 
-finish-same : (p : Profile) {r r₂ : Reader} → Interchangeable p r r₂ → (finished r).outcome ≡ (finished r₂).outcome
-finish-same p (differ-unused m c w s s₂ h f) = go (flush-same p m 8 c w s s₂ h f)
+finish_same : (p : Profile) {r r₂ : Reader} → Interchangeable p r r₂ → (finished r).outcome ≡ (finished r₂).outcome
+finish_same p (differ_unused m c w s s₂ h f) = go (flush_same p m 8 c w s s₂ h f)
   where
     kept_of : Store → Kept
-    kept_of s = (flushed 8 (headWith p m c w s.kept)).kept
+    kept_of s = (flushed 8 (head_with p m c w s.kept)).kept
 
-    go : Flushed p m 8 c w s.kept s₂.kept → keptAnswer p m c (kept_of s) [] none ≡ keptAnswer p m c (kept_of s₂) [] none
+    go : Flushed p m 8 c w s.kept s₂.kept → kept_answer p m c (kept_of s) [] none ≡ kept_answer p m c (kept_of s₂) [] none
     go q =
         no_body p m c (kept_of s) [] q.body
-        ∙ answer-same p m c q.count none (let z = q.long in omega arith) q.same-used
-        ∙ no_body p m c (kept_of s₂) q.body-two []
+        ∙ answer_same p m c q.count none (let z = q.long in omega arith) q.same_used
+        ∙ no_body p m c (kept_of s₂) q.body_two []
 
 used_all : (p : Profile) (e : Bool) (n : ℕ) (s : Store) → length s.body ≡ longest → SameUsed p e n s s
 used_all p e n s l =
-    record { nibbles = λ i h u. refl; stray-same = λ q. refl; size = l; size-two = l }
+    record { nibbles = λ i h u. refl; stray_same = λ q. refl; size = l; size_two = l }
 
-fresh-same : (p : Profile) → Interchangeable p (freshReader p) (freshReader p)
-fresh-same p =
-    let s : Store = record { kept = nothingKept; body = replicate longest 0 } in
-    differ-unused NoMark 0 0 s s (omega arith) (used_all p false 0 s (length-replicate {A = ℕ} longest 0))
+fresh_same : (p : Profile) → Interchangeable p (fresh_reader p) (fresh_reader p)
+fresh_same p =
+    let s : Store = record { kept = nothing_kept; body = replicate longest 0 } in
+    differ_unused NoMark 0 0 s s (omega arith) (used_all p false 0 s (length-replicate {A = ℕ} longest 0))
 
 -- The calls, of readers that pass their own test.
 
@@ -197,46 +197,46 @@ fresh-same p =
 pub record BothPass (p : Profile) (r r₂ : Reader) : Type 0 where
   pub alike : Interchangeable p r r₂
   pub ok : Ok r.head
-  pub ok-two : Ok r₂.head
+  pub ok_two : Ok r₂.head
 
 -- two calls give the same, and leave states alike
 pub record SameCall (p : Profile) (f g : Took) : Type 0 where
   pub both : BothPass p f.reader g.reader
   pub outcome : f.outcome ≡ g.outcome
 
-pub same-feed : (p : Profile) (r r₂ : Reader) (n room : ℕ) → BothPass p r r₂ → SameCall p (feedOf r n room) (feedOf r₂ n room)
-unfolding feedOf
-same-feed p r r₂ n room q =
+pub same_feed : (p : Profile) (r r₂ : Reader) (n room : ℕ) → BothPass p r r₂ → SameCall p (feed_of r n room) (feed_of r₂ n room)
+unfolding feed_of
+same_feed p r r₂ n room q =
     record {
-      both = record { alike = t.reader; ok = feed-ok r n room q.ok; ok-two = feed-ok r₂ n room q.ok-two };
+      both = record { alike = t.reader; ok = feed_ok r n room q.ok; ok_two = feed_ok r₂ n room q.ok_two };
       outcome = t.outcome;
     }
   where
     by : Reader → Bool → Bool → Bool → Took
-    by r a b c = cond a (cond b (cond c (taking r n) (refusing r noRoom)) (refusing r notANibble)) (refusing r badState)
+    by r a b c = cond a (cond b (cond c (taking r n) (refusing r no_room)) (refusing r not_a_nibble)) (refusing r bad_state)
 
     go : (a a₂ b c : Bool) → a ≡ true → a₂ ≡ true → leb n 15 ≡ b → SameTook p (by r a b c) (by r₂ a₂ b c)
     go false a₂ b c e e₂ l = absurd (true≢false (sym e))
     go true false b c e e₂ l = absurd (true≢false (sym e₂))
     go true true false c e e₂ l = record { reader = q.alike; outcome = refl }
     go true true true false e e₂ l = record { reader = q.alike; outcome = refl }
-    go true true true true e e₂ l = same-take p n (let k = leb-true n 15 l in omega arith) q.alike
+    go true true true true e e₂ l = same_take p n (let k = leb-true n 15 l in omega arith) q.alike
 
     room_for : (r r₂ : Reader) → Interchangeable p r r₂
-        → leb (bodyLength r₂.head.profile) room ≡ leb (bodyLength r.head.profile) room
-    room_for r r₂ (differ-unused m c w s s₂ h f) = refl
+        → leb (body_length r₂.head.profile) room ≡ leb (body_length r.head.profile) room
+    room_for r r₂ (differ_unused m c w s s₂ h f) = refl
 
-    t : SameTook p (feedOf r n room) (feedOf r₂ n room)
+    t : SameTook p (feed_of r n room) (feed_of r₂ n room)
     t =
-        subst (λ c. SameTook p (feedOf r n room) (by r₂ (passes r₂.head) (leb n 15) c)) (sym (room_for r r₂ q.alike))
-        (go (passes r.head) (passes r₂.head) (leb n 15) (leb (bodyLength r.head.profile) room)
-        (passes-test r.head q.ok.test) (passes-test r₂.head q.ok-two.test) refl)
+        subst (λ c. SameTook p (feed_of r n room) (by r₂ (passes r₂.head) (leb n 15) c)) (sym (room_for r r₂ q.alike))
+        (go (passes r.head) (passes r₂.head) (leb n 15) (leb (body_length r.head.profile) room)
+        (passes_test r.head q.ok.test) (passes_test r₂.head q.ok_two.test) refl)
 
-pub same-finish : (p : Profile) (r r₂ : Reader) → BothPass p r r₂ → SameCall p (finishOf r) (finishOf r₂)
-same-finish p r r₂ q =
-    subst (λ x. SameCall p x (finishOf r₂)) (sym (finish-passed r q.ok))
-    (subst (λ x. SameCall p (finished r) x) (sym (finish-passed r₂ q.ok-two))
-    (record { both = both r r₂ q.alike; outcome = finish-same p q.alike }))
+pub same_finish : (p : Profile) (r r₂ : Reader) → BothPass p r r₂ → SameCall p (finish_of r) (finish_of r₂)
+same_finish p r r₂ q =
+    subst (λ x. SameCall p x (finish_of r₂)) (sym (finish_passed r q.ok))
+    (subst (λ x. SameCall p (finished r) x) (sym (finish_passed r₂ q.ok_two))
+    (record { both = both r r₂ q.alike; outcome = finish_same p q.alike }))
   where
     both : (r r₂ : Reader) → Interchangeable p r r₂ → BothPass p (finished r).reader (finished r₂).reader
-    both r r₂ (differ-unused m c w s s₂ h f) = record { alike = fresh-same p; ok = fresh_ok p; ok-two = fresh_ok p }
+    both r r₂ (differ_unused m c w s s₂ h f) = record { alike = fresh_same p; ok = fresh_ok p; ok_two = fresh_ok p }

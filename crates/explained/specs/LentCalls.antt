@@ -7,14 +7,14 @@ use Rattle.profile.specs.Profile.{longest}
 use Rattle.reader_head.specs.declared.Head.{Head}
 use Rattle.reader_head.specs.Head.{passes}
 use Rattle.reader.specs.declared.Reader.{Reader}
-use Rattle.reader.specs.Reader.{readerOf, take_of, feedOf}
-use Rattle.run.specs.Run.{run_of, lentRunOf}
+use Rattle.reader.specs.Reader.{reader_of, take_of, feed_of}
+use Rattle.run.specs.Run.{run_of, lent_run_of}
 
-pub lent-run : (h : Head) (body w : List ℕ) (room : ℕ) → length body ≡ longest → lentRunOf h body w room ≡ run_of (readerOf h body) w room
-unfolding lentRunOf
-lent-run h body w room e = simp (eq-eqb (length body) longest e)
+pub lent_run_lem : (h : Head) (body w : List ℕ) (room : ℕ) → length body ≡ longest → lent_run_of h body w room ≡ run_of (reader_of h body) w room
+unfolding lent_run_of
+lent_run_lem h body w room e = simp (eq-eqb (length body) longest e)
 
 -- `take` leaves the test to whoever calls it
-pub lent-take : (r : Reader) (n room : ℕ) → length r.body ≡ longest → passes r.head ≡ true → take_of r n room ≡ feedOf r n room
-unfolding take_of feedOf
-lent-take r n room e h = simp (h, eq-eqb (length r.body) longest e)
+pub lent_take : (r : Reader) (n room : ℕ) → length r.body ≡ longest → passes r.head ≡ true → take_of r n room ≡ feed_of r n room
+unfolding take_of feed_of
+lent_take r n room e h = simp (h, eq-eqb (length r.body) longest e)

@@ -2,25 +2,25 @@
 use Rattle.std.specs.Prelude.{◌≡◌, Bool, true, false, List, ℕ}
 use Rattle.lent_buffer.specs.declared.Filled.{Filled}
 use Rattle.lent_buffer.specs.declared.Filled.TheVariants as filled
-use Rattle.lent_buffer.specs.Filled.{Output, answerFor, bufferAfter}
+use Rattle.lent_buffer.specs.Filled.{Output, answer_for, buffer_after}
 
 -- Calls that fill a lent buffer: 0 or the refusal, and how much is filled.
 
 -- the answer's number: 0, or the refusal
-abbrev pub writtenNumber : Filled → ℕ
-writtenNumber (filled.Length n) = 0
-writtenNumber (filled.Refused n) = n
+abbrev pub written_number : Filled → ℕ
+written_number (filled.Length n) = 0
+written_number (filled.Refused n) = n
 
 -- the length used, 0 with a refusal
-abbrev pub writtenCount : Filled → ℕ
-writtenCount (filled.Length n) = n
-writtenCount (filled.Refused n) = 0
+abbrev pub written_count : Filled → ℕ
+written_count (filled.Length n) = n
+written_count (filled.Refused n) = 0
 
 -- the buffer is left as by every call that fills one
 pub record WriteGives (o : Output) (answer written : ℕ) (before after : List ℕ) : Type 0 where
-  pub says : answer ≡ writtenNumber (answerFor o)
-  pub count : written ≡ writtenCount (answerFor o)
-  pub leaves : after ≡ bufferAfter o before
+  pub says : answer ≡ written_number (answer_for o)
+  pub count : written ≡ written_count (answer_for o)
+  pub leaves : after ≡ buffer_after o before
 
 -- Calls on a state in lent bytes.
 

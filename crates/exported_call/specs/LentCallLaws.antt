@@ -4,18 +4,18 @@ use Rattle.std.proofs.Common.{ap, ◌∙◌}
 use Rattle.lent_buffer.specs.declared.Filled.{Filled}
 use Rattle.lent_buffer.specs.Filled.{Output, Gives}
 use Rattle.lent_buffer.specs.FilledLaws.{answered}
-use Rattle.exported_call.specs.LentCall.{writtenNumber, writtenCount, WriteGives, bit_of}
+use Rattle.exported_call.specs.LentCall.{written_number, written_count, WriteGives, bit_of}
 
-pub bit-back : (b : Bool) → eqb (bit_of b) 1 ≡ b
-bit-back true = refl
-bit-back false = refl
+pub bit_back : (b : Bool) → eqb (bit_of b) 1 ≡ b
+bit_back true = refl
+bit_back false = refl
 
-pub bit-tag : (b : Bool) → leb (bit_of b) 1 ≡ true
-bit-tag true = refl
-bit-tag false = refl
+pub bit_tag : (b : Bool) → leb (bit_of b) 1 ≡ true
+bit_tag true = refl
+bit_tag false = refl
 
-pub in-numbers : (o : Output) (f : Filled) (before after : List ℕ) (answer written : ℕ)
-    → Gives o f before after → (answer ≡ writtenNumber f) × (written ≡ writtenCount f) → WriteGives o answer written before after
-in-numbers o f before after answer written g n =
+pub in_numbers : (o : Output) (f : Filled) (before after : List ℕ) (answer written : ℕ)
+    → Gives o f before after → (answer ≡ written_number f) × (written ≡ written_count f) → WriteGives o answer written before after
+in_numbers o f before after answer written g n =
     let e = answered o f before after g in
-    record { says = n.0 ∙ ap writtenNumber e; count = n.1 ∙ ap writtenCount e; leaves = g.leaves }
+    record { says = n.0 ∙ ap written_number e; count = n.1 ∙ ap written_count e; leaves = g.leaves }

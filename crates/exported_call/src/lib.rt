@@ -3,13 +3,13 @@
 // A call that fills a lent buffer is answered 0 or the refusal, and how much of the buffer it filled goes to a place that the caller lends too, 0
 // with a refusal. A call on a state in lent bytes is answered by a number. specs/LentCall.antt has a sentence for each.
 ghost use Rattle.std.specs.Prelude.{◌≡◌};
-ghost use Rattle.exported_call.specs.LentCall.{writtenNumber, writtenCount, bit_of};
+ghost use Rattle.exported_call.specs.LentCall.{written_number, written_count, bit_of};
 
 use lent_buffer::Filled;
 
 // 0 or the refusal; the length goes to its place.
 pub fn number_written(filled: Filled, written: &mut usize) -> u8
-    ensures { (result ≡ writtenNumber filled) × (written.new ≡ writtenCount filled) }
+    ensures { (result ≡ written_number filled) × (written.new ≡ written_count filled) }
 {
     match filled {
         Filled::Length(n) => {

@@ -3,7 +3,7 @@
 // In: an answer, a judge or a ruling. Out: its number, as specs/CallNumbers.antt has it; and back, the judge that a number stands for. Nothing is
 // refused. Cost: constant.
 ghost use Rattle.std.specs.Prelude.{◌≡◌};
-ghost use Rattle.exported_numbers.specs.CallNumbers.{answerNumber, judgeNumber, judgeNumbered, rulingNumber};
+ghost use Rattle.exported_numbers.specs.CallNumbers.{answer_number, judge_number, judge_numbered, ruling_number};
 
 use exported_call::bit;
 use frame_judge::{Judge, KnownBorders, Ruling};
@@ -12,7 +12,7 @@ use stream::Answer;
 
 // An answer as a number.
 pub fn answer_number(answer: Answer) -> u64
-    ensures { result ≡ answerNumber answer }
+    ensures { result ≡ answer_number answer }
 {
     match answer {
         Answer::Nothing => 0,
@@ -57,7 +57,7 @@ pub const JUDGES: u32 = 3 * PLACES;
 
 // The judge that a number stands for.
 pub fn judge_numbered(n: u32) -> Judge
-    ensures { result ≡ judgeNumbered n }
+    ensures { result ≡ judge_numbered n }
 {
     if n == 0 {
         return Judge::Waiting;
@@ -74,7 +74,7 @@ pub fn judge_numbered(n: u32) -> Judge
 
 // A judge as a number.
 pub fn judge_number(judge: Judge) -> u32
-    ensures { result ≡ judgeNumber judge }
+    ensures { result ≡ judge_number judge }
 {
     match judge {
         Judge::Waiting => 0,
@@ -90,7 +90,7 @@ pub fn judge_number(judge: Judge) -> u32
 
 // A judge's ruling as a number.
 pub fn ruling_number(ruling: Ruling) -> u8
-    ensures { result ≡ rulingNumber ruling }
+    ensures { result ≡ ruling_number ruling }
 {
     match ruling {
         Ruling::Waiting => 0,

@@ -5,13 +5,13 @@ use Rattle.std.proofs.Common.{◌∙◌, arith, leb-true, le-leb, length-append,
 use mathlib.Core.List.{List, ◌++◌}
 use Rattle.std.proofs.Math.ListN.{take, drop, length-drop}
 use Rattle.bits.specs.Every.{and_left, and_both}
-use Rattle.exported_call.specs.LentCallLaws.{bit-back, bit-tag}
+use Rattle.exported_call.specs.LentCallLaws.{bit_back, bit_tag}
 use Rattle.line_code.specs.declared.Kind.{Kind}
 use Rattle.line_code.specs.declared.Kind.TheVariants.{BL, BK, VL, SOF, EOF}
-use Rattle.line_code.specs.LineCode.{kindNumber, kindNumbered}
+use Rattle.line_code.specs.LineCode.{kind_number, kind_numbered}
 use Rattle.profile.specs.declared.Profile.{Profile}
 use Rattle.profile.specs.declared.Profile.TheVariants.{VV5404, VV5300}
-use Rattle.profile.specs.Profile.{profileNumber, longest}
+use Rattle.profile.specs.Profile.{profile_number, longest}
 use Rattle.stream.specs.declared.Before.{Before}
 use Rattle.stream.specs.declared.Before.TheVariants.{NoLine, RefusedLine, HandedOut}
 use Rattle.stream.specs.declared.Mark.{Mark}
@@ -19,24 +19,24 @@ use Rattle.stream.specs.declared.Mark.TheVariants.{NoMark, Open}
 use Rattle.reader_head.specs.declared.Head.{Head}
 use Rattle.reader.specs.declared.Reader.{Reader}
 use Rattle.reader_head.specs.Head.{passes}
-use Rattle.exported_state.specs.State.{stateLength, noMark, beforeNumber, beforeNumbered, greatestMark, markNumber, code_of, headBytes, stored, profileOf, markNumbered, number_of, headIn, heldHead, readerIn, tagged, holdsReader}
+use Rattle.exported_state.specs.State.{state_length, no_mark, before_number, before_numbered, greatest_mark, mark_number, code_of, head_bytes, stored, profile_of, mark_numbered, number_of, head_in, held_head, reader_in, tagged, holds_reader}
 
-pub holds-length : (s : List ℕ) → holdsReader s ≡ true → stateLength ≤ length s
-unfolding holdsReader
-holds-length s h = leb-true stateLength (length s) (and_left _ _ h)
+pub holds_length : (s : List ℕ) → holds_reader s ≡ true → state_length ≤ length s
+unfolding holds_reader
+holds_length s h = leb-true state_length (length s) (and_left _ _ h)
 
-pub held-head : (s : List ℕ) → stateLength ≤ length s → heldHead s ≡ headIn s
-unfolding heldHead
-held-head s room = simp (le-leb stateLength (length s) room)
+pub held_head_lem : (s : List ℕ) → state_length ≤ length s → held_head s ≡ head_in s
+unfolding held_head
+held_head_lem s room = simp (le-leb state_length (length s) room)
 
 -- Each part is read back.
 
-profile-back : (p : Profile) → profileOf (profileNumber p) ≡ p
-profile-back VV5404 = refl
-profile-back VV5300 = refl
+profile_back : (p : Profile) → profile_of (profile_number p) ≡ p
+profile_back VV5404 = refl
+profile_back VV5300 = refl
 
-before_back : (b : Before) → beforeNumbered (beforeNumber b) ≡ b
-unfolding kindNumbered
+before_back : (b : Before) → before_numbered (before_number b) ≡ b
+unfolding kind_numbered
 before_back NoLine = refl
 before_back (RefusedLine BL) = refl
 before_back (RefusedLine BK) = refl
@@ -49,75 +49,75 @@ before_back (HandedOut VL) = refl
 before_back (HandedOut SOF) = refl
 before_back (HandedOut EOF) = refl
 
-open-back : (before : Before) (code : ℕ) → markNumbered (beforeNumber before) code ≡ Open (beforeNumbered (beforeNumber before)) code
-open-back NoLine code = refl
-open-back (RefusedLine BL) code = refl
-open-back (RefusedLine BK) code = refl
-open-back (RefusedLine VL) code = refl
-open-back (RefusedLine SOF) code = refl
-open-back (RefusedLine EOF) code = refl
-open-back (HandedOut BL) code = refl
-open-back (HandedOut BK) code = refl
-open-back (HandedOut VL) code = refl
-open-back (HandedOut SOF) code = refl
-open-back (HandedOut EOF) code = refl
+open_back : (before : Before) (code : ℕ) → mark_numbered (before_number before) code ≡ Open (before_numbered (before_number before)) code
+open_back NoLine code = refl
+open_back (RefusedLine BL) code = refl
+open_back (RefusedLine BK) code = refl
+open_back (RefusedLine VL) code = refl
+open_back (RefusedLine SOF) code = refl
+open_back (RefusedLine EOF) code = refl
+open_back (HandedOut BL) code = refl
+open_back (HandedOut BK) code = refl
+open_back (HandedOut VL) code = refl
+open_back (HandedOut SOF) code = refl
+open_back (HandedOut EOF) code = refl
 
-mark-back : (m : Mark) → markNumbered (markNumber m) (code_of m) ≡ m
-mark-back NoMark = refl
-mark-back (Open before code) = open-back before code ∙ ap (λ (b : Before). Open b code) (before_back before)
+mark_back : (m : Mark) → mark_numbered (mark_number m) (code_of m) ≡ m
+mark_back NoMark = refl
+mark_back (Open before code) = open_back before code ∙ ap (λ (b : Before). Open b code) (before_back before)
 
-number-back : (n : ℕ) → number_of (n / 0x1000000) (n / 0x10000 % 256) (n / 0x100 % 256) (n % 256) ≡ n
-number-back n = omega arith
+number_back : (n : ℕ) → number_of (n / 0x1000000) (n / 0x10000 % 256) (n / 0x100 % 256) (n % 256) ≡ n
+number_back n = omega arith
 
-head-back : (h : Head) (w : List ℕ) → headIn (headBytes h ++ w) ≡ h
-unfolding headIn headBytes
-head-back h w =
-    simp (profile-back h.profile, mark-back h.at, number-back h.count, number-back h.window, bit-back h.kept.stray)
+head_back : (h : Head) (w : List ℕ) → head_in (head_bytes h ++ w) ≡ h
+unfolding head_in head_bytes
+head_back h w =
+    simp (profile_back h.profile, mark_back h.at, number_back h.count, number_back h.window, bit_back h.kept.stray)
 
-mark-tag : (m : Mark) → leb (markNumber m) greatestMark ≡ true
-mark-tag NoMark = refl
-mark-tag (Open NoLine code) = refl
-mark-tag (Open (RefusedLine BL) code) = refl
-mark-tag (Open (RefusedLine BK) code) = refl
-mark-tag (Open (RefusedLine VL) code) = refl
-mark-tag (Open (RefusedLine SOF) code) = refl
-mark-tag (Open (RefusedLine EOF) code) = refl
-mark-tag (Open (HandedOut BL) code) = refl
-mark-tag (Open (HandedOut BK) code) = refl
-mark-tag (Open (HandedOut VL) code) = refl
-mark-tag (Open (HandedOut SOF) code) = refl
-mark-tag (Open (HandedOut EOF) code) = refl
+mark_tag : (m : Mark) → leb (mark_number m) greatest_mark ≡ true
+mark_tag NoMark = refl
+mark_tag (Open NoLine code) = refl
+mark_tag (Open (RefusedLine BL) code) = refl
+mark_tag (Open (RefusedLine BK) code) = refl
+mark_tag (Open (RefusedLine VL) code) = refl
+mark_tag (Open (RefusedLine SOF) code) = refl
+mark_tag (Open (RefusedLine EOF) code) = refl
+mark_tag (Open (HandedOut BL) code) = refl
+mark_tag (Open (HandedOut BK) code) = refl
+mark_tag (Open (HandedOut VL) code) = refl
+mark_tag (Open (HandedOut SOF) code) = refl
+mark_tag (Open (HandedOut EOF) code) = refl
 
 -- the number of a mark handed out is among them
-pub handed-small : (k : Kind) → noMark + kindNumber k ≤ greatestMark
-handed-small BL = omega arith
-handed-small BK = omega arith
-handed-small VL = omega arith
-handed-small SOF = omega arith
-handed-small EOF = omega arith
+pub handed_small : (k : Kind) → no_mark + kind_number k ≤ greatest_mark
+handed_small BL = omega arith
+handed_small BK = omega arith
+handed_small VL = omega arith
+handed_small SOF = omega arith
+handed_small EOF = omega arith
 
-profile-tag : (p : Profile) → leb (profileNumber p) 1 ≡ true
-profile-tag VV5404 = refl
-profile-tag VV5300 = refl
+profile_tag : (p : Profile) → leb (profile_number p) 1 ≡ true
+profile_tag VV5404 = refl
+profile_tag VV5300 = refl
 
 -- A stored reader is read back.
 
 module _ (r : Reader) (s : List ℕ) (full : length r.body ≡ longest) where
-  pub reader-back : readerIn (stored r s) ≡ r
-  unfolding stored headBytes
-  reader-back =
-      ap (λ (h : Head). record { head = h; body = take longest (r.body ++ drop stateLength s) }) (head-back r.head (r.body ++ drop stateLength s))
-      ∙ ap (λ (b : List ℕ). record { head = r.head; body = b }) (take_at r.body (drop stateLength s) longest full)
+  pub reader_back : reader_in (stored r s) ≡ r
+  unfolding stored head_bytes
+  reader_back =
+      ap (λ (h : Head). record { head = h; body = take longest (r.body ++ drop state_length s) }) (head_back r.head (r.body ++ drop state_length s))
+      ∙ ap (λ (b : List ℕ). record { head = r.head; body = b }) (take_at r.body (drop state_length s) longest full)
 
-  pub stored-length : stateLength ≤ length s → length (stored r s) ≡ length s
-  unfolding stored headBytes
-  stored-length h = simp (length-append, full) (omega (arith, length-drop stateLength s))
+  pub stored_length : state_length ≤ length s → length (stored r s) ≡ length s
+  unfolding stored head_bytes
+  stored_length h = simp (length-append, full) (omega (arith, length-drop state_length s))
 
-  stored-tagged : tagged (get_or (stored r s) 0 0) (get_or (stored r s) 1 0) (get_or (stored r s) 13 0) ≡ true
-  unfolding stored headBytes tagged
-  stored-tagged = simp (profile-tag r.head.profile, mark-tag r.head.at, bit-tag r.head.kept.stray)
+  stored_tagged : tagged (get_or (stored r s) 0 0) (get_or (stored r s) 1 0) (get_or (stored r s) 13 0) ≡ true
+  unfolding stored head_bytes tagged
+  stored_tagged = simp (profile_tag r.head.profile, mark_tag r.head.at, bit_tag r.head.kept.stray)
 
-  pub stored-holds : stateLength ≤ length s → passes r.head ≡ true → holdsReader (stored r s) ≡ true
-  unfolding holdsReader
-  stored-holds h p =
-      and_both (leb stateLength (length (stored r s))) _ (le-leb stateLength (length (stored r s)) (omega (arith, stored-length h))) (and_both (tagged (get_or (stored r s) 0 0) (get_or (stored r s) 1 0) (get_or (stored r s) 13 0)) _ stored-tagged (ap (λ (x : Reader). passes x.head) reader-back ∙ p))
+  pub stored_holds : state_length ≤ length s → passes r.head ≡ true → holds_reader (stored r s) ≡ true
+  unfolding holds_reader
+  stored_holds h p =
+      and_both (leb state_length (length (stored r s))) _ (le-leb state_length (length (stored r s)) (omega (arith, stored_length h))) (and_both (tagged (get_or (stored r s) 0 0) (get_or (stored r s) 1 0) (get_or (stored r s) 13 0)) _ stored_tagged (ap (λ (x : Reader). passes x.head) reader_back ∙ p))

@@ -3,8 +3,8 @@
 // In: bytes of any number; or a reader's head. Out: whether the bytes hold a reader that passes its own test, and the head that they hold; or the
 // head's bytes, which come first in a state, before the body, and are put there. Their layout is specs/State.antt. Nothing is refused. Cost: constant.
 ghost use Rattle.std.specs.Prelude.{◌≡◌};
-ghost use Rattle.profile.specs.Profile.{profileNumber};
-ghost use Rattle.exported_state.specs.State.{markNumber, code_of, markNumbered, profileOf, number_of, headBytes, headStored, heldHead, tagged, holdsReader};
+ghost use Rattle.profile.specs.Profile.{profile_number};
+ghost use Rattle.exported_state.specs.State.{mark_number, code_of, mark_numbered, profile_of, number_of, head_bytes, head_stored, held_head, tagged, holds_reader};
 
 use exported_call::bit;
 use line_code::Kind;
@@ -27,7 +27,7 @@ const GREATEST_MARK: u8 = 11;
 
 // Whether the bytes hold a reader that passes its own test.
 pub fn holds_reader(state: &[u8]) -> bool
-    ensures { result ≡ holdsReader state.now }
+    ensures { result ≡ holds_reader state.now }
 {
     if state.len() < LENGTH {
         return false;
@@ -53,7 +53,7 @@ pub fn is_tagged(profile: u8, mark: u8, stray: u8) -> bool
 
 // The head that bytes hold; a fresh reader's where they are too few for a state.
 pub fn head_in(state: &[u8]) -> Head
-    ensures { result ≡ heldHead state.now }
+    ensures { result ≡ held_head state.now }
 {
     if state.len() < LENGTH {
         let fresh = Reader::fresh(Profile::VV5404);
@@ -79,7 +79,7 @@ pub fn head_in(state: &[u8]) -> Head
 }
 
 fn profile_of(n: u8) -> Profile
-    ensures { result ≡ profileOf n }
+    ensures { result ≡ profile_of n }
 {
     if n == 0 {
         return Profile::VV5404;
@@ -88,7 +88,7 @@ fn profile_of(n: u8) -> Profile
 }
 
 fn mark_numbered(n: u8, code: u8) -> Mark
-    ensures { result ≡ markNumbered n code }
+    ensures { result ≡ mark_numbered n code }
 {
     if n == NO_MARK {
         return Mark::NoMark;
@@ -112,7 +112,7 @@ fn number_of(a: u8, b: u8, c: u8, d: u8) -> u32
 
 // A head's bytes.
 pub fn head_bytes(h: Head) -> [u8; 14]
-    ensures { result ≡ headBytes h }
+    ensures { result ≡ head_bytes h }
 {
     let p = h.profile;
     let at = h.at;
@@ -139,7 +139,7 @@ pub fn head_bytes(h: Head) -> [u8; 14]
 
 // Puts a head's bytes at the front of a state; where there are fewer, nothing.
 pub fn store_head(h: Head, state: &mut [u8])
-    ensures { state.new ≡ headStored h state.old }
+    ensures { state.new ≡ head_stored h state.old }
 {
     if state.len() < HEAD {
         return;
@@ -149,7 +149,7 @@ pub fn store_head(h: Head, state: &mut [u8])
 }
 
 fn profile_number(p: Profile) -> u8
-    ensures { result ≡ profileNumber p }
+    ensures { result ≡ profile_number p }
 {
     match p {
         Profile::VV5404 => 0,
@@ -158,7 +158,7 @@ fn profile_number(p: Profile) -> u8
 }
 
 fn mark_number(at: Mark) -> u8
-    ensures { result ≡ markNumber at }
+    ensures { result ≡ mark_number at }
 {
     match at {
         Mark::NoMark => NO_MARK,

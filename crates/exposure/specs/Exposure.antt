@@ -10,25 +10,25 @@ abbrev pub rate30 : ℕ
 rate30 = 30
 
 -- the greatest fine exposure at each rate; the sensor clips what is above
-abbrev pub fineLimit25 : ℕ
-fineLimit25 = 438
+abbrev pub fine_limit25 : ℕ
+fine_limit25 = 438
 
 -- the greatest fine exposure at 30 frames a second
-abbrev pub fineLimit30 : ℕ
-fineLimit30 = 360
+abbrev pub fine_limit30 : ℕ
+fine_limit30 = 360
 
 -- the greatest fine exposure at a frame rate
-unfoldable pub fineLimit : ℕ → ℕ
-fineLimit rate = cond (eqb rate rate30) fineLimit30 fineLimit25
+unfoldable pub fine_limit : ℕ → ℕ
+fine_limit rate = cond (eqb rate rate30) fine_limit30 fine_limit25
 
 -- the greatest coarse exposure
-abbrev pub coarseLimit : ℕ
-coarseLimit = 302
+abbrev pub coarse_limit : ℕ
+coarse_limit = 302
 
 -- the greatest clock divisor
-abbrev pub divisorLimit : ℕ
-divisorLimit = 3
+abbrev pub divisor_limit : ℕ
+divisor_limit = 3
 
 -- a gain code, for a gain of 1, 2, 4 or 8
-unfoldable pub isGain : ℕ → Bool
-isGain n = cond (eqb n 0) true (cond (eqb n 1) true (cond (eqb n 3) true (cond (eqb n 7) true false)))
+unfoldable pub is_gain : ℕ → Bool
+is_gain n = cond (eqb n 0) true (cond (eqb n 1) true (cond (eqb n 3) true (cond (eqb n 7) true false)))

@@ -1,11 +1,11 @@
 -- A gain code is at most 7.
 use Rattle.std.specs.Prelude.{◌≡◌, Bool, true, false, cond, ℕ, ◌≤◌, eqb}
 use Rattle.std.proofs.Common.{sym, true≢false, arith, eqb-true}
-use Rattle.exposure.specs.Exposure.{isGain}
+use Rattle.exposure.specs.Exposure.{is_gain}
 
-pub gain-small : (n : ℕ) → isGain n ≡ true → n ≤ 7
-unfolding isGain
-gain-small n = by_codes (eqb n 0) (eqb n 1) (eqb n 3) (eqb n 7)
+pub gain_small : (n : ℕ) → is_gain n ≡ true → n ≤ 7
+unfolding is_gain
+gain_small n = by_codes (eqb n 0) (eqb n 1) (eqb n 3) (eqb n 7)
     (λ e. omega (arith, eqb-true n 0 e)) (λ e. omega (arith, eqb-true n 1 e)) (λ e. omega (arith, eqb-true n 3 e)) (λ e. omega (arith, eqb-true n 7 e))
   where
     by_codes : (a b c d : Bool) → (a ≡ true → n ≤ 7) → (b ≡ true → n ≤ 7) → (c ≡ true → n ≤ 7) → (d ≡ true → n ≤ 7)

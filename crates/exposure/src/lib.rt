@@ -1,6 +1,6 @@
 // What the exposure settings of a VV5404 or VV6404 may be (004, Table 24, and the gain and clock divisor registers after it).
 ghost use Rattle.std.specs.Prelude.{◌≡◌};
-ghost use Rattle.exposure.specs.Exposure.{isGain, fineLimit};
+ghost use Rattle.exposure.specs.Exposure.{is_gain, fine_limit};
 
 // The frames a second that a sensor can send.
 pub const RATE_25: u8 = 25;
@@ -19,7 +19,7 @@ pub const DIVISOR_LIMIT: u8 = 3;
 
 // Whether a number is a gain code: 0, 1, 3 or 7, for a gain of 1, 2, 4 or 8.
 pub fn is_gain(code: u32) -> bool
-    ensures { result ≡ isGain code }
+    ensures { result ≡ is_gain code }
 {
     if code == 0 {
         return true;
@@ -38,7 +38,7 @@ pub fn is_gain(code: u32) -> bool
 
 // The greatest fine exposure at 30 frames a second; at any other rate that at 25.
 pub fn fine_limit(rate: u8) -> u16
-    ensures { result ≡ fineLimit rate }
+    ensures { result ≡ fine_limit rate }
 {
     if rate == RATE_30 {
         return FINE_LIMIT_30;

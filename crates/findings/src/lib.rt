@@ -3,7 +3,7 @@
 // In: the answer of each call to the reader, in order; at the end, finish's. Out: the next findings, and beside them the tally's news of a frame. Nothing
 // is refused. Cost: constant.
 ghost use Rattle.std.specs.Prelude.{◌≡◌};
-ghost use Rattle.findings.specs.Findings.{noFindings, isOutside, withLine, take_of, withCut, closeOf};
+ghost use Rattle.findings.specs.Findings.{no_findings, is_outside, with_line, take_of, with_cut, close_of};
 
 use counts::one_more;
 use frame_judge::Judge;
@@ -38,7 +38,7 @@ pub struct Found {
 impl Findings {
     // Nothing found yet, of a capture of this profile.
     pub fn new(profile: Profile) -> Findings
-        ensures { result ≡ noFindings profile }
+        ensures { result ≡ no_findings profile }
     {
         let tally = Tally::new(profile);
         let signal = Signal::new();
@@ -74,7 +74,7 @@ impl Findings {
 
     // Takes finish's answer, at the end of the capture.
     pub fn close(self, last: Answer) -> Found
-        ensures { result ≡ closeOf self last }
+        ensures { result ≡ close_of self last }
     {
         let earlier = self.tally;
         let told = earlier.close(last);
@@ -97,7 +97,7 @@ impl Findings {
 impl Outside {
     // With an answer, by the tally before and after it: a line that finds the judge waiting and leaves it so.
     fn with(self, before: Tally, after: Tally, answer: Answer) -> Outside
-        ensures { result ≡ withLine self before after answer }
+        ensures { result ≡ with_line self before after answer }
     {
         if is_outside(before, after, answer) {
             if before.frames == 0 {
@@ -116,7 +116,7 @@ impl Outside {
 }
 
 fn is_outside(before: Tally, after: Tally, answer: Answer) -> bool
-    ensures { result ≡ isOutside before.judge after.judge answer }
+    ensures { result ≡ is_outside before.judge after.judge answer }
 {
     let first = before.judge;
     let next = after.judge;
@@ -131,7 +131,7 @@ fn is_outside(before: Tally, after: Tally, answer: Answer) -> bool
 
 // The frames that were cut off, with the news of the capture's end.
 fn with_cut(cut: u64, news: News) -> u64
-    ensures { result ≡ withCut cut news }
+    ensures { result ≡ with_cut cut news }
 {
     match news {
         News::Nothing => cut,

@@ -9,38 +9,38 @@ use lib.Seq.{take-length, length-take-le, take_at, drop_at, drop-drop}
 use Rattle.profile.specs.Profile.{longest}
 use Rattle.reader_head.specs.declared.Head.{Head}
 use Rattle.reader.specs.declared.Reader.{Reader}
-use Rattle.exported_state.specs.State.{headLength, stateLength, headBytes, headStored, stored, bodyIn}
+use Rattle.exported_state.specs.State.{head_length, state_length, head_bytes, head_stored, stored, body_in}
 
 -- the bytes after the head fill 356 zeros
-pub body-copied : (s : List ℕ) → stateLength ≤ length s
-    → take (length (bodyIn s)) (bodyIn s) ++ drop (length (bodyIn s)) (replicate longest 0) ≡ bodyIn s
-body-copied s room =
-    let n : length (bodyIn s) ≡ longest = length-take-le longest (drop headLength s) (omega (arith, length-drop headLength s)) in
-    ap (λ (l : List ℕ). l ++ drop (length (bodyIn s)) (replicate longest 0)) (take-length (bodyIn s))
-    ∙ ap (λ (k : ℕ). bodyIn s ++ drop k (replicate longest 0)) n
-    ∙ append-nil (bodyIn s)
+pub body_copied : (s : List ℕ) → state_length ≤ length s
+    → take (length (body_in s)) (body_in s) ++ drop (length (body_in s)) (replicate longest 0) ≡ body_in s
+body_copied s room =
+    let n : length (body_in s) ≡ longest = length-take-le longest (drop head_length s) (omega (arith, length-drop head_length s)) in
+    ap (λ (l : List ℕ). l ++ drop (length (body_in s)) (replicate longest 0)) (take-length (body_in s))
+    ∙ ap (λ (k : ℕ). body_in s ++ drop k (replicate longest 0)) n
+    ∙ append-nil (body_in s)
 
-head-full : (h : Head) → length (headBytes h) ≡ headLength
-unfolding headBytes
-head-full h = refl
+head_full : (h : Head) → length (head_bytes h) ≡ head_length
+unfolding head_bytes
+head_full h = refl
 
-head-front : (h : Head) (s : List ℕ) → headLength ≤ length s → headStored h s ≡ headBytes h ++ drop headLength s
-unfolding headStored
-head-front h s room = simp (le-leb headLength (length s) room)
+head_front : (h : Head) (s : List ℕ) → head_length ≤ length s → head_stored h s ≡ head_bytes h ++ drop head_length s
+unfolding head_stored
+head_front h s room = simp (le-leb head_length (length s) room)
 
 -- `after` is the state once the head is stored, and `filled` its 356 bytes behind the head once the body is copied there
-pub reader-stored : (r : Reader) (s after filled : List ℕ) → length r.body ≡ longest → stateLength ≤ length s → after ≡ headStored r.head s
-    → filled ≡ take (length r.body) r.body ++ drop (length r.body) (bodyIn after)
-    → take headLength after ++ (filled ++ drop longest (drop headLength after)) ≡ stored r s
+pub reader_stored : (r : Reader) (s after filled : List ℕ) → length r.body ≡ longest → state_length ≤ length s → after ≡ head_stored r.head s
+    → filled ≡ take (length r.body) r.body ++ drop (length r.body) (body_in after)
+    → take head_length after ++ (filled ++ drop longest (drop head_length after)) ≡ stored r s
 unfolding stored
-reader-stored r s after filled full room e f =
-    let head : List ℕ = headBytes r.head in
-    let none : drop (length r.body) (bodyIn after) ≡ [] =
-    drop_of_length-le (bodyIn after) {i = length r.body} (omega (arith, full, length-take longest (drop headLength after))) in
+reader_stored r s after filled full room e f =
+    let head : List ℕ = head_bytes r.head in
+    let none : drop (length r.body) (body_in after) ≡ [] =
+    drop_of_length-le (body_in after) {i = length r.body} (omega (arith, full, length-take longest (drop head_length after))) in
     let whole : filled ≡ r.body =
     f ∙ ap₂ (λ (x y : List ℕ). x ++ y) (take-length r.body) none ∙ append-nil r.body in
-    ap₂ (λ (x y : List ℕ). take headLength x ++ (y ++ drop longest (drop headLength x))) (e ∙ head-front r.head s (omega arith)) whole
+    ap₂ (λ (x y : List ℕ). take head_length x ++ (y ++ drop longest (drop head_length x))) (e ∙ head_front r.head s (omega arith)) whole
     ∙ ap₂ (λ (x y : List ℕ). x ++ (r.body ++ drop longest y))
-    (take_at head (drop headLength s) headLength (head-full r.head))
-    (drop_at head (drop headLength s) headLength (head-full r.head))
-    ∙ ap (λ (l : List ℕ). head ++ (r.body ++ l)) (drop-drop longest headLength s)
+    (take_at head (drop head_length s) head_length (head_full r.head))
+    (drop_at head (drop head_length s) head_length (head_full r.head))
+    ∙ ap (λ (l : List ℕ). head ++ (r.body ++ l)) (drop-drop longest head_length s)

@@ -20,10 +20,10 @@
 //
 // A state is moved and copied as bytes: crate exported_state has its layout. A judge is a number, 0 when fresh. For C: c/fluturenc.h.
 ghost use Rattle.std.specs.Prelude.{◌≡◌, ◌≤◌, length};
-ghost use Rattle.writer.specs.Writer.{writeOf};
+ghost use Rattle.writer.specs.Writer.{write_of};
 ghost use Rattle.exported_call.specs.LentCall.{StateGives, WriteGives};
-ghost use Rattle.exported_state.specs.State.{stateLength, readerIn, stored};
-ghost use Rattle.fluturenc.specs.Calls.{openCall, feedCall, finishCall, judgeCall};
+ghost use Rattle.exported_state.specs.State.{state_length, reader_in, stored};
+ghost use Rattle.fluturenc.specs.Calls.{open_call, feed_call, finish_call, judge_call};
 ghost use Rattle.fluturenc.specs.Gives.{FeedCallGives, JudgeGives};
 
 use profile::{Numbered, Profile};
@@ -37,7 +37,7 @@ const HEAD: usize = exported_state::HEAD;
 // The bytes of a reader's state.
 #[unsafe(no_mangle)]
 pub extern "C" fn fluturenc_state_length() -> usize
-    ensures { result ≡ stateLength }
+    ensures { result ≡ state_length }
 {
     STATE
 }
@@ -45,7 +45,7 @@ pub extern "C" fn fluturenc_state_length() -> usize
 // Puts a fresh reader of the profile with this number into the state. Refused: 11, 12, in this order.
 #[unsafe(no_mangle)]
 pub extern "C" fn fluturenc_open(profile: u8, state: &mut [u8]) -> u8
-    ensures { StateGives (openCall profile state.old) result state.new }
+    ensures { StateGives (open_call profile state.old) result state.new }
 {
     let Numbered::Profile(p) = Profile::numbered(profile) else {
         return refusal::BAD_STATE;
@@ -67,7 +67,7 @@ pub extern "C" fn fluturenc_feed(
     line: &mut [u8],
     taken: &mut usize,
 ) -> u64
-    ensures { FeedCallGives (feedCall state.old nibbles.now line.old) result taken.new state.new line.new }
+    ensures { FeedCallGives (feed_call state.old nibbles.now line.old) result taken.new state.new line.new }
 {
     *taken = 0;
     if state.len() < STATE {
@@ -90,7 +90,7 @@ pub extern "C" fn fluturenc_feed(
 // Answers the last mark, if there is one, and leaves a fresh reader. Refused: 11.
 #[unsafe(no_mangle)]
 pub extern "C" fn fluturenc_finish(state: &mut [u8]) -> u64
-    ensures { StateGives (finishCall state.old) result state.new }
+    ensures { StateGives (finish_call state.old) result state.new }
 {
     if exported_state::holds_reader(state) {
         let r = reader_in(state);
@@ -116,7 +116,7 @@ pub extern "C" fn fluturenc_write(
     nibbles: &mut [u8],
     written: &mut usize,
 ) -> u8
-    ensures { WriteGives (writeOf profile kind number body.now first second nulls (length nibbles.old)) result written.new nibbles.old nibbles.new }
+    ensures { WriteGives (write_of profile kind number body.now first second nulls (length nibbles.old)) result written.new nibbles.old nibbles.new }
 {
     let w = writer::write(profile, kind, number, body, first, second, nulls, nibbles);
     exported_call::number_written(w, written)
@@ -125,7 +125,7 @@ pub extern "C" fn fluturenc_write(
 // Judges one line of a profile 0 frame, or a broken one. Refused, and then the judge stays as it was: 11, 13, 14, in this order.
 #[unsafe(no_mangle)]
 pub extern "C" fn fluturenc_judge(judge: &mut u32, kind: u8, number: u16) -> u8
-    ensures { JudgeGives (judgeCall judge.old kind number) result judge.new }
+    ensures { JudgeGives (judge_call judge.old kind number) result judge.new }
 {
     let n = *judge;
     if n < exported_numbers::JUDGES {
@@ -142,8 +142,8 @@ pub extern "C" fn fluturenc_judge(judge: &mut u32, kind: u8, number: u16) -> u8
 // A reader in the state, and back.
 
 fn reader_in(state: &[u8]) -> Reader
-    requires { stateLength ≤ length state.now }
-    ensures { result ≡ readerIn state.now }
+    requires { state_length ≤ length state.now }
+    ensures { result ≡ reader_in state.now }
 {
     let head = exported_state::head_in(state);
     let mut body = [0; Profile::LONGEST];
@@ -153,7 +153,7 @@ fn reader_in(state: &[u8]) -> Reader
 
 // Puts a reader into the state.
 fn store(r: Reader, state: &mut [u8])
-    requires { stateLength ≤ length state.old }
+    requires { state_length ≤ length state.old }
     ensures { state.new ≡ stored r state.old }
 {
     let head = r.head;

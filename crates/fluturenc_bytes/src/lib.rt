@@ -7,7 +7,7 @@
 // Cost: linear in the nibbles taken. For C: c/fluturenc.h.
 ghost use Rattle.std.specs.Prelude.{◌≡◌};
 ghost use Rattle.fluturenc.specs.Gives.{FeedCallGives};
-ghost use Rattle.fluturenc_bytes.specs.BytesCall.{feedBytesCall};
+ghost use Rattle.fluturenc_bytes.specs.BytesCall.{feed_bytes_call};
 
 // The bytes of a reader's state, and of its head.
 const STATE: usize = exported_state::LENGTH;
@@ -24,7 +24,7 @@ pub extern "C" fn fluturenc_feed_bytes(
     line: &mut [u8],
     taken: &mut usize,
 ) -> u64
-    ensures { FeedCallGives (feedBytesCall state.old bytes.now from line.old) result taken.new state.new line.new }
+    ensures { FeedCallGives (feed_bytes_call state.old bytes.now from line.old) result taken.new state.new line.new }
 {
     *taken = 0;
     if state.len() < STATE {

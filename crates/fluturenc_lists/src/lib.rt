@@ -7,7 +7,7 @@
 // and the length in its place; or the refusal, 0 in its place, and nothing is written. Room beyond what is written stays as it was.
 ghost use Rattle.std.specs.Prelude.{length};
 ghost use Rattle.exported_call.specs.LentCall.{WriteGives};
-ghost use Rattle.diff_lines.specs.Compare.{compareOf};
+ghost use Rattle.diff_lines.specs.Compare.{compare_of};
 
 // The differences of two lists. Refused: 35 numbers that don't rise strictly, 14 a number above 4095, 13 a kind not 1 to 5, 15 a list cut within
 // a line, 12 room, in this order, each looked for over both lists before the next.
@@ -18,7 +18,7 @@ pub extern "C" fn fluturenc_compare(
     differences: &mut [u8],
     written: &mut usize,
 ) -> u8
-    ensures { WriteGives (compareOf first.now second.now (length differences.old)) result written.new differences.old differences.new }
+    ensures { WriteGives (compare_of first.now second.now (length differences.old)) result written.new differences.old differences.new }
 {
     let filled = diff_lines::compare(first, second, differences);
     exported_call::number_written(filled, written)

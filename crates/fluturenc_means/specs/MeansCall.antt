@@ -10,20 +10,20 @@ pub record MeanPlaces : Type 0 where
   pub beside2 : ℤ
 
 -- the four places of the caller's with these values
-abbrev pub inPlaces : Float → Float → ℤ → ℤ → MeanPlaces
-inPlaces m n a b = record { mean1 = m; mean2 = n; beside1 = a; beside2 = b }
+abbrev pub in_places : Float → Float → ℤ → ℤ → MeanPlaces
+in_places m n a b = record { mean1 = m; mean2 = n; beside1 = a; beside2 = b }
 
 -- 0 or the refusal
-abbrev pub meansNumber : HalfValues → ℕ
-meansNumber (means x y s t a b) = 0
-meansNumber (refused n) = n
+abbrev pub means_number : HalfValues → ℕ
+means_number (means x y s t a b) = 0
+means_number (refused n) = n
 
 -- the places afterwards: a refused call leaves them as they were
-abbrev pub placesAfter : HalfValues → MeanPlaces → MeanPlaces
-placesAfter (means x y s t a b) before = inPlaces x y a b
-placesAfter (refused n) before = before
+abbrev pub places_after : HalfValues → MeanPlaces → MeanPlaces
+places_after (means x y s t a b) before = in_places x y a b
+places_after (refused n) before = before
 
 -- what a call gives: its answer, and the places as it leaves them
 pub record MeansGives (v : HalfValues) (answer : ℕ) (before after : MeanPlaces) : Type 0 where
-  pub says : answer ≡ meansNumber v
-  pub leaves : after ≡ placesAfter v before
+  pub says : answer ≡ means_number v
+  pub leaves : after ≡ places_after v before

@@ -5,8 +5,8 @@
 // It takes numbers, a line's body (in C a pointer and then a length), and four places (pointers): for the exact mean of image places 16 to 79, and of
 // 80 to 143, and for the signed difference of the sensor's mean, first or second, from each: 64 times the byte minus the sum. The answer is 0; or the
 // refusal, and the four places stay as they were.
-ghost use Rattle.half_means.specs.HalfMeans.{halfValues};
-ghost use Rattle.fluturenc_means.specs.MeansCall.{inPlaces, MeansGives};
+ghost use Rattle.half_means.specs.HalfMeans.{half_values};
+ghost use Rattle.fluturenc_means.specs.MeansCall.{in_places, MeansGives};
 
 use half_means::Halves;
 
@@ -24,9 +24,9 @@ pub extern "C" fn fluturenc_half_means(
     beside1: &mut i32,
     beside2: &mut i32,
 ) -> u8
-    ensures { MeansGives (halfValues profile kind body.now first second) result
-        (inPlaces mean1.old mean2.old beside1.old beside2.old)
-        (inPlaces mean1.new mean2.new beside1.new beside2.new) }
+    ensures { MeansGives (half_values profile kind body.now first second) result
+        (in_places mean1.old mean2.old beside1.old beside2.old)
+        (in_places mean1.new mean2.new beside1.new beside2.new) }
 {
     let halves = half_means::of_line(profile, kind, body, first, second);
     match halves {

@@ -10,14 +10,14 @@
 //   fluturenc_to_body(kind, pixels, body, written)     the body that such a head sends of these pixels: 23, 15, 12
 ghost use Rattle.std.specs.Prelude.{length};
 ghost use Rattle.exported_call.specs.LentCall.{WriteGives};
-ghost use Rattle.picture_file.specs.PictureFile.{writeOf, read_of};
-ghost use Rattle.pixel_order.specs.PixelOrder.{reorderOf};
+ghost use Rattle.picture_file.specs.PictureFile.{write_of, read_of};
+ghost use Rattle.pixel_order.specs.PixelOrder.{reorder_of};
 ghost use Rattle.pixel_order.specs.declared.Way.TheVariants.{ToPixels, ToBody};
 
 // The file of these rows. Refused: 21 length of the rows, 22 pixel not 01 to FE, 12 room, in this order.
 #[unsafe(no_mangle)]
 pub extern "C" fn fluturenc_picture_write(rows: &[u8], file: &mut [u8], written: &mut usize) -> u8
-    ensures { WriteGives (writeOf rows.now (length file.old)) result written.new file.old file.new }
+    ensures { WriteGives (write_of rows.now (length file.old)) result written.new file.old file.new }
 {
     let filled = pgm::write(rows, file);
     exported_call::number_written(filled, written)
@@ -40,7 +40,7 @@ pub extern "C" fn fluturenc_to_pixels(
     pixels: &mut [u8],
     written: &mut usize,
 ) -> u8
-    ensures { WriteGives (reorderOf ToPixels kind body.now (length pixels.old)) result written.new pixels.old pixels.new }
+    ensures { WriteGives (reorder_of ToPixels kind body.now (length pixels.old)) result written.new pixels.old pixels.new }
 {
     let filled = pixel_order::to_pixels(kind, body, pixels);
     exported_call::number_written(filled, written)
@@ -54,7 +54,7 @@ pub extern "C" fn fluturenc_to_body(
     body: &mut [u8],
     written: &mut usize,
 ) -> u8
-    ensures { WriteGives (reorderOf ToBody kind pixels.now (length body.old)) result written.new body.old body.new }
+    ensures { WriteGives (reorder_of ToBody kind pixels.now (length body.old)) result written.new body.old body.new }
 {
     let filled = pixel_order::to_body(kind, pixels, body);
     exported_call::number_written(filled, written)

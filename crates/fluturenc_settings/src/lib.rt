@@ -16,9 +16,9 @@ ghost use Rattle.std.specs.Prelude.{◌≡◌, [], ◌∷◌, ◌++◌, ◌+◌,
 ghost use Rattle.std.proofs.lemmas.List.Edits.{sets};
 ghost use Rattle.exported_call.specs.LentCall.{StateGives, WriteGives};
 ghost use Rattle.lent_buffer.specs.Filled.{Gives};
-ghost use Rattle.line_records.specs.Lines.{fromTwo, inTwo};
-ghost use Rattle.saved_setting.specs.SavedSettings.{savedReply, heldReply, savedWanted, foundIn, savedAgain, places_of};
-ghost use Rattle.fluturenc_settings.specs.SavedBytes.{placeSize, listSize, placeBytes, listBytes, frontSetting, firstSettings, fourOf, listIn, wantedOf, SaveGives, foundCall, messagesOf};
+ghost use Rattle.line_records.specs.Lines.{from_two, in_two};
+ghost use Rattle.saved_setting.specs.SavedSettings.{saved_reply, held_reply, saved_wanted, found_in, saved_again, places_of};
+ghost use Rattle.fluturenc_settings.specs.SavedBytes.{place_size, list_size, place_bytes, list_bytes, front_setting, first_settings, four_of, list_in, wanted_of, SaveGives, found_call, messages_of};
 
 use lent_buffer::Filled;
 use saved_setting::{EightPlaces, Held, Saved, SavedPlaces, SavedSetting, Wanted};
@@ -33,7 +33,7 @@ const LIST: usize = 64;
 // The bytes of a list.
 #[unsafe(no_mangle)]
 pub extern "C" fn fluturenc_settings_length() -> usize
-    ensures { result ≡ listSize }
+    ensures { result ≡ list_size }
 {
     LIST
 }
@@ -49,7 +49,7 @@ pub extern "C" fn fluturenc_settings_save(
     rate: u8,
     version: &mut u16,
 ) -> u8
-    ensures { SaveGives (savedWanted (listIn list.old) (wantedOf fine coarse gain divisor rate)) result version.new list.old list.new }
+    ensures { SaveGives (saved_wanted (list_in list.old) (wanted_of fine coarse gain divisor rate)) result version.new list.old list.new }
 {
     if list.len() == LIST {
         let places = places_in(list);
@@ -70,7 +70,7 @@ pub extern "C" fn fluturenc_settings_save(
 // Puts the setting under a version at the front of what is lent for it. Refused: 37, 30 version not held, 12 fewer than eight bytes are lent.
 #[unsafe(no_mangle)]
 pub extern "C" fn fluturenc_settings_find(list: &[u8], version: u16, setting: &mut [u8]) -> u8
-    ensures { StateGives (foundCall (foundIn (listIn list.now) version) setting.old) result setting.new }
+    ensures { StateGives (found_call (found_in (list_in list.now) version) setting.old) result setting.new }
 {
     let found = held_in(list, version);
     match found {
@@ -90,7 +90,7 @@ pub extern "C" fn fluturenc_settings_find(list: &[u8], version: u16, setting: &m
 // Saves a copy of the setting under a version, as it was saved then. Refused: 37, 30, 31.
 #[unsafe(no_mangle)]
 pub extern "C" fn fluturenc_settings_back(list: &mut [u8], version: u16, new: &mut u16) -> u8
-    ensures { SaveGives (savedAgain (listIn list.old) version) result new.new list.old list.new }
+    ensures { SaveGives (saved_again (list_in list.old) version) result new.new list.old list.new }
 {
     if list.len() == LIST {
         let places = places_in(list);
@@ -109,7 +109,7 @@ pub extern "C" fn fluturenc_settings_messages(
     messages: &mut [u8],
     written: &mut usize,
 ) -> u8
-    ensures { WriteGives (messagesOf (foundIn (listIn list.now) version) (length messages.old)) result written.new messages.old messages.new }
+    ensures { WriteGives (messages_of (found_in (list_in list.now) version) (length messages.old)) result written.new messages.old messages.new }
 {
     let found = held_in(list, version);
     let filled = put_found(found, messages);
@@ -118,7 +118,7 @@ pub extern "C" fn fluturenc_settings_messages(
 
 // The messages of what is found, or why nothing is.
 fn put_found(found: Held, messages: &mut [u8]) -> Filled
-    ensures { Gives (messagesOf (heldReply found) (length messages.old)) result messages.old messages.new }
+    ensures { Gives (messages_of (held_reply found) (length messages.old)) result messages.old messages.new }
 {
     match found {
         Held::Setting(s) => {
@@ -133,7 +133,7 @@ fn put_found(found: Held, messages: &mut [u8]) -> Filled
 
 // The setting under a version of a list in bytes.
 fn held_in(list: &[u8], version: u16) -> Held
-    ensures { heldReply result ≡ foundIn (listIn list.now) version }
+    ensures { held_reply result ≡ found_in (list_in list.now) version }
 {
     if list.len() == LIST {
         let places = places_in(list);
@@ -144,8 +144,8 @@ fn held_in(list: &[u8], version: u16) -> Held
 
 // Stores the places that are saved, and tells the new version; or tells why nothing is, and the version is 0.
 fn store_saved(saved: SavedPlaces, list: &mut [u8], version: &mut u16) -> u8
-    requires { length list.old ≡ listSize }
-    ensures { SaveGives (record { reply = savedReply saved.answer; list = places_of saved.places }) result version.new list.old list.new }
+    requires { length list.old ≡ list_size }
+    ensures { SaveGives (record { reply = saved_reply saved.answer; list = places_of saved.places }) result version.new list.old list.new }
 {
     let places = saved.places;
     let answer = saved.answer;
@@ -173,14 +173,14 @@ struct FourPlaces {
 
 // The eight places of a list.
 fn places_in(list: &[u8]) -> EightPlaces
-    requires { length list.now ≡ listSize }
-    ensures { places_of result ≡ listIn list.now }
+    requires { length list.now ≡ list_size }
+    ensures { places_of result ≡ list_in list.now }
 {
     from_halves(four_at(list, 0), four_at(list, HALF))
 }
 
 fn from_halves(front: FourPlaces, back: FourPlaces) -> EightPlaces
-    ensures { places_of result ≡ fourOf front ++ fourOf back }
+    ensures { places_of result ≡ four_of front ++ four_of back }
 {
     let a = front.a;
     let b = front.b;
@@ -205,7 +205,7 @@ fn from_halves(front: FourPlaces, back: FourPlaces) -> EightPlaces
 // The four places from a byte on.
 fn four_at(list: &[u8], at: usize) -> FourPlaces
     requires { at + 32 ≤ length list.now }
-    ensures { fourOf result ≡ firstSettings 4 (drop at list.now) }
+    ensures { four_of result ≡ first_settings 4 (drop at list.now) }
 {
     FourPlaces {
         a: setting_at(list, at),
@@ -217,8 +217,8 @@ fn four_at(list: &[u8], at: usize) -> FourPlaces
 
 // The setting whose bytes start at a byte.
 fn setting_at(list: &[u8], at: usize) -> SavedSetting
-    requires { at + placeSize ≤ length list.now }
-    ensures { result ≡ frontSetting (drop at list.now) }
+    requires { at + place_size ≤ length list.now }
+    ensures { result ≡ front_setting (drop at list.now) }
 {
     SavedSetting {
         version: number_at(list, at),
@@ -232,22 +232,22 @@ fn setting_at(list: &[u8], at: usize) -> SavedSetting
 // The number whose high byte stands at a byte, and its low byte behind that.
 fn number_at(list: &[u8], at: usize) -> u16
     requires { at + 2 ≤ length list.now }
-    ensures { result ≡ fromTwo (get_or list.now at 0) (get_or list.now (at + 1) 0) }
+    ensures { result ≡ from_two (get_or list.now at 0) (get_or list.now (at + 1) 0) }
 {
     from_two(list[at], list[at + 1])
 }
 
 // A number from its high and its low byte.
 fn from_two(high: u8, low: u8) -> u16
-    ensures { result ≡ fromTwo high low }
+    ensures { result ≡ from_two high low }
 {
     256 * high as u16 + low as u16
 }
 
 // Puts eight places into a list.
 fn store(places: EightPlaces, list: &mut [u8])
-    requires { length list.old ≡ listSize }
-    ensures { list.new ≡ listBytes (places_of places) }
+    requires { length list.old ≡ list_size }
+    ensures { list.new ≡ list_bytes (places_of places) }
 {
     let p = places;
     store_four(p.a, p.b, p.c, p.d, list, 0);
@@ -264,7 +264,7 @@ fn store_four(
     at: usize,
 )
     requires { at + 32 ≤ length list.old }
-    ensures { list.new ≡ sets list.old at (listBytes (a ∷ b ∷ c ∷ d ∷ [])) }
+    ensures { list.new ≡ sets list.old at (list_bytes (a ∷ b ∷ c ∷ d ∷ [])) }
 {
     store_setting(a, list, at);
     store_setting(b, list, at + PLACE);
@@ -274,8 +274,8 @@ fn store_four(
 
 // Puts a setting's bytes into a buffer, from a byte on.
 fn store_setting(s: SavedSetting, buffer: &mut [u8], at: usize)
-    requires { at + placeSize ≤ length buffer.old }
-    ensures { buffer.new ≡ sets buffer.old at (placeBytes s) }
+    requires { at + place_size ≤ length buffer.old }
+    ensures { buffer.new ≡ sets buffer.old at (place_bytes s) }
 {
     let gain = s.gain;
     let divisor = s.divisor;
@@ -288,7 +288,7 @@ fn store_setting(s: SavedSetting, buffer: &mut [u8], at: usize)
 // Puts a number's high and its low byte into a buffer.
 fn store_number(n: u16, buffer: &mut [u8], at: usize)
     requires { at + 2 ≤ length buffer.old }
-    ensures { buffer.new ≡ sets buffer.old at (inTwo n) }
+    ensures { buffer.new ≡ sets buffer.old at (in_two n) }
 {
     store_two((n / 256) as u8, (n % 256) as u8, buffer, at);
 }

@@ -7,27 +7,27 @@ use native.Mathlib.Omega.{arith}
 use borrow.Author.Tests.{ltb-true, leb-true, eqb-true}
 use lib.Dec.{eqb, leb, ltb}
 use lib.ListN.{length, get_or}
-use Rattle.refusal.specs.Refusal.{badState, noSuchTechnician, placeNotHeld}
-use Rattle.technician.specs.Technician.{isTechnician, denialBy}
-use Rattle.reader_table.specs.Table.{nobody, placeCount}
-use Rattle.fluturenc_table.specs.TableBytes.{tableLength, placeStart, ownerAt, denialAt}
+use Rattle.refusal.specs.Refusal.{bad_state, no_such_technician, place_not_held}
+use Rattle.technician.specs.Technician.{is_technician, denial_by}
+use Rattle.reader_table.specs.Table.{nobody, place_count}
+use Rattle.fluturenc_table.specs.TableBytes.{table_length, place_start, owner_at, denial_at}
 
-nobody-denied : (who : ℕ) → denialBy who nobody ≡ 0 → ⊥
-unfolding denialBy isTechnician
-nobody-denied who = go (isTechnician who) (eqb nobody who) refl refl
+nobody_denied : (who : ℕ) → denial_by who nobody ≡ 0 → ⊥
+unfolding denial_by is_technician
+nobody_denied who = go (is_technician who) (eqb nobody who) refl refl
   where
-    go : (a b : Bool) → isTechnician who ≡ a → eqb nobody who ≡ b → cond a (cond b 0 placeNotHeld) noSuchTechnician ≡ 0 → ⊥
-    go true true e f z = true≢false (sym e ∙ ap isTechnician (sym (eqb-true nobody who f)))
+    go : (a b : Bool) → is_technician who ≡ a → eqb nobody who ≡ b → cond a (cond b 0 place_not_held) no_such_technician ≡ 0 → ⊥
+    go true true e f z = true≢false (sym e ∙ ap is_technician (sym (eqb-true nobody who f)))
     go true false e f z = omega (arith, z)
     go false b e f z = omega (arith, z)
 
-pub granted : (s : List ℕ) (who i : ℕ) {n : ℕ} → n ≡ denialAt s who i → n ≡ 0 → (i < placeCount) × (tableLength ≤ length s)
-unfolding denialAt ownerAt
-granted s who i e z = go (leb tableLength (length s)) (ltb i placeCount) refl refl (sym e ∙ z)
+pub granted : (s : List ℕ) (who i : ℕ) {n : ℕ} → n ≡ denial_at s who i → n ≡ 0 → (i < place_count) × (table_length ≤ length s)
+unfolding denial_at owner_at
+granted s who i e z = go (leb table_length (length s)) (ltb i place_count) refl refl (sym e ∙ z)
   where
-    go : (a b : Bool) → leb tableLength (length s) ≡ a → ltb i placeCount ≡ b
-        → cond a (denialBy who (cond b (get_or s (placeStart i) 0) nobody)) badState ≡ 0
-        → (i < placeCount) × (tableLength ≤ length s)
+    go : (a b : Bool) → leb table_length (length s) ≡ a → ltb i place_count ≡ b
+        → cond a (denial_by who (cond b (get_or s (place_start i) 0) nobody)) bad_state ≡ 0
+        → (i < place_count) × (table_length ≤ length s)
     go true true f g k = (ltb-true _ _ g, leb-true _ _ f)
-    go true false f g k = absurd (nobody-denied who k)
+    go true false f g k = absurd (nobody_denied who k)
     go false b f g k = absurd (omega (arith, k))

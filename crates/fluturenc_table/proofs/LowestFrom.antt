@@ -7,24 +7,24 @@ use native.Mathlib.Numerals.{add-one}
 use native.Mathlib.Omega.{arith}
 use lib.Dec.{eqb}
 use lib.ListN.{get_or}
-use Rattle.reader_table.specs.Table.{nobody, placeCount}
-use Rattle.fluturenc_table.specs.TableBytes.{placeStart, lowestFrom}
+use Rattle.reader_table.specs.Table.{nobody, place_count}
+use Rattle.fluturenc_table.specs.TableBytes.{place_start, lowest_from}
 
 module _ (s : List ℕ) (i : ℕ) where
-  step : i < placeCount
-      → lowestFrom (placeCount - i) i s
-      ≡ cond (eqb (get_or s (placeStart i) 0) nobody) i (lowestFrom (placeCount - (i + 1)) (i + 1) s)
+  step : i < place_count
+      → lowest_from (place_count - i) i s
+      ≡ cond (eqb (get_or s (place_start i) 0) nobody) i (lowest_from (place_count - (i + 1)) (i + 1) s)
   step l =
-      let e : placeCount - i ≡ suc (placeCount - (i + 1)) = omega (arith, l) in
-      ap (λ (k : ℕ). lowestFrom k i s) e
-      ∙ ap (λ (k : ℕ). cond (eqb (get_or s (placeStart i) 0) nobody) i (lowestFrom (placeCount - (i + 1)) k s)) (sym (add-one i))
+      let e : place_count - i ≡ suc (place_count - (i + 1)) = omega (arith, l) in
+      ap (λ (k : ℕ). lowest_from k i s) e
+      ∙ ap (λ (k : ℕ). cond (eqb (get_or s (place_start i) 0) nobody) i (lowest_from (place_count - (i + 1)) k s)) (sym (add-one i))
 
-  pub here : i < placeCount → eqb (get_or s (placeStart i) 0) nobody ≡ true → lowestFrom (placeCount - i) i s ≡ i
+  pub here : i < place_count → eqb (get_or s (place_start i) 0) nobody ≡ true → lowest_from (place_count - i) i s ≡ i
   here l e = step l ∙ simp (e)
 
-  pub further : i < placeCount → eqb (get_or s (placeStart i) 0) nobody ≡ false
-      → lowestFrom (placeCount - i) i s ≡ lowestFrom (placeCount - (i + 1)) (i + 1) s
+  pub further : i < place_count → eqb (get_or s (place_start i) 0) nobody ≡ false
+      → lowest_from (place_count - i) i s ≡ lowest_from (place_count - (i + 1)) (i + 1) s
   further l e = step l ∙ simp (e)
 
-  pub none_left : placeCount ≤ i → lowestFrom (placeCount - i) i s ≡ i
-  none_left l = let e : placeCount - i ≡ 0 = omega (arith, l) in ap (λ (k : ℕ). lowestFrom k i s) e
+  pub none_left : place_count ≤ i → lowest_from (place_count - i) i s ≡ i
+  none_left l = let e : place_count - i ≡ 0 = omega (arith, l) in ap (λ (k : ℕ). lowest_from k i s) e

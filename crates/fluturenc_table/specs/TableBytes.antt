@@ -1,43 +1,43 @@
 -- A table of readers as bytes of a lent buffer: eight places in a row, each its owner's byte, 0 where it is free, and a reader's state.
 use Rattle.std.specs.Prelude.{cond, List, ◌++◌, ℕ, zero, suc, ◌+◌, ◌*◌, eqb, leb, ltb, length, get_or, take, drop}
-use Rattle.refusal.specs.Refusal.{badState}
-use Rattle.technician.specs.Technician.{denialBy}
-use Rattle.reader_table.specs.Table.{nobody, placeCount}
-use Rattle.exported_state.specs.State.{stateLength}
+use Rattle.refusal.specs.Refusal.{bad_state}
+use Rattle.technician.specs.Technician.{denial_by}
+use Rattle.reader_table.specs.Table.{nobody, place_count}
+use Rattle.exported_state.specs.State.{state_length}
 
 -- the bytes of a place, and of a table
-abbrev pub placeLength : ℕ
-placeLength = 1 + stateLength
+abbrev pub place_length : ℕ
+place_length = 1 + state_length
 
 -- how many bytes a table has
-abbrev pub tableLength : ℕ
-tableLength = placeCount * placeLength
+abbrev pub table_length : ℕ
+table_length = place_count * place_length
 
 -- where a place begins, and its reader's state
-unfoldable pub placeStart : ℕ → ℕ
-placeStart i = placeLength * i
+unfoldable pub place_start : ℕ → ℕ
+place_start i = place_length * i
 
 -- where a place's reader begins among the bytes
-abbrev pub stateStart : ℕ → ℕ
-stateStart i = placeStart i + 1
+abbrev pub state_start : ℕ → ℕ
+state_start i = place_start i + 1
 
 -- whose a place is; one that is not there counts as free
-unfoldable pub ownerAt : List ℕ → ℕ → ℕ
-ownerAt s i = cond (ltb i placeCount) (get_or s (placeStart i) 0) nobody
+unfoldable pub owner_at : List ℕ → ℕ → ℕ
+owner_at s i = cond (ltb i place_count) (get_or s (place_start i) 0) nobody
 
 -- the state of a place's reader
-unfoldable pub stateAt : List ℕ → ℕ → List ℕ
-stateAt s i = take stateLength (drop (stateStart i) s)
+unfoldable pub state_at : List ℕ → ℕ → List ℕ
+state_at s i = take state_length (drop (state_start i) s)
 
 -- the table with another state there
-unfoldable pub withState : List ℕ → ℕ → List ℕ → List ℕ
-withState s i state = take (stateStart i) s ++ (state ++ drop stateLength (drop (stateStart i) s))
+unfoldable pub with_state : List ℕ → ℕ → List ℕ → List ℕ
+with_state s i state = take (state_start i) s ++ (state ++ drop state_length (drop (state_start i) s))
 
 -- the lowest free of k places from the place i on; where none is, the place after them
-abbrev pub lowestFrom : ℕ → ℕ → List ℕ → ℕ
-lowestFrom zero i s = i
-lowestFrom (suc k) i s = cond (eqb (get_or s (placeStart i) 0) nobody) i (lowestFrom k (suc i) s)
+abbrev pub lowest_from : ℕ → ℕ → List ℕ → ℕ
+lowest_from zero i s = i
+lowest_from (suc k) i s = cond (eqb (get_or s (place_start i) 0) nobody) i (lowest_from k (suc i) s)
 
 -- what a technician is refused of a place: 11 where the bytes are too few for a table, 32, 34, or nothing, 0
-unfoldable pub denialAt : List ℕ → ℕ → ℕ → ℕ
-denialAt s who i = cond (leb tableLength (length s)) (denialBy who (ownerAt s i)) badState
+unfoldable pub denial_at : List ℕ → ℕ → ℕ → ℕ
+denial_at s who i = cond (leb table_length (length s)) (denial_by who (owner_at s i)) bad_state

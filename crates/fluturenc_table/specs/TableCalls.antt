@@ -1,67 +1,67 @@
 -- The exported calls of a table: what each answers and leaves, of the bytes lent to it.
 use Rattle.std.specs.Prelude.{cond, List, ℕ, zero, suc, eqb, leb, ltb, length, set}
-use Rattle.refusal.specs.Refusal.{badState, noRoom, noSuchTechnician, noPlaceFree}
+use Rattle.refusal.specs.Refusal.{bad_state, no_room, no_such_technician, no_place_free}
 use Rattle.exported_call.specs.LentCall.{Called}
 use Rattle.profile.specs.declared.Numbered.{Numbered}
 use Rattle.profile.specs.declared.Numbered.TheVariants as numbered
-use Rattle.profile.specs.Profile.{profileNumbered}
-use Rattle.technician.specs.Technician.{isTechnician}
-use Rattle.reader_table.specs.Table.{nobody, placeCount}
-use Rattle.fluturenc.specs.Calls.{FeedCalled, openCall, feedCall, finishCall}
-use Rattle.fluturenc_table.specs.TableBytes.{tableLength, placeStart, stateAt, withState, lowestFrom, denialAt}
+use Rattle.profile.specs.Profile.{profile_numbered}
+use Rattle.technician.specs.Technician.{is_technician}
+use Rattle.reader_table.specs.Table.{nobody, place_count}
+use Rattle.fluturenc.specs.Calls.{FeedCalled, open_call, feed_call, finish_call}
+use Rattle.fluturenc_table.specs.TableBytes.{table_length, place_start, state_at, with_state, lowest_from, denial_at}
 
 -- a refused call: the table's bytes stay
-abbrev pub refusedTable : ℕ → List ℕ → Called
-refusedTable n s = record { answer = n; state = s }
+abbrev pub refused_table : ℕ → List ℕ → Called
+refused_table n s = record { answer = n; state = s }
 
 -- the first k places freed
-abbrev pub placesFreed : ℕ → List ℕ → List ℕ
-placesFreed zero s = s
-placesFreed (suc k) s = set (placesFreed k s) (placeStart k) nobody
+abbrev pub places_freed : ℕ → List ℕ → List ℕ
+places_freed zero s = s
+places_freed (suc k) s = set (places_freed k s) (place_start k) nobody
 
 -- a table of free places: 12 where the bytes are too few, or 0
-unfoldable pub newTable : List ℕ → Called
-newTable s = cond (leb tableLength (length s)) (record { answer = 0; state = placesFreed placeCount s }) (refusedTable noRoom s)
+unfoldable pub new_table : List ℕ → Called
+new_table s = cond (leb table_length (length s)) (record { answer = 0; state = places_freed place_count s }) (refused_table no_room s)
 
 -- opening: 11 where the bytes are too few for a table, 32, 11, 33, or the place, with a fresh reader of its technician
 
 -- a place opened: a fresh reader there, and its technician
-unfoldable pub openedAt : List ℕ → ℕ → ℕ → ℕ → Called
-openedAt s who n i = record { answer = i; state = set (withState s i (openCall n (stateAt s i)).state) (placeStart i) who }
+unfoldable pub opened_at : List ℕ → ℕ → ℕ → ℕ → Called
+opened_at s who n i = record { answer = i; state = set (with_state s i (open_call n (state_at s i)).state) (place_start i) who }
 
 -- opening the lowest free place; 33 where there is none
-unfoldable pub openLowest : List ℕ → ℕ → ℕ → ℕ → Called
-openLowest s who n i = cond (ltb i placeCount) (openedAt s who n i) (refusedTable noPlaceFree s)
+unfoldable pub open_lowest : List ℕ → ℕ → ℕ → ℕ → Called
+open_lowest s who n i = cond (ltb i place_count) (opened_at s who n i) (refused_table no_place_free s)
 
 -- opening, by the profile that the number names; 11 for none
-abbrev pub openProfile : List ℕ → ℕ → ℕ → Numbered → Called
-openProfile s who n (numbered.Profile p) = openLowest s who n (lowestFrom placeCount 0 s)
-openProfile s who n numbered.NoProfile = refusedTable badState s
+abbrev pub open_profile : List ℕ → ℕ → ℕ → Numbered → Called
+open_profile s who n (numbered.Profile p) = open_lowest s who n (lowest_from place_count 0 s)
+open_profile s who n numbered.NoProfile = refused_table bad_state s
 
 -- an opening: 11 of too few bytes, 32, 11, 33, or the place's number
-unfoldable pub openTable : List ℕ → ℕ → ℕ → Called
-openTable s who n =
-    cond (leb tableLength (length s))
-    (cond (isTechnician who) (openProfile s who n (profileNumbered n)) (refusedTable noSuchTechnician s))
-    (refusedTable badState s)
+unfoldable pub open_table : List ℕ → ℕ → ℕ → Called
+open_table s who n =
+    cond (leb table_length (length s))
+    (cond (is_technician who) (open_profile s who n (profile_numbered n)) (refused_table no_such_technician s))
+    (refused_table bad_state s)
 
 -- the others: 11 where the bytes are too few, 32, 34, or as the call of a reader's own state does
 
 -- a run of nibbles into a place's reader, or the refusal of the place
-unfoldable pub feedTable : List ℕ → ℕ → ℕ → List ℕ → List ℕ → FeedCalled
-feedTable s who i w line =
-    let c : FeedCalled = feedCall (stateAt s i) w line in
-    cond (eqb (denialAt s who i) 0)
-    (record { answer = c.answer; taken = c.taken; state = withState s i c.state; line = c.line })
-    (record { answer = denialAt s who i; taken = 0; state = s; line = line })
+unfoldable pub feed_table : List ℕ → ℕ → ℕ → List ℕ → List ℕ → FeedCalled
+feed_table s who i w line =
+    let c : FeedCalled = feed_call (state_at s i) w line in
+    cond (eqb (denial_at s who i) 0)
+    (record { answer = c.answer; taken = c.taken; state = with_state s i c.state; line = c.line })
+    (record { answer = denial_at s who i; taken = 0; state = s; line = line })
 
 -- the finish of a place's reader, or the refusal of the place
-unfoldable pub finishTable : List ℕ → ℕ → ℕ → Called
-finishTable s who i =
-    let c : Called = finishCall (stateAt s i) in
-    cond (eqb (denialAt s who i) 0) (record { answer = c.answer; state = withState s i c.state }) (refusedTable (denialAt s who i) s)
+unfoldable pub finish_table : List ℕ → ℕ → ℕ → Called
+finish_table s who i =
+    let c : Called = finish_call (state_at s i) in
+    cond (eqb (denial_at s who i) 0) (record { answer = c.answer; state = with_state s i c.state }) (refused_table (denial_at s who i) s)
 
 -- a place closed, or refused
-unfoldable pub closeTable : List ℕ → ℕ → ℕ → Called
-closeTable s who i =
-    cond (eqb (denialAt s who i) 0) (record { answer = 0; state = set s (placeStart i) nobody }) (refusedTable (denialAt s who i) s)
+unfoldable pub close_table : List ℕ → ℕ → ℕ → Called
+close_table s who i =
+    cond (eqb (denial_at s who i) 0) (record { answer = 0; state = set s (place_start i) nobody }) (refused_table (denial_at s who i) s)

@@ -10,11 +10,11 @@
 // 11 comes first where the bytes are fewer than a table's. Refused calls change nothing, but that what stood before a 10 is taken. A place is
 // its owner's byte and a reader's state as crate fluturenc has it, and each call works on that in place.
 ghost use Rattle.std.specs.Prelude.{◌≡◌, ◌≤◌, length};
-ghost use Rattle.reader_table.specs.Table.{placeCount};
+ghost use Rattle.reader_table.specs.Table.{place_count};
 ghost use Rattle.exported_call.specs.LentCall.{StateGives};
 ghost use Rattle.fluturenc.specs.Gives.{FeedCallGives};
-ghost use Rattle.fluturenc_table.specs.TableBytes.{tableLength, lowestFrom, denialAt};
-ghost use Rattle.fluturenc_table.specs.TableCalls.{placesFreed, newTable, openLowest, openTable, feedTable, finishTable, closeTable};
+ghost use Rattle.fluturenc_table.specs.TableBytes.{table_length, lowest_from, denial_at};
+ghost use Rattle.fluturenc_table.specs.TableCalls.{places_freed, new_table, open_lowest, open_table, feed_table, finish_table, close_table};
 
 use profile::{Numbered, Profile};
 
@@ -32,7 +32,7 @@ const NOBODY: u8 = 0;
 // The bytes of a table.
 #[unsafe(no_mangle)]
 pub extern "C" fn fluturenc_table_length() -> usize
-    ensures { result ≡ tableLength }
+    ensures { result ≡ table_length }
 {
     TABLE
 }
@@ -40,7 +40,7 @@ pub extern "C" fn fluturenc_table_length() -> usize
 // A table of free places. Refused: 12.
 #[unsafe(no_mangle)]
 pub extern "C" fn fluturenc_table_new(table: &mut [u8]) -> u8
-    ensures { StateGives (newTable table.old) result table.new }
+    ensures { StateGives (new_table table.old) result table.new }
 {
     if table.len() < TABLE {
         return refusal::NO_ROOM;
@@ -52,7 +52,7 @@ pub extern "C" fn fluturenc_table_new(table: &mut [u8]) -> u8
 // Gives the lowest free place to a technician, with a fresh reader of the profile with this number.
 #[unsafe(no_mangle)]
 pub extern "C" fn fluturenc_table_open(table: &mut [u8], technician: u8, profile: u8) -> u8
-    ensures { StateGives (openTable table.old technician profile) result table.new }
+    ensures { StateGives (open_table table.old technician profile) result table.new }
 {
     if table.len() < TABLE {
         return refusal::BAD_STATE;
@@ -78,7 +78,7 @@ pub extern "C" fn fluturenc_table_feed(
     line: &mut [u8],
     taken: &mut usize,
 ) -> u64
-    ensures { FeedCallGives (feedTable table.old technician place nibbles.now line.old) result taken.new table.new line.new }
+    ensures { FeedCallGives (feed_table table.old technician place nibbles.now line.old) result taken.new table.new line.new }
 {
     *taken = 0;
     let n = denial_at(table, technician, place);
@@ -92,7 +92,7 @@ pub extern "C" fn fluturenc_table_feed(
 // Answers the last mark of a place, and leaves it a fresh reader; the place stays its technician's.
 #[unsafe(no_mangle)]
 pub extern "C" fn fluturenc_table_finish(table: &mut [u8], technician: u8, place: usize) -> u64
-    ensures { StateGives (finishTable table.old technician place) result table.new }
+    ensures { StateGives (finish_table table.old technician place) result table.new }
 {
     let n = denial_at(table, technician, place);
     if n == 0 {
@@ -105,7 +105,7 @@ pub extern "C" fn fluturenc_table_finish(table: &mut [u8], technician: u8, place
 // Frees a place.
 #[unsafe(no_mangle)]
 pub extern "C" fn fluturenc_table_close(table: &mut [u8], technician: u8, place: usize) -> u8
-    ensures { StateGives (closeTable table.old technician place) result table.new }
+    ensures { StateGives (close_table table.old technician place) result table.new }
 {
     let n = denial_at(table, technician, place);
     if n == 0 {
@@ -117,7 +117,7 @@ pub extern "C" fn fluturenc_table_close(table: &mut [u8], technician: u8, place:
 
 // What a technician is refused of a place; 0 where it is theirs.
 fn denial_at(table: &[u8], technician: u8, place: usize) -> u8
-    ensures { result ≡ denialAt table.now technician place }
+    ensures { result ≡ denial_at table.now technician place }
 {
     if table.len() < TABLE {
         return refusal::BAD_STATE;
@@ -129,8 +129,8 @@ fn denial_at(table: &[u8], technician: u8, place: usize) -> u8
 }
 
 fn open_lowest(table: &mut [u8], technician: u8, profile: u8) -> u8
-    requires { tableLength ≤ length table.old }
-    ensures { StateGives (openLowest table.old technician profile (lowestFrom placeCount 0 table.old)) result table.new }
+    requires { table_length ≤ length table.old }
+    ensures { StateGives (open_lowest table.old technician profile (lowest_from place_count 0 table.old)) result table.new }
 {
     let place = lowest_free(table);
     if place < COUNT {
@@ -144,8 +144,8 @@ fn open_lowest(table: &mut [u8], technician: u8, profile: u8) -> u8
 
 // The lowest free place; the count of places where all are taken.
 fn lowest_free(table: &[u8]) -> usize
-    requires { tableLength ≤ length table.now }
-    ensures { result ≡ lowestFrom placeCount 0 table.now }
+    requires { table_length ≤ length table.now }
+    ensures { result ≡ lowest_from place_count 0 table.now }
 {
     let mut i: usize = 0;
     while i < COUNT {
@@ -158,8 +158,8 @@ fn lowest_free(table: &[u8]) -> usize
 }
 
 fn free_all(table: &mut [u8])
-    requires { tableLength ≤ length table.old }
-    ensures { table.new ≡ placesFreed placeCount table.old }
+    requires { table_length ≤ length table.old }
+    ensures { table.new ≡ places_freed place_count table.old }
 {
     let mut i: usize = 0;
     while i < COUNT {

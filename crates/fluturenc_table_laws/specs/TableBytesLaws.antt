@@ -12,55 +12,55 @@ use Rattle.std.proofs.Math.Dec.{eqb, ltb}
 use Rattle.std.proofs.Math.ListN.{length, get_or, get_or-eq_default}
 use Rattle.std.proofs.lemmas.List.{get_or-replicate, length-replicate}
 use Rattle.std.proofs.Math.Seq.{get_or-set_same}
-use Rattle.refusal.specs.Refusal.{noSuchTechnician, noPlaceFree, placeNotHeld}
+use Rattle.refusal.specs.Refusal.{no_such_technician, no_place_free, place_not_held}
 use Rattle.exported_call.specs.LentCall.{Called}
 use Rattle.profile.specs.declared.Profile.{Profile}
 use Rattle.profile.specs.declared.Profile.TheVariants.{VV5404, VV5300}
 use Rattle.profile.specs.declared.Numbered.{Numbered}
 use Rattle.profile.specs.declared.Numbered.TheVariants as numbered
-use Rattle.profile.specs.Profile.{profileNumber, profileNumbered, longest}
+use Rattle.profile.specs.Profile.{profile_number, profile_numbered, longest}
 use Rattle.reader.specs.declared.Reader.{Reader}
-use Rattle.reader.specs.Reader.{freshReader, finishOf}
+use Rattle.reader.specs.Reader.{fresh_reader, finish_of}
 use Rattle.run.specs.Run.{Ran, run_of}
 use Rattle.recovery.specs.Calls.{done}
 use Rattle.refinement.specs.Runs.{RunCall, run, one}
 use Rattle.reader_table.specs.declared.TablePlace.{TablePlace}
 use Rattle.reader_table.specs.declared.ReaderTable.{ReaderTable}
-use Rattle.technician.specs.Technician.{isTechnician, denialBy}
-use Rattle.reader_table.specs.Table.{nobody, placeFor, freePlace, placeCount, emptyTable, placeAt, withPlace, heldBy, lowestFree, PlaceCalled, notOpened, opens_at, openPlace, openNumbered, openPlaceOf, notCalled, lentTo, callHeld, callPlaceOf, closeHeld, closePlaceOf}
+use Rattle.technician.specs.Technician.{is_technician, denial_by}
+use Rattle.reader_table.specs.Table.{nobody, place_for, free_place, place_count, empty_table, place_at, with_place, held_by, lowest_free, PlaceCalled, not_opened, opens_at, open_place, open_numbered, open_place_of, not_called, lent_to, call_held, call_place_of, close_held, close_place_of}
 use Rattle.reader_table_laws.specs.Places.{somebody, put_same, put_other, there}
-use Rattle.reader_table_laws.specs.Lowest.{put-length}
-use Rattle.exported_state.specs.State.{stateLength, stored, readerIn}
-use Rattle.exported_state.specs.StateLaws.{stored-length}
-use Rattle.fluturenc.specs.Calls.{FeedCalled, openFor, openCall, feedCall, finishCall}
-use Rattle.fluturenc.specs.CallLaws.{HoldsReader, opens, feeds, finishes, finish-call}
-use Rattle.fluturenc_table.specs.TableBytes.{tableLength, placeStart, ownerAt, stateAt, withState, lowestFrom, denialAt}
-use Rattle.fluturenc_table.specs.TableCalls.{refusedTable, placesFreed, newTable, openedAt, openLowest, openProfile, openTable, feedTable, finishTable, closeTable}
-use Rattle.fluturenc_table_laws.specs.TableHeld.{placeBy, placesHeld, tableIn, HoldsPlace, HoldsTable, OpensAs, FeedsAs, AnswersAs, ServesAs}
-use Rattle.fluturenc_table_laws.specs.ApartLaws.{within, owner-byte, state-length, with-room, with-here, with-others, with-owners, owned-states, owned-others}
+use Rattle.reader_table_laws.specs.Lowest.{put_length}
+use Rattle.exported_state.specs.State.{state_length, stored, reader_in}
+use Rattle.exported_state.specs.StateLaws.{stored_length}
+use Rattle.fluturenc.specs.Calls.{FeedCalled, open_for, open_call, feed_call, finish_call}
+use Rattle.fluturenc.specs.CallLaws.{HoldsReader, opens, feeds, finishes, finish_call_lem}
+use Rattle.fluturenc_table.specs.TableBytes.{table_length, place_start, owner_at, state_at, with_state, lowest_from, denial_at}
+use Rattle.fluturenc_table.specs.TableCalls.{refused_table, places_freed, new_table, opened_at, open_lowest, open_profile, open_table, feed_table, finish_table, close_table}
+use Rattle.fluturenc_table_laws.specs.TableHeld.{place_by, places_held, table_in, HoldsPlace, HoldsTable, OpensAs, FeedsAs, AnswersAs, ServesAs}
+use Rattle.fluturenc_table_laws.specs.ApartLaws.{within, owner_byte, state_length_lem, with_room, with_here, with_others, with_owners, owned_states, owned_others}
 
 -- Places.
 
-not-nobody : (who : ℕ) → isTechnician who ≡ true → eqb who nobody ≡ false
-not-nobody who h = ne_eqb who nobody (λ e. eqb-false nobody who (somebody who h) (sym e))
+not_nobody : (who : ℕ) → is_technician who ≡ true → eqb who nobody ≡ false
+not_nobody who h = ne_eqb who nobody (λ e. eqb-false nobody who (somebody who h) (sym e))
 
-placed-owner : (owner : ℕ) (state : List ℕ) → (placeBy owner state).owner ≡ owner
-placed-owner owner state = go (eqb owner nobody) refl
+placed_owner : (owner : ℕ) (state : List ℕ) → (place_by owner state).owner ≡ owner
+placed_owner owner state = go (eqb owner nobody) refl
   where
-    go : (b : Bool) → eqb owner nobody ≡ b → (cond b freePlace (placeFor owner (readerIn state))).owner ≡ owner
+    go : (b : Bool) → eqb owner nobody ≡ b → (cond b free_place (place_for owner (reader_in state))).owner ≡ owner
     go true e = sym (eqb-true owner nobody e)
     go false e = refl
 
-taken-place : (owner : ℕ) (state : List ℕ) → eqb owner nobody ≡ false → placeBy owner state ≡ placeFor owner (readerIn state)
-taken-place owner state e = ap (λ (b : Bool). cond b freePlace (placeFor owner (readerIn state))) e
+taken_place : (owner : ℕ) (state : List ℕ) → eqb owner nobody ≡ false → place_by owner state ≡ place_for owner (reader_in state)
+taken_place owner state e = ap (λ (b : Bool). cond b free_place (place_for owner (reader_in state))) e
 
-free-held : (state : List ℕ) → HoldsPlace nobody state freePlace
-free-held state = record { read = refl; held = λ e. absurd (true≢false e) }
+free_held : (state : List ℕ) → HoldsPlace nobody state free_place
+free_held state = record { read = refl; held = λ e. absurd (true≢false e) }
 
-reader-held : (who : ℕ) (state : List ℕ) (r : Reader) → eqb who nobody ≡ false → HoldsReader state r → HoldsPlace who state (placeFor who r)
-reader-held who state r e h =
+reader_held : (who : ℕ) (state : List ℕ) (r : Reader) → eqb who nobody ≡ false → HoldsReader state r → HoldsPlace who state (place_for who r)
+reader_held who state r e h =
     record {
-      read = taken-place who state e ∙ ap (λ (x : Reader). placeFor who x) h.read;
+      read = taken_place who state e ∙ ap (λ (x : Reader). place_for who x) h.read;
       held = λ f. subst (HoldsReader state) (sym h.read) h;
     }
 
@@ -70,211 +70,211 @@ moved {a} {b} {v} {w} {p} {q} e f g h =
 
 -- A new table.
 
-freed-room : (k : ℕ) (s : List ℕ) → length (placesFreed k s) ≡ length s
-freed-room zero s = refl
-freed-room (suc k) s = length-set (placesFreed k s) _ nobody ∙ freed-room k s
+freed_room : (k : ℕ) (s : List ℕ) → length (places_freed k s) ≡ length s
+freed_room zero s = refl
+freed_room (suc k) s = length-set (places_freed k s) _ nobody ∙ freed_room k s
 
-freed : (k : ℕ) (s : List ℕ) (i : ℕ) → tableLength ≤ length s → k ≤ placeCount → i < k → get_or (placesFreed k s) (placeStart i) 0 ≡ nobody
+freed : (k : ℕ) (s : List ℕ) (i : ℕ) → table_length ≤ length s → k ≤ place_count → i < k → get_or (places_freed k s) (place_start i) 0 ≡ nobody
 freed zero s i h m l = absurd (not-suc-le-zero l)
 freed (suc k) s i h m l = go (ltb i k) refl (freed k s i h (omega (arith, m)))
   where
-    go : (b : Bool) → ltb i k ≡ b → (i < k → get_or (placesFreed k s) (placeStart i) 0 ≡ nobody)
-        → get_or (set (placesFreed k s) (placeStart k) nobody) (placeStart i) 0 ≡ nobody
+    go : (b : Bool) → ltb i k ≡ b → (i < k → get_or (places_freed k s) (place_start i) 0 ≡ nobody)
+        → get_or (set (places_freed k s) (place_start k) nobody) (place_start i) 0 ≡ nobody
     go true e rec =
         let less = ltb-true i k e in
-        owned-others (placesFreed k s) k nobody i (λ q. omega (arith, less, q)) ∙ rec less
+        owned_others (places_freed k s) k nobody i (λ q. omega (arith, less, q)) ∙ rec less
     go false e rec =
         let same : i ≡ k = let n = ltb-false i k e in omega (arith, n, l) in
         let fits = within k (omega (arith, m)) in
-        ap (λ (j : ℕ). get_or (set (placesFreed k s) (placeStart k) nobody) (placeStart j) 0) same
-        ∙ get_or-set_same (placesFreed k s) (placeStart k) nobody 0 (omega (arith, fits, h, freed-room k s))
+        ap (λ (j : ℕ). get_or (set (places_freed k s) (place_start k) nobody) (place_start j) 0) same
+        ∙ get_or-set_same (places_freed k s) (place_start k) nobody 0 (omega (arith, fits, h, freed_room k s))
 
-new-held : (s : List ℕ) → tableLength ≤ length s → HoldsTable (placesFreed placeCount s) emptyTable
-unfolding placeAt
-new-held s h =
+new_held : (s : List ℕ) → table_length ≤ length s → HoldsTable (places_freed place_count s) empty_table
+unfolding place_at
+new_held s h =
     record {
-      room = omega (arith, h, freed-room placeCount s);
-      eight = length-replicate placeCount freePlace;
+      room = omega (arith, h, freed_room place_count s);
+      eight = length-replicate place_count free_place;
       each = λ i l.
-          moved (owner-byte (placesFreed placeCount s) i l ∙ freed placeCount s i h (omega arith) l) refl
-          (get_or-replicate placeCount i freePlace freePlace l) (free-held (stateAt (placesFreed placeCount s) i));
+          moved (owner_byte (places_freed place_count s) i l ∙ freed place_count s i h (omega arith) l) refl
+          (get_or-replicate place_count i free_place free_place l) (free_held (state_at (places_freed place_count s) i));
     }
 
 -- Bytes that hold a table.
 
-places_count : (k i : ℕ) (s : List ℕ) → length (placesHeld k i s) ≡ k
+places_count : (k i : ℕ) (s : List ℕ) → length (places_held k i s) ≡ k
 places_count zero i s = refl
 places_count (suc k) i s = ap suc (places_count k (suc i) s)
 
-place-held : (k i : ℕ) (s : List ℕ) (j : ℕ) → j < k → get_or (placesHeld k i s) j freePlace ≡ placeBy (ownerAt s (i + j)) (stateAt s (i + j))
-place-held zero i s j l = absurd (not-suc-le-zero l)
-place-held (suc k) i s zero l = ap (λ (n : ℕ). placeBy (ownerAt s n) (stateAt s n)) (omega arith)
-place-held (suc k) i s (suc j) l =
-    place-held k (suc i) s j (le_of_suc-le-suc l) ∙ ap (λ (n : ℕ). placeBy (ownerAt s n) (stateAt s n)) (omega arith)
+place_held : (k i : ℕ) (s : List ℕ) (j : ℕ) → j < k → get_or (places_held k i s) j free_place ≡ place_by (owner_at s (i + j)) (state_at s (i + j))
+place_held zero i s j l = absurd (not-suc-le-zero l)
+place_held (suc k) i s zero l = ap (λ (n : ℕ). place_by (owner_at s n) (state_at s n)) (omega arith)
+place_held (suc k) i s (suc j) l =
+    place_held k (suc i) s j (le_of_suc-le-suc l) ∙ ap (λ (n : ℕ). place_by (owner_at s n) (state_at s n)) (omega arith)
 
-lowest-held : (k i : ℕ) (s : List ℕ) → i + k ≤ placeCount → lowestFrom k i s ≡ i + lowestFree (placesHeld k i s)
-lowest-held zero i s l = omega arith
-lowest-held (suc k) i s l =
-    go (eqb (get_or s (placeStart i) 0) nobody) (lowest-held k (suc i) s (omega (arith, l)))
-    ∙ ap (λ (n : ℕ). i + cond (eqb n nobody) 0 (suc (lowestFree (placesHeld k (suc i) s))))
-    (sym (placed-owner (ownerAt s i) (stateAt s i) ∙ owner-byte s i (omega (arith, l))))
+lowest_held : (k i : ℕ) (s : List ℕ) → i + k ≤ place_count → lowest_from k i s ≡ i + lowest_free (places_held k i s)
+lowest_held zero i s l = omega arith
+lowest_held (suc k) i s l =
+    go (eqb (get_or s (place_start i) 0) nobody) (lowest_held k (suc i) s (omega (arith, l)))
+    ∙ ap (λ (n : ℕ). i + cond (eqb n nobody) 0 (suc (lowest_free (places_held k (suc i) s))))
+    (sym (placed_owner (owner_at s i) (state_at s i) ∙ owner_byte s i (omega (arith, l))))
   where
-    go : (b : Bool) → lowestFrom k (suc i) s ≡ suc i + lowestFree (placesHeld k (suc i) s)
-        → cond b i (lowestFrom k (suc i) s) ≡ i + cond b 0 (suc (lowestFree (placesHeld k (suc i) s)))
+    go : (b : Bool) → lowest_from k (suc i) s ≡ suc i + lowest_free (places_held k (suc i) s)
+        → cond b i (lowest_from k (suc i) s) ≡ i + cond b 0 (suc (lowest_free (places_held k (suc i) s)))
     go true e = omega arith
     go false e = omega (arith, e)
 
 module _ (s : List ℕ) (t : ReaderTable) (h : HoldsTable s t) where
   -- the table is the one that is read from them
-  pub table-read : tableIn s ≡ t
-  unfolding placeAt
-  table-read =
+  pub table_read : table_in s ≡ t
+  unfolding place_at
+  table_read =
       ap (λ (ps : List TablePlace). record { places = ps })
-      (ext_get_or freePlace (placesHeld placeCount 0 s) t.places (places_count placeCount 0 s ∙ sym h.eight) at)
+      (ext_get_or free_place (places_held place_count 0 s) t.places (places_count place_count 0 s ∙ sym h.eight) at)
     where
-      at : (i : ℕ) → i < length (placesHeld placeCount 0 s) → get_or (placesHeld placeCount 0 s) i freePlace ≡ get_or t.places i freePlace
+      at : (i : ℕ) → i < length (places_held place_count 0 s) → get_or (places_held place_count 0 s) i free_place ≡ get_or t.places i free_place
       at i l =
-          let k : i < placeCount = omega (arith, l, places_count placeCount 0 s) in
-          place-held placeCount 0 s i k ∙ ap (λ (n : ℕ). placeBy (ownerAt s n) (stateAt s n)) (omega arith) ∙ (h.each i k).read
+          let k : i < place_count = omega (arith, l, places_count place_count 0 s) in
+          place_held place_count 0 s i k ∙ ap (λ (n : ℕ). place_by (owner_at s n) (state_at s n)) (omega arith) ∙ (h.each i k).read
 
-  lowest-same : lowestFrom placeCount 0 s ≡ lowestFree t.places
-  lowest-same = lowest-held placeCount 0 s (omega arith) ∙ ap (λ (x : ReaderTable). 0 + lowestFree x.places) table-read ∙ omega arith
+  lowest_same : lowest_from place_count 0 s ≡ lowest_free t.places
+  lowest_same = lowest_held place_count 0 s (omega arith) ∙ ap (λ (x : ReaderTable). 0 + lowest_free x.places) table_read ∙ omega arith
 
-  pub owner-same : (i : ℕ) → (placeAt t i).owner ≡ ownerAt s i
-  unfolding placeAt ownerAt
-  owner-same i = go (ltb i placeCount) refl
+  pub owner_same : (i : ℕ) → (place_at t i).owner ≡ owner_at s i
+  unfolding place_at owner_at
+  owner_same i = go (ltb i place_count) refl
     where
-      go : (b : Bool) → ltb i placeCount ≡ b → (get_or t.places i freePlace).owner ≡ cond b (get_or s (placeStart i) 0) nobody
+      go : (b : Bool) → ltb i place_count ≡ b → (get_or t.places i free_place).owner ≡ cond b (get_or s (place_start i) 0) nobody
       go true e =
-          let l = ltb-true i placeCount e in
-          ap (λ (p : TablePlace). p.owner) (sym (h.each i l).read) ∙ placed-owner (ownerAt s i) (stateAt s i) ∙ owner-byte s i l
-      go false e = ap (λ (p : TablePlace). p.owner) (get_or-eq_default t.places freePlace {n = i} (let k = ltb-false i placeCount e in omega (arith, k, h.eight)))
+          let l = ltb-true i place_count e in
+          ap (λ (p : TablePlace). p.owner) (sym (h.each i l).read) ∙ placed_owner (owner_at s i) (state_at s i) ∙ owner_byte s i l
+      go false e = ap (λ (p : TablePlace). p.owner) (get_or-eq_default t.places free_place {n = i} (let k = ltb-false i place_count e in omega (arith, k, h.eight)))
 
   -- a place that is put into the bytes and into the table
-  put-held : (b : List ℕ) (i : ℕ) (p : TablePlace) → i < placeCount → length b ≡ length s
-      → ((j : ℕ) → j < placeCount → (j ≡ i → ⊥) → (ownerAt b j ≡ ownerAt s j) × (stateAt b j ≡ stateAt s j))
-      → HoldsPlace (ownerAt b i) (stateAt b i) p → HoldsTable b (withPlace t i p)
-  put-held b i p l e others here =
-      record { room = omega (arith, e, h.room); eight = put-length t i p ∙ h.eight; each = λ j k. go j k (eqb j i) refl }
+  put_held : (b : List ℕ) (i : ℕ) (p : TablePlace) → i < place_count → length b ≡ length s
+      → ((j : ℕ) → j < place_count → (j ≡ i → ⊥) → (owner_at b j ≡ owner_at s j) × (state_at b j ≡ state_at s j))
+      → HoldsPlace (owner_at b i) (state_at b i) p → HoldsTable b (with_place t i p)
+  put_held b i p l e others here =
+      record { room = omega (arith, e, h.room); eight = put_length t i p ∙ h.eight; each = λ j k. go j k (eqb j i) refl }
     where
-      go : (j : ℕ) → j < placeCount → (x : Bool) → eqb j i ≡ x → HoldsPlace (ownerAt b j) (stateAt b j) (placeAt (withPlace t i p) j)
+      go : (j : ℕ) → j < place_count → (x : Bool) → eqb j i ≡ x → HoldsPlace (owner_at b j) (state_at b j) (place_at (with_place t i p) j)
       go j k true q =
-          subst (λ (n : ℕ). HoldsPlace (ownerAt b n) (stateAt b n) (placeAt (withPlace t i p) n)) (sym (eqb-true j i q))
+          subst (λ (n : ℕ). HoldsPlace (owner_at b n) (state_at b n) (place_at (with_place t i p) n)) (sym (eqb-true j i q))
           (moved refl refl (put_same t i p (omega (arith, l, h.eight))) here)
       go j k false q =
           let o = others j k (eqb-false j i q) in
           moved o.0 o.1 (put_other t j i p q) (h.each j k)
 
   -- a reader's state that is put into a place
-  state-put : (i who : ℕ) (state : List ℕ) (r : Reader) → i < placeCount → ownerAt s i ≡ who → eqb who nobody ≡ false → length state ≡ stateLength
-      → HoldsReader state r → HoldsTable (withState s i state) (withPlace t i (placeFor who r))
-  state-put i who state r l o e full k =
-      put-held (withState s i state) i (placeFor who r) l (with-room s i state h.room l full)
-      (λ j m d. (kept j m, with-others s i state h.room l full j d))
-      (moved (kept i l ∙ o) (with-here s i state h.room l full) refl (reader-held who state r e k))
+  state_put : (i who : ℕ) (state : List ℕ) (r : Reader) → i < place_count → owner_at s i ≡ who → eqb who nobody ≡ false → length state ≡ state_length
+      → HoldsReader state r → HoldsTable (with_state s i state) (with_place t i (place_for who r))
+  state_put i who state r l o e full k =
+      put_held (with_state s i state) i (place_for who r) l (with_room s i state h.room l full)
+      (λ j m d. (kept j m, with_others s i state h.room l full j d))
+      (moved (kept i l ∙ o) (with_here s i state h.room l full) refl (reader_held who state r e k))
     where
-      kept : (j : ℕ) → j < placeCount → ownerAt (withState s i state) j ≡ ownerAt s j
-      kept j m = owner-byte (withState s i state) j m ∙ with-owners s i state h.room l full j ∙ sym (owner-byte s j m)
+      kept : (j : ℕ) → j < place_count → owner_at (with_state s i state) j ≡ owner_at s j
+      kept j m = owner_byte (with_state s i state) j m ∙ with_owners s i state h.room l full j ∙ sym (owner_byte s j m)
 
   -- who asks for a place
-  pub denied : (who i : ℕ) → denialAt s who i ≡ denialBy who (ownerAt s i)
-  unfolding denialAt
-  denied who i = simp (le-leb tableLength (length s) h.room)
+  pub denied : (who i : ℕ) → denial_at s who i ≡ denial_by who (owner_at s i)
+  unfolding denial_at
+  denied who i = simp (le-leb table_length (length s) h.room)
 
   -- no technician, not theirs, theirs
 
-  stranger-denied : (who i : ℕ) → isTechnician who ≡ false → denialAt s who i ≡ noSuchTechnician
-  unfolding denialBy
-  stranger-denied who i a = denied who i ∙ simp (a)
+  stranger_denied : (who i : ℕ) → is_technician who ≡ false → denial_at s who i ≡ no_such_technician
+  unfolding denial_by
+  stranger_denied who i a = denied who i ∙ simp (a)
 
-  other-denied : (who i : ℕ) → isTechnician who ≡ true → eqb (ownerAt s i) who ≡ false → denialAt s who i ≡ placeNotHeld
-  unfolding denialBy
-  other-denied who i a b = denied who i ∙ simp (a, b)
+  other_denied : (who i : ℕ) → is_technician who ≡ true → eqb (owner_at s i) who ≡ false → denial_at s who i ≡ place_not_held
+  unfolding denial_by
+  other_denied who i a b = denied who i ∙ simp (a, b)
 
-  owner-granted : (who i : ℕ) → isTechnician who ≡ true → eqb (ownerAt s i) who ≡ true → denialAt s who i ≡ 0
-  unfolding denialBy
-  owner-granted who i a b = denied who i ∙ simp (a, b)
+  owner_granted : (who i : ℕ) → is_technician who ≡ true → eqb (owner_at s i) who ≡ true → denial_at s who i ≡ 0
+  unfolding denial_by
+  owner_granted who i a b = denied who i ∙ simp (a, b)
 
-  held_by : (who i : ℕ) (b : Bool) → eqb (ownerAt s i) who ≡ b → heldBy t who i ≡ cond b (some (placeAt t i).reader) none
-  unfolding heldBy
-  held_by who i b e =
-      ap (λ (x : Bool). cond x (some (placeAt t i).reader) none) (ap (λ (n : ℕ). eqb n who) (owner-same i) ∙ e)
+  held_by_lem : (who i : ℕ) (b : Bool) → eqb (owner_at s i) who ≡ b → held_by t who i ≡ cond b (some (place_at t i).reader) none
+  unfolding held_by
+  held_by_lem who i b e =
+      ap (λ (x : Bool). cond x (some (place_at t i).reader) none) (ap (λ (n : ℕ). eqb n who) (owner_same i) ∙ e)
 
-  module _ (who i : ℕ) (a : isTechnician who ≡ true) (b : eqb (ownerAt s i) who ≡ true) where
-    is-there : i < placeCount
-    is-there = let l = there t who i (placeAt t i).reader a (held_by who i true b) in omega (arith, l, h.eight)
+  module _ (who i : ℕ) (a : is_technician who ≡ true) (b : eqb (owner_at s i) who ≡ true) where
+    is_there_lem : i < place_count
+    is_there_lem = let l = there t who i (place_at t i).reader a (held_by_lem who i true b) in omega (arith, l, h.eight)
 
-    reader-there : HoldsReader (stateAt s i) (placeAt t i).reader
-    reader-there =
-        let taken : eqb (ownerAt s i) nobody ≡ false = ap (λ (n : ℕ). eqb n nobody) (eqb-true (ownerAt s i) who b) ∙ not-nobody who a in
-        let place = h.each i is-there in
-        subst (HoldsReader (stateAt s i))
-        (ap (λ (p : TablePlace). p.reader) (sym (taken-place (ownerAt s i) (stateAt s i) taken) ∙ place.read))
+    reader_there : HoldsReader (state_at s i) (place_at t i).reader
+    reader_there =
+        let taken : eqb (owner_at s i) nobody ≡ false = ap (λ (n : ℕ). eqb n nobody) (eqb-true (owner_at s i) who b) ∙ not_nobody who a in
+        let place = h.each i is_there_lem in
+        subst (HoldsReader (state_at s i))
+        (ap (λ (p : TablePlace). p.reader) (sym (taken_place (owner_at s i) (state_at s i) taken) ∙ place.read))
         (place.held taken)
 
 -- What the calls of a table are, case by case.
 
-feeds-same : {f g : FeedCalled} {c d : PlaceCalled} → f ≡ g → c ≡ d → FeedsAs g d → FeedsAs f c
-feeds-same {f} {g} {c} {d} e k h = subst (λ (x : FeedCalled). FeedsAs x c) (sym e) (subst (FeedsAs g) (sym k) h)
+feeds_same : {f g : FeedCalled} {c d : PlaceCalled} → f ≡ g → c ≡ d → FeedsAs g d → FeedsAs f c
+feeds_same {f} {g} {c} {d} e k h = subst (λ (x : FeedCalled). FeedsAs x c) (sym e) (subst (FeedsAs g) (sym k) h)
 
-answers-same : {f g : Called} {c d : PlaceCalled} → f ≡ g → c ≡ d → AnswersAs g d → AnswersAs f c
-answers-same {f} {g} {c} {d} e k h = subst (λ (x : Called). AnswersAs x c) (sym e) (subst (AnswersAs g) (sym k) h)
+answers_same : {f g : Called} {c d : PlaceCalled} → f ≡ g → c ≡ d → AnswersAs g d → AnswersAs f c
+answers_same {f} {g} {c} {d} e k h = subst (λ (x : Called). AnswersAs x c) (sym e) (subst (AnswersAs g) (sym k) h)
 
-stranger-called : (t : ReaderTable) (who i : ℕ) (c : RunCall) → isTechnician who ≡ false → callPlaceOf t who i c ≡ notCalled t noSuchTechnician (lentTo c)
-unfolding callPlaceOf
-stranger-called t who i c a = simp (a)
+stranger_called : (t : ReaderTable) (who i : ℕ) (c : RunCall) → is_technician who ≡ false → call_place_of t who i c ≡ not_called t no_such_technician (lent_to c)
+unfolding call_place_of
+stranger_called t who i c a = simp (a)
 
-technician-called : (t : ReaderTable) (who i : ℕ) (c : RunCall) (o : Option Reader) → isTechnician who ≡ true → heldBy t who i ≡ o
-    → callPlaceOf t who i c ≡ callHeld o t who i c
-unfolding callPlaceOf
-technician-called t who i c o a e = simp (a) (ap (λ (x : Option Reader). callHeld x t who i c) e)
+technician_called : (t : ReaderTable) (who i : ℕ) (c : RunCall) (o : Option Reader) → is_technician who ≡ true → held_by t who i ≡ o
+    → call_place_of t who i c ≡ call_held o t who i c
+unfolding call_place_of
+technician_called t who i c o a e = simp (a) (ap (λ (x : Option Reader). call_held x t who i c) e)
 
-stranger-closes : (t : ReaderTable) (who i : ℕ) → isTechnician who ≡ false → closePlaceOf t who i ≡ notCalled t noSuchTechnician []
-unfolding closePlaceOf
-stranger-closes t who i a = simp (a)
+stranger_closes : (t : ReaderTable) (who i : ℕ) → is_technician who ≡ false → close_place_of t who i ≡ not_called t no_such_technician []
+unfolding close_place_of
+stranger_closes t who i a = simp (a)
 
-technician-closes : (t : ReaderTable) (who i : ℕ) (o : Option Reader) → isTechnician who ≡ true → heldBy t who i ≡ o → closePlaceOf t who i ≡ closeHeld o t i
-unfolding closePlaceOf
-technician-closes t who i o a e = simp (a) (ap (λ (x : Option Reader). closeHeld x t i) e)
+technician_closes : (t : ReaderTable) (who i : ℕ) (o : Option Reader) → is_technician who ≡ true → held_by t who i ≡ o → close_place_of t who i ≡ close_held o t i
+unfolding close_place_of
+technician_closes t who i o a e = simp (a) (ap (λ (x : Option Reader). close_held x t i) e)
 
 module _ (s : List ℕ) (who i : ℕ) (w line : List ℕ) where
-  feed-denied : (n : ℕ) → denialAt s who i ≡ n → eqb n 0 ≡ false → feedTable s who i w line ≡ record { answer = n; taken = 0; state = s; line = line }
-  unfolding feedTable
-  feed-denied n e z = simp (e, z)
+  feed_denied : (n : ℕ) → denial_at s who i ≡ n → eqb n 0 ≡ false → feed_table s who i w line ≡ record { answer = n; taken = 0; state = s; line = line }
+  unfolding feed_table
+  feed_denied n e z = simp (e, z)
 
-  feed-granted : denialAt s who i ≡ 0
-      → feedTable s who i w line
+  feed_granted : denial_at s who i ≡ 0
+      → feed_table s who i w line
       ≡ record {
-        answer = (feedCall (stateAt s i) w line).answer;
-        taken = (feedCall (stateAt s i) w line).taken;
-        state = withState s i (feedCall (stateAt s i) w line).state;
-        line = (feedCall (stateAt s i) w line).line;
+        answer = (feed_call (state_at s i) w line).answer;
+        taken = (feed_call (state_at s i) w line).taken;
+        state = with_state s i (feed_call (state_at s i) w line).state;
+        line = (feed_call (state_at s i) w line).line;
       }
-  unfolding feedTable
-  feed-granted e = simp (e)
+  unfolding feed_table
+  feed_granted e = simp (e)
 
 module _ (s : List ℕ) (who i : ℕ) where
-  finish-denied : (n : ℕ) → denialAt s who i ≡ n → eqb n 0 ≡ false → finishTable s who i ≡ refusedTable n s
-  unfolding finishTable
-  finish-denied n e z = simp (e, z)
+  finish_denied : (n : ℕ) → denial_at s who i ≡ n → eqb n 0 ≡ false → finish_table s who i ≡ refused_table n s
+  unfolding finish_table
+  finish_denied n e z = simp (e, z)
 
-  finish-granted : denialAt s who i ≡ 0
-      → finishTable s who i ≡ record { answer = (finishCall (stateAt s i)).answer; state = withState s i (finishCall (stateAt s i)).state }
-  unfolding finishTable
-  finish-granted e = simp (e)
+  finish_granted : denial_at s who i ≡ 0
+      → finish_table s who i ≡ record { answer = (finish_call (state_at s i)).answer; state = with_state s i (finish_call (state_at s i)).state }
+  unfolding finish_table
+  finish_granted e = simp (e)
 
-  close-denied : (n : ℕ) → denialAt s who i ≡ n → eqb n 0 ≡ false → closeTable s who i ≡ refusedTable n s
-  unfolding closeTable
-  close-denied n e z = simp (e, z)
+  close_denied : (n : ℕ) → denial_at s who i ≡ n → eqb n 0 ≡ false → close_table s who i ≡ refused_table n s
+  unfolding close_table
+  close_denied n e z = simp (e, z)
 
-  close-granted : denialAt s who i ≡ 0 → closeTable s who i ≡ record { answer = 0; state = set s (placeStart i) nobody }
-  unfolding closeTable
-  close-granted e = simp (e)
+  close_granted : denial_at s who i ≡ 0 → close_table s who i ≡ record { answer = 0; state = set s (place_start i) nobody }
+  unfolding close_table
+  close_granted e = simp (e)
 
 -- The lengths of states that calls leave.
 
-fed-length : (s w line : List ℕ) (r : Reader) → HoldsReader s r → length (feedCall s w line).state ≡ length s
-fed-length s w line r h =
+fed_length : (s w line : List ℕ) (r : Reader) → HoldsReader s r → length (feed_call s w line).state ≡ length s
+fed_length s w line r h =
     let f = feeds s w line r h in
     ap (λ (c : FeedCalled). length c.state) f.0 ∙ go (eqb ran.taken 0) f.1.whole.full
   where
@@ -283,177 +283,177 @@ fed-length s w line r h =
 
     go : (b : Bool) → length ran.reader.body ≡ longest → length (cond b s (stored ran.reader s)) ≡ length s
     go true k = refl
-    go false k = stored-length ran.reader s k h.room
+    go false k = stored_length ran.reader s k h.room
 
-finished-length : (s : List ℕ) (r : Reader) → HoldsReader s r → length (finishCall s).state ≡ length s
-finished-length s r h =
-    ap (λ (c : Called). length c.state) (finish-call s r h.held h.read)
-    ∙ stored-length (finishOf r).reader s (finishes s r h).1.whole.full h.room
+finished_length : (s : List ℕ) (r : Reader) → HoldsReader s r → length (finish_call s).state ≡ length s
+finished_length s r h =
+    ap (λ (c : Called). length c.state) (finish_call_lem s r h.held h.read)
+    ∙ stored_length (finish_of r).reader s (finishes s r h).1.whole.full h.room
 
-profile-numbered : (p : Profile) → profileNumbered (profileNumber p) ≡ numbered.Profile p
-unfolding profileNumbered
-profile-numbered VV5404 = refl
-profile-numbered VV5300 = refl
+profile_numbered_lem : (p : Profile) → profile_numbered (profile_number p) ≡ numbered.Profile p
+unfolding profile_numbered
+profile_numbered_lem VV5404 = refl
+profile_numbered_lem VV5300 = refl
 
-opened-same : (n : ℕ) (p : Profile) (s : List ℕ) → profileNumbered n ≡ numbered.Profile p → openCall n s ≡ openCall (profileNumber p) s
-unfolding openCall
-opened-same n p s e = ap (λ (m : Numbered). openFor m s) (e ∙ sym (profile-numbered p))
+opened_same : (n : ℕ) (p : Profile) (s : List ℕ) → profile_numbered n ≡ numbered.Profile p → open_call n s ≡ open_call (profile_number p) s
+unfolding open_call
+opened_same n p s e = ap (λ (m : Numbered). open_for m s) (e ∙ sym (profile_numbered_lem p))
 
-opened-length : (p : Profile) (s : List ℕ) → stateLength ≤ length s → length (openCall (profileNumber p) s).state ≡ length s
-unfolding openCall
-opened-length p s h =
-    ap (λ (m : Numbered). length (openFor m s).state) (profile-numbered p)
-    ∙ simp (le-leb stateLength (length s) h) (stored-length (freshReader p) s (opens p s h).1.whole.full h)
+opened_length : (p : Profile) (s : List ℕ) → state_length ≤ length s → length (open_call (profile_number p) s).state ≡ length s
+unfolding open_call
+opened_length p s h =
+    ap (λ (m : Numbered). length (open_for m s).state) (profile_numbered_lem p)
+    ∙ simp (le-leb state_length (length s) h) (stored_length (fresh_reader p) s (opens p s h).1.whole.full h)
 
 -- The calls.
 
 module _ (s : List ℕ) (t : ReaderTable) (h : HoldsTable s t) where
-  feeds-as : (who i : ℕ) (w line : List ℕ) → FeedsAs (feedTable s who i w line) (callPlaceOf t who i (run w line))
-  feeds-as who i w line = go (isTechnician who) (eqb (ownerAt s i) who) refl refl
+  feeds_as : (who i : ℕ) (w line : List ℕ) → FeedsAs (feed_table s who i w line) (call_place_of t who i (run w line))
+  feeds_as who i w line = go (is_technician who) (eqb (owner_at s i) who) refl refl
     where
-      go : (a b : Bool) → isTechnician who ≡ a → eqb (ownerAt s i) who ≡ b → FeedsAs (feedTable s who i w line) (callPlaceOf t who i (run w line))
+      go : (a b : Bool) → is_technician who ≡ a → eqb (owner_at s i) who ≡ b → FeedsAs (feed_table s who i w line) (call_place_of t who i (run w line))
       go false b e f =
-          feeds-same (feed-denied s who i w line noSuchTechnician (stranger-denied s t h who i e) refl) (stranger-called t who i (run w line) e)
+          feeds_same (feed_denied s who i w line no_such_technician (stranger_denied s t h who i e) refl) (stranger_called t who i (run w line) e)
           (record { says = refl; count = refl; leaves = refl; keeps = h })
       go true false e f =
-          feeds-same (feed-denied s who i w line placeNotHeld (other-denied s t h who i e f) refl)
-          (technician-called t who i (run w line) none e (held_by s t h who i false f))
+          feeds_same (feed_denied s who i w line place_not_held (other_denied s t h who i e f) refl)
+          (technician_called t who i (run w line) none e (held_by_lem s t h who i false f))
           (record { says = refl; count = refl; leaves = refl; keeps = h })
       go true true e f =
-          let r : Reader = (placeAt t i).reader in
-          let x : HoldsReader (stateAt s i) r = reader-there s t h who i e f in
-          let l : i < placeCount = is-there s t h who i e f in
-          let fed = feeds (stateAt s i) w line r x in
-          feeds-same (feed-granted s who i w line (owner-granted s t h who i e f))
-          (technician-called t who i (run w line) (some r) e (held_by s t h who i true f))
+          let r : Reader = (place_at t i).reader in
+          let x : HoldsReader (state_at s i) r = reader_there s t h who i e f in
+          let l : i < place_count = is_there_lem s t h who i e f in
+          let fed = feeds (state_at s i) w line r x in
+          feeds_same (feed_granted s who i w line (owner_granted s t h who i e f))
+          (technician_called t who i (run w line) (some r) e (held_by_lem s t h who i true f))
           (record {
             says = ap (λ (c : FeedCalled). c.answer) fed.0;
             count = ap (λ (c : FeedCalled). c.taken) fed.0;
             leaves = ap (λ (c : FeedCalled). c.line) fed.0;
-            keeps = state-put s t h i who (feedCall (stateAt s i) w line).state (run_of r w (length line)).reader l (eqb-true (ownerAt s i) who f) (not-nobody who e)
-                (fed-length (stateAt s i) w line r x ∙ state-length s i h.room l) fed.1;
+            keeps = state_put s t h i who (feed_call (state_at s i) w line).state (run_of r w (length line)).reader l (eqb-true (owner_at s i) who f) (not_nobody who e)
+                (fed_length (state_at s i) w line r x ∙ state_length_lem s i h.room l) fed.1;
           })
 
-  finishes-as : (who i : ℕ) → AnswersAs (finishTable s who i) (callPlaceOf t who i (one done))
-  finishes-as who i = go (isTechnician who) (eqb (ownerAt s i) who) refl refl
+  finishes_as : (who i : ℕ) → AnswersAs (finish_table s who i) (call_place_of t who i (one done))
+  finishes_as who i = go (is_technician who) (eqb (owner_at s i) who) refl refl
     where
-      go : (a b : Bool) → isTechnician who ≡ a → eqb (ownerAt s i) who ≡ b → AnswersAs (finishTable s who i) (callPlaceOf t who i (one done))
+      go : (a b : Bool) → is_technician who ≡ a → eqb (owner_at s i) who ≡ b → AnswersAs (finish_table s who i) (call_place_of t who i (one done))
       go false b e f =
-          answers-same (finish-denied s who i noSuchTechnician (stranger-denied s t h who i e) refl) (stranger-called t who i (one done) e)
+          answers_same (finish_denied s who i no_such_technician (stranger_denied s t h who i e) refl) (stranger_called t who i (one done) e)
           (record { says = refl; keeps = h })
       go true false e f =
-          answers-same (finish-denied s who i placeNotHeld (other-denied s t h who i e f) refl)
-          (technician-called t who i (one done) none e (held_by s t h who i false f))
+          answers_same (finish_denied s who i place_not_held (other_denied s t h who i e f) refl)
+          (technician_called t who i (one done) none e (held_by_lem s t h who i false f))
           (record { says = refl; keeps = h })
       go true true e f =
-          let r : Reader = (placeAt t i).reader in
-          let x : HoldsReader (stateAt s i) r = reader-there s t h who i e f in
-          let l : i < placeCount = is-there s t h who i e f in
-          answers-same (finish-granted s who i (owner-granted s t h who i e f))
-          (technician-called t who i (one done) (some r) e (held_by s t h who i true f))
+          let r : Reader = (place_at t i).reader in
+          let x : HoldsReader (state_at s i) r = reader_there s t h who i e f in
+          let l : i < place_count = is_there_lem s t h who i e f in
+          answers_same (finish_granted s who i (owner_granted s t h who i e f))
+          (technician_called t who i (one done) (some r) e (held_by_lem s t h who i true f))
           (record {
-            says = (finishes (stateAt s i) r x).0;
-            keeps = state-put s t h i who (finishCall (stateAt s i)).state (finishOf r).reader l (eqb-true (ownerAt s i) who f) (not-nobody who e)
-                (finished-length (stateAt s i) r x ∙ state-length s i h.room l) (finishes (stateAt s i) r x).1;
+            says = (finishes (state_at s i) r x).0;
+            keeps = state_put s t h i who (finish_call (state_at s i)).state (finish_of r).reader l (eqb-true (owner_at s i) who f) (not_nobody who e)
+                (finished_length (state_at s i) r x ∙ state_length_lem s i h.room l) (finishes (state_at s i) r x).1;
           })
 
-  place-freed : (i : ℕ) → i < placeCount → HoldsTable (set s (placeStart i) nobody) (withPlace t i freePlace)
-  place-freed i l =
-      put-held s t h freed-bytes i freePlace l (length-set s (placeStart i) nobody)
-      (λ j m d. (owner-byte freed-bytes j m ∙ owned-others s i nobody j d ∙ sym (owner-byte s j m), owned-states s i nobody j))
-      (moved (owner-byte freed-bytes i l ∙ get_or-set_same s (placeStart i) nobody 0 (let k = within i l in omega (arith, k, h.room))) refl refl (free-held (stateAt freed-bytes i)))
+  place_freed : (i : ℕ) → i < place_count → HoldsTable (set s (place_start i) nobody) (with_place t i free_place)
+  place_freed i l =
+      put_held s t h freed_bytes i free_place l (length-set s (place_start i) nobody)
+      (λ j m d. (owner_byte freed_bytes j m ∙ owned_others s i nobody j d ∙ sym (owner_byte s j m), owned_states s i nobody j))
+      (moved (owner_byte freed_bytes i l ∙ get_or-set_same s (place_start i) nobody 0 (let k = within i l in omega (arith, k, h.room))) refl refl (free_held (state_at freed_bytes i)))
     where
-      freed-bytes : List ℕ
-      freed-bytes = set s (placeStart i) nobody
+      freed_bytes : List ℕ
+      freed_bytes = set s (place_start i) nobody
 
-  closes_as : (who i : ℕ) → AnswersAs (closeTable s who i) (closePlaceOf t who i)
-  closes_as who i = go (isTechnician who) (eqb (ownerAt s i) who) refl refl
+  closes_as : (who i : ℕ) → AnswersAs (close_table s who i) (close_place_of t who i)
+  closes_as who i = go (is_technician who) (eqb (owner_at s i) who) refl refl
     where
-      go : (a b : Bool) → isTechnician who ≡ a → eqb (ownerAt s i) who ≡ b → AnswersAs (closeTable s who i) (closePlaceOf t who i)
+      go : (a b : Bool) → is_technician who ≡ a → eqb (owner_at s i) who ≡ b → AnswersAs (close_table s who i) (close_place_of t who i)
       go false b e f =
-          answers-same (close-denied s who i noSuchTechnician (stranger-denied s t h who i e) refl) (stranger-closes t who i e)
+          answers_same (close_denied s who i no_such_technician (stranger_denied s t h who i e) refl) (stranger_closes t who i e)
           (record { says = refl; keeps = h })
       go true false e f =
-          answers-same (close-denied s who i placeNotHeld (other-denied s t h who i e f) refl)
-          (technician-closes t who i none e (held_by s t h who i false f))
+          answers_same (close_denied s who i place_not_held (other_denied s t h who i e f) refl)
+          (technician_closes t who i none e (held_by_lem s t h who i false f))
           (record { says = refl; keeps = h })
       go true true e f =
-          answers-same (close-granted s who i (owner-granted s t h who i e f))
-          (technician-closes t who i (some (placeAt t i).reader) e (held_by s t h who i true f))
-          (record { says = refl; keeps = place-freed i (is-there s t h who i e f) })
+          answers_same (close_granted s who i (owner_granted s t h who i e f))
+          (technician_closes t who i (some (place_at t i).reader) e (held_by_lem s t h who i true f))
+          (record { says = refl; keeps = place_freed i (is_there_lem s t h who i e f) })
 
   -- a fresh reader that is put into a place
-  fresh-put : (i who n : ℕ) (p : Profile) → isTechnician who ≡ true → profileNumbered n ≡ numbered.Profile p → i < placeCount
-      → HoldsTable (openedAt s who n i).state (withPlace t i (placeFor who (freshReader p)))
-  unfolding openedAt
-  fresh-put i who n p a e l =
-      put-held s t h bytes i (placeFor who (freshReader p)) l (length-set with-fresh (placeStart i) who ∙ same-room)
+  fresh_put : (i who n : ℕ) (p : Profile) → is_technician who ≡ true → profile_numbered n ≡ numbered.Profile p → i < place_count
+      → HoldsTable (opened_at s who n i).state (with_place t i (place_for who (fresh_reader p)))
+  unfolding opened_at
+  fresh_put i who n p a e l =
+      put_held s t h bytes i (place_for who (fresh_reader p)) l (length-set with_fresh (place_start i) who ∙ same_room)
       (λ j m d. (
-        owner-byte bytes j m ∙ owned-others with-fresh i who j d ∙ with-owners s i state h.room l full j ∙ sym (owner-byte s j m),
-        owned-states with-fresh i who j ∙ with-others s i state h.room l full j d,
+        owner_byte bytes j m ∙ owned_others with_fresh i who j d ∙ with_owners s i state h.room l full j ∙ sym (owner_byte s j m),
+        owned_states with_fresh i who j ∙ with_others s i state h.room l full j d,
       ))
-      (moved (owner-byte bytes i l ∙ get_or-set_same with-fresh (placeStart i) who 0 (let k = within i l in omega (arith, k, h.room, same-room)))
-      (owned-states with-fresh i who i ∙ with-here s i state h.room l full) refl
-      (reader-held who state (freshReader p) (not-nobody who a) held))
+      (moved (owner_byte bytes i l ∙ get_or-set_same with_fresh (place_start i) who 0 (let k = within i l in omega (arith, k, h.room, same_room)))
+      (owned_states with_fresh i who i ∙ with_here s i state h.room l full) refl
+      (reader_held who state (fresh_reader p) (not_nobody who a) held))
     where
       state : List ℕ
-      state = (openCall n (stateAt s i)).state
+      state = (open_call n (state_at s i)).state
 
-      with-fresh : List ℕ
-      with-fresh = withState s i state
+      with_fresh : List ℕ
+      with_fresh = with_state s i state
 
       bytes : List ℕ
-      bytes = set with-fresh (placeStart i) who
+      bytes = set with_fresh (place_start i) who
 
-      long : stateLength ≤ length (stateAt s i)
-      long = omega (arith, state-length s i h.room l)
+      long : state_length ≤ length (state_at s i)
+      long = omega (arith, state_length_lem s i h.room l)
 
-      full : length state ≡ stateLength
-      full = ap (λ (c : Called). length c.state) (opened-same n p (stateAt s i) e) ∙ opened-length p (stateAt s i) long ∙ state-length s i h.room l
+      full : length state ≡ state_length
+      full = ap (λ (c : Called). length c.state) (opened_same n p (state_at s i) e) ∙ opened_length p (state_at s i) long ∙ state_length_lem s i h.room l
 
-      held : HoldsReader state (freshReader p)
-      held = subst (λ (c : Called). HoldsReader c.state (freshReader p)) (sym (opened-same n p (stateAt s i) e)) (opens p (stateAt s i) long).1
+      held : HoldsReader state (fresh_reader p)
+      held = subst (λ (c : Called). HoldsReader c.state (fresh_reader p)) (sym (opened_same n p (state_at s i) e)) (opens p (state_at s i) long).1
 
-      same-room : length with-fresh ≡ length s
-      same-room = with-room s i state h.room l full
+      same_room : length with_fresh ≡ length s
+      same_room = with_room s i state h.room l full
 
-  opens-at : (i who n : ℕ) (p : Profile) → isTechnician who ≡ true → profileNumbered n ≡ numbered.Profile p
-      → OpensAs (openLowest s who n i) (cond (ltb i placeCount) (opens_at t who p i) (notOpened t noPlaceFree))
-  unfolding openLowest openedAt
-  opens-at i who n p a e = go (ltb i placeCount) refl
+  opens_at_lem : (i who n : ℕ) (p : Profile) → is_technician who ≡ true → profile_numbered n ≡ numbered.Profile p
+      → OpensAs (open_lowest s who n i) (cond (ltb i place_count) (opens_at t who p i) (not_opened t no_place_free))
+  unfolding open_lowest opened_at
+  opens_at_lem i who n p a e = go (ltb i place_count) refl
     where
-      go : (b : Bool) → ltb i placeCount ≡ b
-          → OpensAs (cond b (openedAt s who n i) (refusedTable noPlaceFree s)) (cond b (opens_at t who p i) (notOpened t noPlaceFree))
-      go true f = record { says = refl; keeps = fresh-put i who n p a e (ltb-true i placeCount f) }
+      go : (b : Bool) → ltb i place_count ≡ b
+          → OpensAs (cond b (opened_at s who n i) (refused_table no_place_free s)) (cond b (opens_at t who p i) (not_opened t no_place_free))
+      go true f = record { says = refl; keeps = fresh_put i who n p a e (ltb-true i place_count f) }
       go false f = record { says = refl; keeps = h }
 
-  opens-lowest-as : (who n : ℕ) (p : Profile) → isTechnician who ≡ true → profileNumbered n ≡ numbered.Profile p
-      → OpensAs (openLowest s who n (lowestFrom placeCount 0 s)) (openPlace t who p)
-  unfolding openPlace
-  opens-lowest-as who n p a e =
+  opens_lowest_as : (who n : ℕ) (p : Profile) → is_technician who ≡ true → profile_numbered n ≡ numbered.Profile p
+      → OpensAs (open_lowest s who n (lowest_from place_count 0 s)) (open_place t who p)
+  unfolding open_place
+  opens_lowest_as who n p a e =
       subst
-      (λ (k : ℕ). OpensAs (openLowest s who n (lowestFrom placeCount 0 s)) (cond (ltb (lowestFree t.places) k) (opens_at t who p (lowestFree t.places)) (notOpened t noPlaceFree)))
+      (λ (k : ℕ). OpensAs (open_lowest s who n (lowest_from place_count 0 s)) (cond (ltb (lowest_free t.places) k) (opens_at t who p (lowest_free t.places)) (not_opened t no_place_free)))
       (sym h.eight)
       (subst
-      (λ (k : ℕ). OpensAs (openLowest s who n k) (cond (ltb (lowestFree t.places) placeCount) (opens_at t who p (lowestFree t.places)) (notOpened t noPlaceFree)))
-      (sym (lowest-same s t h))
-      (opens-at (lowestFree t.places) who n p a e))
+      (λ (k : ℕ). OpensAs (open_lowest s who n k) (cond (ltb (lowest_free t.places) place_count) (opens_at t who p (lowest_free t.places)) (not_opened t no_place_free)))
+      (sym (lowest_same s t h))
+      (opens_at_lem (lowest_free t.places) who n p a e))
 
-  opens_as : (who n : ℕ) → OpensAs (openTable s who n) (openPlaceOf t who n)
-  unfolding openTable openPlaceOf
-  opens_as who n = simp (le-leb tableLength (length s) h.room) (go (isTechnician who) (profileNumbered n) refl refl)
+  opens_as : (who n : ℕ) → OpensAs (open_table s who n) (open_place_of t who n)
+  unfolding open_table open_place_of
+  opens_as who n = simp (le-leb table_length (length s) h.room) (go (is_technician who) (profile_numbered n) refl refl)
     where
-      go : (a : Bool) (m : Numbered) → isTechnician who ≡ a → profileNumbered n ≡ m
-          → OpensAs (cond a (openProfile s who n m) (refusedTable noSuchTechnician s)) (cond a (openNumbered t who m) (notOpened t noSuchTechnician))
+      go : (a : Bool) (m : Numbered) → is_technician who ≡ a → profile_numbered n ≡ m
+          → OpensAs (cond a (open_profile s who n m) (refused_table no_such_technician s)) (cond a (open_numbered t who m) (not_opened t no_such_technician))
       go false m e f = record { says = refl; keeps = h }
       go true numbered.NoProfile e f = record { says = refl; keeps = h }
-      go true (numbered.Profile p) e f = opens-lowest-as who n p e f
+      go true (numbered.Profile p) e f = opens_lowest_as who n p e f
 
 -- a new table's bytes hold an empty table
-pub new-empty : (s : List ℕ) → tableLength ≤ length s → ((newTable s).answer ≡ 0) × HoldsTable (newTable s).state emptyTable
-unfolding newTable
-new-empty s h = simp (le-leb tableLength (length s) h) (refl, new-held s h)
+pub new_empty : (s : List ℕ) → table_length ≤ length s → ((new_table s).answer ≡ 0) × HoldsTable (new_table s).state empty_table
+unfolding new_table
+new_empty s h = simp (le-leb table_length (length s) h) (refl, new_held s h)
 
 -- and from bytes that hold a table, every call is that of the table
-pub bytes-serve : (s : List ℕ) (t : ReaderTable) → HoldsTable s t → ServesAs s t
-bytes-serve s t h = record { opening = opens_as s t h; feeding = feeds-as s t h; finishing = finishes-as s t h; closing = closes_as s t h }
+pub bytes_serve_lem : (s : List ℕ) (t : ReaderTable) → HoldsTable s t → ServesAs s t
+bytes_serve_lem s t h = record { opening = opens_as s t h; feeding = feeds_as s t h; finishing = finishes_as s t h; closing = closes_as s t h }

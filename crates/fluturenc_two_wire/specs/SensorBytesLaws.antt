@@ -12,124 +12,124 @@ use Rattle.std.proofs.Math.Seq.{take_at, get_or_at, get_or-append-add}
 use Rattle.bits.specs.Every.{and_left, and_both}
 use Rattle.lent_buffer.specs.Filled.{used}
 use Rattle.exported_call.specs.LentCall.{bit_of, Called}
-use Rattle.exported_call.specs.LentCallLaws.{bit-back, bit-tag}
+use Rattle.exported_call.specs.LentCallLaws.{bit_back, bit_tag}
 use Rattle.two_wire.specs.declared.Sensor.{Sensor}
-use Rattle.message_data.specs.Registers.{registerCount, lastIndex}
-use Rattle.two_wire.specs.Messages.{fresh, Acceptance, accepted, refused, sensorAfter, messageOn, messagesOn}
-use Rattle.two_wire_write.specs.Writing.{writeOf, inThrees}
-use Rattle.two_wire.specs.TwoWireLaws.{Kept, message-keeps}
-use Rattle.two_wire_write.specs.ReadBackLaws.{SetAs, written-read-back}
-use Rattle.fluturenc_two_wire.specs.SensorBytes.{indexPlace, flagPlace, sensorLength, withSensor, sensorIn, holdsSensor, resetCall, messageCalled, messageCall}
+use Rattle.message_data.specs.Registers.{register_count, last_index}
+use Rattle.two_wire.specs.Messages.{fresh, Acceptance, accepted, refused, sensor_after, message_on, messages_on}
+use Rattle.two_wire_write.specs.Writing.{write_of, in_threes}
+use Rattle.two_wire.specs.TwoWireLaws.{Kept, message_keeps}
+use Rattle.two_wire_write.specs.ReadBackLaws.{SetAs, written_read_back}
+use Rattle.fluturenc_two_wire.specs.SensorBytes.{index_place, flag_place, sensor_length, with_sensor, sensor_in, holds_sensor, reset_call, message_called, message_call}
 
-pub holds-length : (b : List ℕ) → holdsSensor b ≡ true → sensorLength ≤ length b
-unfolding holdsSensor
-holds-length b h = leb-true sensorLength (length b) (and_left _ _ h)
+pub holds_length : (b : List ℕ) → holds_sensor b ≡ true → sensor_length ≤ length b
+unfolding holds_sensor
+holds_length b h = leb-true sensor_length (length b) (and_left _ _ h)
 
 -- A sensor that calls reach: 128 registers, and the index of one.
 
 -- a sensor as calls leave one
 pub record WholeSensor (s : Sensor) : Type 0 where
-  pub full : length s.registers ≡ registerCount
-  pub index : s.index ≤ lastIndex
+  pub full : length s.registers ≡ register_count
+  pub index : s.index ≤ last_index
 
-fresh-whole : WholeSensor fresh
-fresh-whole = record { full = length-replicate {A = ℕ} registerCount 0; index = lit≤ tt }
+fresh_whole : WholeSensor fresh
+fresh_whole = record { full = length-replicate {A = ℕ} register_count 0; index = lit≤ tt }
 
 -- A stored sensor is read back.
 
 module _ (s : Sensor) (b : List ℕ) (whole : WholeSensor s) where
-  registers-back : take registerCount (withSensor s b) ≡ s.registers
-  unfolding withSensor
-  registers-back = take_at s.registers _ registerCount whole.full
+  registers_back : take register_count (with_sensor s b) ≡ s.registers
+  unfolding with_sensor
+  registers_back = take_at s.registers _ register_count whole.full
 
-  index_back : get_or (withSensor s b) indexPlace 0 ≡ s.index
-  unfolding withSensor
-  index_back = get_or_at s.registers s.index _ 0 registerCount whole.full
+  index_back : get_or (with_sensor s b) index_place 0 ≡ s.index
+  unfolding with_sensor
+  index_back = get_or_at s.registers s.index _ 0 register_count whole.full
 
-  flag-back : get_or (withSensor s b) flagPlace 0 ≡ bit_of s.increment
-  unfolding withSensor
-  flag-back =
-      let bytes : List ℕ = s.index ∷ bit_of s.increment ∷ drop sensorLength b in
-      let e : flagPlace ≡ length s.registers + 1 = omega (arith, whole.full) in
+  flag_back : get_or (with_sensor s b) flag_place 0 ≡ bit_of s.increment
+  unfolding with_sensor
+  flag_back =
+      let bytes : List ℕ = s.index ∷ bit_of s.increment ∷ drop sensor_length b in
+      let e : flag_place ≡ length s.registers + 1 = omega (arith, whole.full) in
       ap (λ (k : ℕ). get_or (s.registers ++ bytes) k 0) e ∙ get_or-append-add s.registers bytes 1 0
 
-  pub sensor-back : sensorIn (withSensor s b) ≡ s
-  unfolding sensorIn
-  sensor-back = simp (registers-back, index_back, flag-back, bit-back s.increment)
+  pub sensor_back : sensor_in (with_sensor s b) ≡ s
+  unfolding sensor_in
+  sensor_back = simp (registers_back, index_back, flag_back, bit_back s.increment)
 
-  module _ (room : sensorLength ≤ length b) where
-    pub with-length : length (withSensor s b) ≡ length b
-    unfolding withSensor
-    with-length = simp (length-append, whole.full) (omega (arith, length-drop sensorLength b))
+  module _ (room : sensor_length ≤ length b) where
+    pub with_length : length (with_sensor s b) ≡ length b
+    unfolding with_sensor
+    with_length = simp (length-append, whole.full) (omega (arith, length-drop sensor_length b))
 
-    pub sensor-held : holdsSensor (withSensor s b) ≡ true
-    unfolding holdsSensor
-    sensor-held =
-        and_both (leb sensorLength (length (withSensor s b))) _ (le-leb sensorLength (length (withSensor s b)) (omega (arith, with-length)))
-        (and_both (leb (get_or (withSensor s b) indexPlace 0) lastIndex) _ (simp (index_back, le-leb _ _ whole.index)) (simp (flag-back, bit-tag s.increment)))
+    pub sensor_held : holds_sensor (with_sensor s b) ≡ true
+    unfolding holds_sensor
+    sensor_held =
+        and_both (leb sensor_length (length (with_sensor s b))) _ (le-leb sensor_length (length (with_sensor s b)) (omega (arith, with_length)))
+        (and_both (leb (get_or (with_sensor s b) index_place 0) last_index) _ (simp (index_back, le-leb _ _ whole.index)) (simp (flag_back, bit_tag s.increment)))
 
 -- Calls on bytes that hold a sensor.
 
 -- bytes that hold a sensor
 pub record HoldsSensor (b : List ℕ) (s : Sensor) : Type 0 where
   pub whole : WholeSensor s
-  pub room : sensorLength ≤ length b
-  pub held : holdsSensor b ≡ true
-  pub read : sensorIn b ≡ s
+  pub room : sensor_length ≤ length b
+  pub held : holds_sensor b ≡ true
+  pub read : sensor_in b ≡ s
 
-stored-held : (s : Sensor) (b : List ℕ) → WholeSensor s → sensorLength ≤ length b → HoldsSensor (withSensor s b) s
-stored-held s b w h =
-    record { whole = w; room = omega (arith, with-length s b w h); held = sensor-held s b w h; read = sensor-back s b w }
+stored_held : (s : Sensor) (b : List ℕ) → WholeSensor s → sensor_length ≤ length b → HoldsSensor (with_sensor s b) s
+stored_held s b w h =
+    record { whole = w; room = omega (arith, with_length s b w h); held = sensor_held s b w h; read = sensor_back s b w }
 
 -- a reset leaves a fresh sensor
-pub resets : (b : List ℕ) → sensorLength ≤ length b → ((resetCall b).answer ≡ 0) × HoldsSensor (resetCall b).state fresh
-unfolding resetCall
-resets b h = simp (le-leb sensorLength (length b) h) (refl, stored-held fresh b fresh-whole h)
+pub resets : (b : List ℕ) → sensor_length ≤ length b → ((reset_call b).answer ≡ 0) × HoldsSensor (reset_call b).state fresh
+unfolding reset_call
+resets b h = simp (le-leb sensor_length (length b) h) (refl, stored_held fresh b fresh_whole h)
 
-called-held : (o : Acceptance) (b : List ℕ) (s : Sensor) → Kept registerCount o → HoldsSensor b s
-    → HoldsSensor (messageCalled o b).state (sensorAfter o s)
-called-held (accepted t) b s k h = stored-held t b (record { full = k.1; index = k.0 }) h.room
-called-held (refused n) b s k h = h
+called_held : (o : Acceptance) (b : List ℕ) (s : Sensor) → Kept register_count o → HoldsSensor b s
+    → HoldsSensor (message_called o b).state (sensor_after o s)
+called_held (accepted t) b s k h = stored_held t b (record { full = k.1; index = k.0 }) h.room
+called_held (refused n) b s k h = h
 
-pub message-call : (b message : List ℕ) (s : Sensor) → holdsSensor b ≡ true → sensorIn b ≡ s
-    → messageCall b message ≡ messageCalled (messageOn s message) b
-unfolding messageCall
-message-call b message s held read = simp held (ap (λ (x : Sensor). messageCalled (messageOn x message) b) read)
+pub message_call_lem : (b message : List ℕ) (s : Sensor) → holds_sensor b ≡ true → sensor_in b ≡ s
+    → message_call b message ≡ message_called (message_on s message) b
+unfolding message_call
+message_call_lem b message s held read = simp held (ap (λ (x : Sensor). message_called (message_on x message) b) read)
 
 -- a message is answered, and leaves the bytes, as the sensor that they hold has it
-pub message-taken : (b message : List ℕ) (s : Sensor) → HoldsSensor b s
-    → (messageCall b message ≡ messageCalled (messageOn s message) b)
-    × HoldsSensor (messageCall b message).state (sensorAfter (messageOn s message) s)
-message-taken b message s h =
-    let e = message-call b message s h.held h.read in
-    let k = subst (λ (n : ℕ). Kept n (messageOn s message)) h.whole.full (message-keeps s message) in
-    (e, subst (λ (c : Called). HoldsSensor c.state (sensorAfter (messageOn s message) s)) (sym e) (called-held (messageOn s message) b s k h))
+pub message_taken : (b message : List ℕ) (s : Sensor) → HoldsSensor b s
+    → (message_call b message ≡ message_called (message_on s message) b)
+    × HoldsSensor (message_call b message).state (sensor_after (message_on s message) s)
+message_taken b message s h =
+    let e = message_call_lem b message s h.held h.read in
+    let k = subst (λ (n : ℕ). Kept n (message_on s message)) h.whole.full (message_keeps s message) in
+    (e, subst (λ (c : Called). HoldsSensor c.state (sensor_after (message_on s message) s)) (sym e) (called_held (message_on s message) b s k h))
 
 -- Messages one after another, a call each.
 
 -- the bytes after them
-abbrev pub callsOn : List (List ℕ) → List ℕ → List ℕ
-callsOn [] b = b
-callsOn (m ∷ ms) b = callsOn ms (messageCall b m).state
+abbrev pub calls_on : List (List ℕ) → List ℕ → List ℕ
+calls_on [] b = b
+calls_on (m ∷ ms) b = calls_on ms (message_call b m).state
 
-refused-stays : (ms : List (List ℕ)) (n : ℕ) → messagesOn ms (refused n) ≡ refused n
-refused-stays [] n = refl
-refused-stays (m ∷ ms) n = refused-stays ms n
+refused_stays : (ms : List (List ℕ)) (n : ℕ) → messages_on ms (refused n) ≡ refused n
+refused_stays [] n = refl
+refused_stays (m ∷ ms) n = refused_stays ms n
 
 -- where all are accepted, the bytes hold the sensor after them
-calls-held : (ms : List (List ℕ)) (b : List ℕ) (s t : Sensor) → HoldsSensor b s → messagesOn ms (accepted s) ≡ accepted t → HoldsSensor (callsOn ms b) t
-calls-held [] b s t h e =
+calls_held : (ms : List (List ℕ)) (b : List ℕ) (s t : Sensor) → HoldsSensor b s → messages_on ms (accepted s) ≡ accepted t → HoldsSensor (calls_on ms b) t
+calls_held [] b s t h e =
     let same : s ≡ t = cc in
     subst (HoldsSensor b) same h
-calls-held (m ∷ ms) b s t h e =
-    go (messageOn s m) (message-taken b m s h).1 (λ x. calls-held ms (messageCall b m).state x t) e
+calls_held (m ∷ ms) b s t h e =
+    go (message_on s m) (message_taken b m s h).1 (λ x. calls_held ms (message_call b m).state x t) e
   where
-    go : (o : Acceptance) → HoldsSensor (messageCall b m).state (sensorAfter o s)
-        → ((x : Sensor) → HoldsSensor (messageCall b m).state x → messagesOn ms (accepted x) ≡ accepted t → HoldsSensor (callsOn ms (messageCall b m).state) t)
-        → messagesOn ms o ≡ accepted t → HoldsSensor (callsOn ms (messageCall b m).state) t
+    go : (o : Acceptance) → HoldsSensor (message_call b m).state (sensor_after o s)
+        → ((x : Sensor) → HoldsSensor (message_call b m).state x → messages_on ms (accepted x) ≡ accepted t → HoldsSensor (calls_on ms (message_call b m).state) t)
+        → messages_on ms o ≡ accepted t → HoldsSensor (calls_on ms (message_call b m).state) t
     go (accepted x) g rest f = rest x g f
     go (refused n) g rest f =
-        let clash : refused n ≡ accepted t = sym (refused-stays ms n) ∙ f in
+        let clash : refused n ≡ accepted t = sym (refused_stays ms n) ∙ f in
         let none : true ≡ false = cc in
         absurd (true≢false none)
 
@@ -140,11 +140,11 @@ pub record SetIn (pairs : List ℕ) (before : Sensor) (b : List ℕ) : Type 0 wh
   pub set : SetAs pairs before (accepted after)
 
 -- what is written from pairs, taken a call each
-pub pairs_set : (b : List ℕ) (s : Sensor) (pairs bytes : List ℕ) (room n : ℕ) → HoldsSensor b s → writeOf pairs room ≡ used n bytes
-    → SetIn pairs s (callsOn (inThrees bytes) b)
+pub pairs_set : (b : List ℕ) (s : Sensor) (pairs bytes : List ℕ) (room n : ℕ) → HoldsSensor b s → write_of pairs room ≡ used n bytes
+    → SetIn pairs s (calls_on (in_threes bytes) b)
 pairs_set b s pairs bytes room n h w =
-    go (messagesOn (inThrees bytes) (accepted s)) (written-read-back s pairs bytes room n h.whole.index h.whole.full w) refl
+    go (messages_on (in_threes bytes) (accepted s)) (written_read_back s pairs bytes room n h.whole.index h.whole.full w) refl
   where
-    go : (o : Acceptance) → SetAs pairs s o → messagesOn (inThrees bytes) (accepted s) ≡ o → SetIn pairs s (callsOn (inThrees bytes) b)
-    go (accepted t) k e = record { after = t; held = calls-held (inThrees bytes) b s t h e; set = k }
+    go : (o : Acceptance) → SetAs pairs s o → messages_on (in_threes bytes) (accepted s) ≡ o → SetIn pairs s (calls_on (in_threes bytes) b)
+    go (accepted t) k e = record { after = t; held = calls_held (in_threes bytes) b s t h e; set = k }
     go (refused m) k e = absurd k

@@ -12,8 +12,8 @@
 // A sensor's state is moved and copied as bytes: 128 registers, the current index, and 1 where the increment flag is set, else 0.
 ghost use Rattle.std.specs.Prelude.{◌≡◌, ◌≤◌, length};
 ghost use Rattle.exported_call.specs.LentCall.{StateGives, WriteGives};
-ghost use Rattle.two_wire_write.specs.Writing.{writeOf};
-ghost use Rattle.fluturenc_two_wire.specs.SensorBytes.{sensorLength, withSensor, sensorIn, holdsSensor, resetCall, messageCall};
+ghost use Rattle.two_wire_write.specs.Writing.{write_of};
+ghost use Rattle.fluturenc_two_wire.specs.SensorBytes.{sensor_length, with_sensor, sensor_in, holds_sensor, reset_call, message_call};
 
 use two_wire::{MessageAnswer, Sensor};
 
@@ -27,7 +27,7 @@ const LENGTH: usize = 130;
 // The bytes of a sensor's state.
 #[unsafe(no_mangle)]
 pub extern "C" fn fluturenc_sensor_length() -> usize
-    ensures { result ≡ sensorLength }
+    ensures { result ≡ sensor_length }
 {
     LENGTH
 }
@@ -35,7 +35,7 @@ pub extern "C" fn fluturenc_sensor_length() -> usize
 // Puts a fresh sensor into the state. Refused: 12.
 #[unsafe(no_mangle)]
 pub extern "C" fn fluturenc_sensor_reset(sensor: &mut [u8]) -> u8
-    ensures { StateGives (resetCall sensor.old) result sensor.new }
+    ensures { StateGives (reset_call sensor.old) result sensor.new }
 {
     if sensor.len() < LENGTH {
         return refusal::NO_ROOM;
@@ -49,7 +49,7 @@ pub extern "C" fn fluturenc_sensor_reset(sensor: &mut [u8]) -> u8
 // has them, in this order.
 #[unsafe(no_mangle)]
 pub extern "C" fn fluturenc_sensor_message(sensor: &mut [u8], message: &[u8]) -> u8
-    ensures { StateGives (messageCall sensor.old message.now) result sensor.new }
+    ensures { StateGives (message_call sensor.old message.now) result sensor.new }
 {
     if holds_sensor(sensor) {
         let s = sensor_in(sensor);
@@ -73,7 +73,7 @@ pub extern "C" fn fluturenc_sensor_message(sensor: &mut [u8], message: &[u8]) ->
 // in this order.
 #[unsafe(no_mangle)]
 pub extern "C" fn fluturenc_messages(pairs: &[u8], messages: &mut [u8], written: &mut usize) -> u8
-    ensures { WriteGives (writeOf pairs.now (length messages.old)) result written.new messages.old messages.new }
+    ensures { WriteGives (write_of pairs.now (length messages.old)) result written.new messages.old messages.new }
 {
     let filled = two_wire_write::write(pairs, messages);
     exported_call::number_written(filled, written)
@@ -81,7 +81,7 @@ pub extern "C" fn fluturenc_messages(pairs: &[u8], messages: &mut [u8], written:
 
 // Whether the bytes hold a sensor: their length, an index up to 127, and a flag.
 fn holds_sensor(sensor: &[u8]) -> bool
-    ensures { result ≡ holdsSensor sensor.now }
+    ensures { result ≡ holds_sensor sensor.now }
 {
     if sensor.len() < LENGTH {
         return false;
@@ -93,8 +93,8 @@ fn holds_sensor(sensor: &[u8]) -> bool
 }
 
 fn sensor_in(sensor: &[u8]) -> Sensor
-    requires { sensorLength ≤ length sensor.now }
-    ensures { result ≡ sensorIn sensor.now }
+    requires { sensor_length ≤ length sensor.now }
+    ensures { result ≡ sensor_in sensor.now }
 {
     let mut registers = [0u8; 128];
     bytes::copy(&sensor[..INDEX], &mut registers);
@@ -107,8 +107,8 @@ fn sensor_in(sensor: &[u8]) -> Sensor
 
 // Puts a sensor into the state.
 fn store(s: Sensor, sensor: &mut [u8])
-    requires { sensorLength ≤ length sensor.old }
-    ensures { sensor.new ≡ withSensor s sensor.old }
+    requires { sensor_length ≤ length sensor.old }
+    ensures { sensor.new ≡ with_sensor s sensor.old }
 {
     let registers = s.registers;
     bytes::copy(&registers, sensor);

@@ -14,8 +14,8 @@
 //   2, 3, 8                             no values
 //   11, 13, 10, 36                      refused, in this order: no such profile, a kind above 5, an input above 15, no mark at the beginning
 ghost use Rattle.std.specs.Prelude.{◌≡◌};
-ghost use Rattle.reason.specs.Valued.{valued, explanationValues};
-ghost use Rattle.fluturenc_why.specs.Why.{valuedNumber, valuedFirst, valuedSecond, sumBits, WhyGives};
+ghost use Rattle.reason.specs.Valued.{valued, explanation_values};
+ghost use Rattle.fluturenc_why.specs.Why.{valued_number, valued_first, valued_second, sum_bits, WhyGives};
 
 use exported_call::bit;
 use reason::{FailedSums, Reason};
@@ -37,7 +37,7 @@ pub extern "C" fn fluturenc_why(
     first: &mut usize,
     second: &mut usize,
 ) -> u8
-    ensures { WhyGives (explanationValues profile before run.now) result first.new second.new }
+    ensures { WhyGives (explanation_values profile before run.now) result first.new second.new }
 {
     let reason = reason::explain(profile, before, run);
     *first = first_value(reason);
@@ -47,7 +47,7 @@ pub extern "C" fn fluturenc_why(
 
 // The number of a reason.
 fn number(reason: Reason) -> u8
-    ensures { result ≡ valuedNumber (valued reason) }
+    ensures { result ≡ valued_number (valued reason) }
 {
     match reason {
         Reason::GoodLine => GOOD_LINE,
@@ -68,7 +68,7 @@ fn number(reason: Reason) -> u8
 
 // The first value of a reason.
 fn first_value(reason: Reason) -> usize
-    ensures { result ≡ valuedFirst (valued reason) }
+    ensures { result ≡ valued_first (valued reason) }
 {
     match reason {
         Reason::GoodLine => NO_VALUE,
@@ -89,7 +89,7 @@ fn first_value(reason: Reason) -> usize
 
 // The second value of a reason.
 fn second_value(reason: Reason) -> usize
-    ensures { result ≡ valuedSecond (valued reason) }
+    ensures { result ≡ valued_second (valued reason) }
 {
     match reason {
         Reason::GoodLine => NO_VALUE,
@@ -110,7 +110,7 @@ fn second_value(reason: Reason) -> usize
 
 // The parity sums that fail, as bits 0 to 3.
 fn sum_bits(sums: FailedSums) -> usize
-    ensures { result ≡ sumBits sums }
+    ensures { result ≡ sum_bits sums }
 {
     bit(sums.p0) as usize
         + 2 * bit(sums.p1) as usize

@@ -8,8 +8,8 @@
 // pgm::MOST_PIXELS has room for every frame. Cost: that of the reader's runs, and linear in the rows; memory does not grow with the capture.
 ghost use Rattle.std.specs.Prelude.{◌≡◌, ◌&&◌, not, [], ◌/◌, ltb, drop};
 ghost use Rattle.stream.specs.Written.{nibbles};
-ghost use Rattle.frame_rows.specs.FrameRows.{outputOf};
-ghost use Rattle.frame_grabber.specs.FrameGrabber.{freshGrabber, isSaid, grabOf, Grabs};
+ghost use Rattle.frame_rows.specs.FrameRows.{output_of};
+ghost use Rattle.frame_grabber.specs.FrameGrabber.{fresh_grabber, is_said, grab_of, Grabs};
 
 use frame_row::Keeping;
 use frame_rows::{Gatherer, Progress};
@@ -34,7 +34,7 @@ pub struct Grabbed {
 impl Grabber {
     // A fresh profile 0 reader, and a fresh gatherer.
     pub fn new(keeping: Keeping) -> Grabber
-        ensures { result ≡ freshGrabber keeping }
+        ensures { result ≡ fresh_grabber keeping }
     {
         let reader = Reader::fresh(Profile::VV5404);
         let gatherer = Gatherer::new(keeping);
@@ -43,7 +43,7 @@ impl Grabber {
 
     // Takes the nibbles of a piece's bytes from a place on, up to the first at which something is said.
     pub fn grab(self, input: &[u8], from: usize, rows: &mut [u8]) -> Grabbed
-        ensures { Grabs (grabOf self (drop from (nibbles input.now)) rows.old) result rows.new }
+        ensures { Grabs (grab_of self (drop from (nibbles input.now)) rows.old) result rows.new }
     {
         let reader = self.reader;
         let mut head = reader.head;
@@ -81,7 +81,7 @@ impl Grabber {
 
 // Whether nothing is said yet, and a nibble left at a place.
 fn goes_on(progress: Progress, at: usize, bytes: usize) -> bool
-    ensures { result ≡ (not (isSaid (outputOf progress [])) && ltb (at / 2) bytes) }
+    ensures { result ≡ (not (is_said (output_of progress [])) && ltb (at / 2) bytes) }
 {
     match progress {
         Progress::Nothing => at / 2 < bytes,

@@ -3,7 +3,7 @@
 // In: an answer. Out: nothing, or a kind number and a number for `Judge::line`. A capture is judged by handing over what `handed_over` has of each
 // answer. Nothing is refused. Cost: constant.
 ghost use Rattle.std.specs.Prelude.{◌≡◌};
-ghost use Rattle.frame_handing.specs.Handing.{isBrokenLine, handedOver};
+ghost use Rattle.frame_handing.specs.Handing.{is_broken_line, handed_over};
 
 use frame_judge::Judge;
 use stream::Answer;
@@ -17,7 +17,7 @@ pub enum Handed {
 
 // Each line given out is handed over, and kind 0 for each answer 1 to 7.
 pub fn handed_over(answer: Answer) -> Handed
-    ensures { result ≡ handedOver answer }
+    ensures { result ≡ handed_over answer }
 {
     match answer {
         Answer::Nothing => Handed::Nothing,
@@ -37,7 +37,7 @@ pub fn handed_over(answer: Answer) -> Handed
 
 // Whether an answer's refusal number, 1 to 7, is that of a broken line.
 fn is_broken_line(number: u8) -> bool
-    ensures { result ≡ isBrokenLine number }
+    ensures { result ≡ is_broken_line number }
 {
     if number < refusal::DAMAGED_CODE {
         return false;

@@ -1,8 +1,8 @@
 -- Calls to the judge in a row, and the lines of a whole frame.
 use Rattle.std.specs.Prelude.{◌≡◌, Bool, true, false, ◌&&◌, ◌||◌, not, cond, List, [], ◌∷◌, ◌++◌, ℕ, suc, ◌+◌, eqb, leb, length}
-use Rattle.refusal.specs.Refusal.{badKind, numberTooLarge}
+use Rattle.refusal.specs.Refusal.{bad_kind, number_too_large}
 use Rattle.line_code.specs.declared.Kind.{Kind}
-use Rattle.line_code.specs.LineCode.{kindNumber}
+use Rattle.line_code.specs.LineCode.{kind_number}
 use Rattle.line_number.specs.LineNumber.{greatest}
 use Rattle.profile.specs.declared.Profile.{Profile}
 use Rattle.frame_layout.specs.declared.Borders.{Borders}
@@ -10,8 +10,8 @@ use Rattle.frame_judge.specs.declared.Judge.{Judge}
 use Rattle.frame_judge.specs.declared.Ruling.{Ruling}
 use Rattle.frame_judge.specs.declared.Ruling.TheVariants as ruling
 use Rattle.frame_judge.specs.declared.Judged.{Judged}
-use Rattle.frame_layout.specs.FrameLayout.{layout, kindsOf, lastPlace, due_at}
-use Rattle.frame_judge.specs.Frame.{judgeOf, breaksFrame}
+use Rattle.frame_layout.specs.FrameLayout.{layout, kinds_of, last_place, due_at}
+use Rattle.frame_judge.specs.Frame.{judge_of, breaks_frame}
 
 -- what is handed to the judge
 pub record Line : Type 0 where
@@ -24,7 +24,7 @@ line k n = record { kind = k; number = n }
 
 -- one call
 abbrev pub called : Profile → Judge → Line → Judged
-called p j l = judgeOf p j l.kind l.number
+called p j l = judge_of p j l.kind l.number
 
 -- the judge after some calls, and what it answered to each
 abbrev pub after : Profile → Judge → List Line → Judge
@@ -44,50 +44,50 @@ is_complete ruling.Complete = true
 is_complete (ruling.Refused refusal) = false
 
 -- a ruling that breaks a frame
-abbrev pub isBreak : Ruling → Bool
-isBreak ruling.Waiting = false
-isBreak ruling.Going = false
-isBreak ruling.Complete = false
-isBreak (ruling.Refused refusal) = breaksFrame refusal
+abbrev pub is_break : Ruling → Bool
+is_break ruling.Waiting = false
+is_break ruling.Going = false
+is_break ruling.Complete = false
+is_break (ruling.Refused refusal) = breaks_frame refusal
 
 -- an accepted line is one that is not refused 13 or 14: those change nothing (and 11 comes from no judge that calls reach)
 abbrev pub accepts : Ruling → Bool
 accepts ruling.Waiting = true
 accepts ruling.Going = true
 accepts ruling.Complete = true
-accepts (ruling.Refused r) = not (eqb r badKind || eqb r numberTooLarge)
+accepts (ruling.Refused r) = not (eqb r bad_kind || eqb r number_too_large)
 
 -- a line, where the judge takes it into a frame
-abbrev pub acceptedOne : Profile → Judge → Line → List Line
-acceptedOne p j l = cond (accepts (called p j l).ruling) (l ∷ []) []
+abbrev pub accepted_one : Profile → Judge → Line → List Line
+accepted_one p j l = cond (accepts (called p j l).ruling) (l ∷ []) []
 
 -- the lines that the judge takes into frames
 abbrev pub accepted : Profile → Judge → List Line → List Line
 accepted p j [] = []
-accepted p j (l ∷ ls) = acceptedOne p j l ++ accepted p (called p j l).judge ls
+accepted p j (l ∷ ls) = accepted_one p j l ++ accepted p (called p j l).judge ls
 
 -- a line as laid out at a place: due there, with a number not above 4095
-abbrev pub isLaidOutAt : Profile → Borders → ℕ → Line → Bool
-isLaidOutAt p b place l = due_at p b place l.kind l.number && leb l.number greatest
+abbrev pub is_laid_out_at : Profile → Borders → ℕ → Line → Bool
+is_laid_out_at p b place l = due_at p b place l.kind l.number && leb l.number greatest
 
 -- lines as laid out from a place on
-abbrev pub laidFrom : Profile → Borders → ℕ → List Line → Bool
-laidFrom p b place [] = true
-laidFrom p b place (l ∷ ls) = isLaidOutAt p b place l && laidFrom p b (suc place) ls
+abbrev pub laid_from : Profile → Borders → ℕ → List Line → Bool
+laid_from p b place [] = true
+laid_from p b place (l ∷ ls) = is_laid_out_at p b place l && laid_from p b (suc place) ls
 
 -- the first lines of a frame, so many
 abbrev pub FirstLines : Profile → Borders → ℕ → List Line → Type 0
-FirstLines p b n ls = (length ls ≡ n) × (laidFrom p b 0 ls ≡ true)
+FirstLines p b n ls = (length ls ≡ n) × (laid_from p b 0 ls ≡ true)
 
 -- the lines of a whole frame
 abbrev pub IsFrame : Profile → Borders → List Line → Type 0
-IsFrame p b ls = FirstLines p b (lastPlace p + 1) ls
+IsFrame p b ls = FirstLines p b (last_place p + 1) ls
 
 -- lines of these kinds, numbered on from n
-abbrev pub numberedFrom : ℕ → List Kind → List Line
-numberedFrom n [] = []
-numberedFrom n (k ∷ ks) = line (kindNumber k) n ∷ numberedFrom (n + 1) ks
+abbrev pub numbered_from : ℕ → List Kind → List Line
+numbered_from n [] = []
+numbered_from n (k ∷ ks) = line (kind_number k) n ∷ numbered_from (n + 1) ks
 
 -- a frame whose numbers count on to its last line, as the papers' figures draw it
-abbrev pub frameLines : Profile → Borders → List Line
-frameLines p b = numberedFrom 0 (kindsOf (layout p b))
+abbrev pub frame_lines : Profile → Borders → List Line
+frame_lines p b = numbered_from 0 (kinds_of (layout p b))

@@ -1,12 +1,12 @@
 -- The judge of frames (01, 'Frames of profile 0'; 000, 'Frame Level Formatting' and 'Line Level Formatting' for the VV5300).
 use Rattle.std.specs.Prelude.{◌≡◌, Bool, true, ◌&&◌, ◌||◌, cond, ℕ, ◌+◌, eqb, leb, ltb}
-use Rattle.refusal.specs.Refusal.{badState, badKind, numberTooLarge, notTheLineDue, brokenLine}
+use Rattle.refusal.specs.Refusal.{bad_state, bad_kind, number_too_large, not_the_line_due, broken_line}
 use Rattle.line_code.specs.declared.Kind.TheVariants.{VL, SOF, EOF}
-use Rattle.line_code.specs.LineCode.{kindNumber}
+use Rattle.line_code.specs.LineCode.{kind_number}
 use Rattle.line_number.specs.LineNumber.{greatest}
 use Rattle.profile.specs.declared.Profile.{Profile}
 use Rattle.frame_layout.specs.declared.Borders.TheVariants.{On, Off}
-use Rattle.frame_layout.specs.FrameLayout.{lastPlace, settlingPlace, due_at}
+use Rattle.frame_layout.specs.FrameLayout.{last_place, settling_place, due_at}
 use Rattle.frame_judge.specs.declared.KnownBorders.{KnownBorders}
 use Rattle.frame_judge.specs.declared.KnownBorders.TheVariants.{Unsettled, Settled}
 use Rattle.frame_judge.specs.declared.Judge.{Judge}
@@ -22,39 +22,39 @@ within from to n = leb from n && leb n to
 -- the judge's own test: a state that calls can reach
 abbrev pub passes : Profile → Judge → Bool
 passes p Waiting = true
-passes p (Due place Unsettled) = within 1 (settlingPlace p) place
-passes p (Due place (Settled b)) = within (settlingPlace p + 1) (lastPlace p) place
+passes p (Due place Unsettled) = within 1 (settling_place p) place
+passes p (Due place (Settled b)) = within (settling_place p + 1) (last_place p) place
 
 -- a line is the one due: with the borders settled, or, while they are not, with either setting
-abbrev pub lineDue : Profile → KnownBorders → ℕ → ℕ → ℕ → Bool
-lineDue p Unsettled place k n = due_at p On place k n || due_at p Off place k n
-lineDue p (Settled b) place k n = due_at p b place k n
+abbrev pub line_due : Profile → KnownBorders → ℕ → ℕ → ℕ → Bool
+line_due p Unsettled place k n = due_at p On place k n || due_at p Off place k n
+line_due p (Settled b) place k n = due_at p b place k n
 
 -- the borders after a line that was due: at the settling place a VL settles them on, a BL off
-abbrev pub settledBy : Profile → KnownBorders → ℕ → ℕ → KnownBorders
-settledBy p Unsettled place k = cond (ltb place (settlingPlace p)) Unsettled (Settled (cond (eqb k (kindNumber VL)) On Off))
-settledBy p (Settled b) place k = Settled b
+abbrev pub settled_by : Profile → KnownBorders → ℕ → ℕ → KnownBorders
+settled_by p Unsettled place k = cond (ltb place (settling_place p)) Unsettled (Settled (cond (eqb k (kind_number VL)) On Off))
+settled_by p (Settled b) place k = Settled b
 
 -- what the judge says, in 01's words: Waiting, Going, Complete, or a refusal with its number
 pub data Said : Type 0 where
-  still-waiting : Said
-  on-going : Said
-  whole-frame : Said
+  still_waiting : Said
+  on_going : Said
+  whole_frame : Said
   refused : ℕ → Said
 
 -- 01's words and number of each case of the program's ruling
 abbrev pub said_of : Ruling → Said
-said_of ruling.Waiting = still-waiting
-said_of ruling.Going = on-going
-said_of ruling.Complete = whole-frame
+said_of ruling.Waiting = still_waiting
+said_of ruling.Going = on_going
+said_of ruling.Complete = whole_frame
 said_of (ruling.Refused n) = refused n
 
 -- the program's ruling that says this
-abbrev pub rulingFor : Said → Ruling
-rulingFor still-waiting = ruling.Waiting
-rulingFor on-going = ruling.Going
-rulingFor whole-frame = ruling.Complete
-rulingFor (refused n) = ruling.Refused n
+abbrev pub ruling_for : Said → Ruling
+ruling_for still_waiting = ruling.Waiting
+ruling_for on_going = ruling.Going
+ruling_for whole_frame = ruling.Complete
+ruling_for (refused n) = ruling.Refused n
 
 -- a judge after a call, and what it answered
 abbrev pub gives : Judge → Ruling → Judged
@@ -62,51 +62,51 @@ gives j v = record { judge = j; ruling = v }
 
 -- a refusal, and the judge after it
 abbrev pub refuses : Judge → ℕ → Judged
-refuses j n = gives j (rulingFor (refused n))
+refuses j n = gives j (ruling_for (refused n))
 
 -- a frame opens with an SOF numbered 0
 abbrev pub opens : ℕ → ℕ → Bool
-opens k n = eqb k (kindNumber SOF) && eqb n 0
+opens k n = eqb k (kind_number SOF) && eqb n 0
 
 -- the judge at a frame's second line
 abbrev pub begun : Judge
 begun = Due 1 Unsettled
 
 -- the kind number that stands for a broken line
-abbrev pub brokenKind : ℕ
-brokenKind = 0
+abbrev pub broken_kind : ℕ
+broken_kind = 0
 
 -- a broken line
 abbrev pub broken : Judge → Judged
-broken Waiting = gives Waiting (rulingFor still-waiting)
-broken (Due place s) = refuses Waiting brokenLine
+broken Waiting = gives Waiting (ruling_for still_waiting)
+broken (Due place s) = refuses Waiting broken_line
 
 -- a line that is due: Going, or Complete at the last place, then waiting
-abbrev pub dueTaken : Profile → ℕ → KnownBorders → ℕ → Judged
-dueTaken p place s k =
-    cond (ltb place (lastPlace p)) (gives (Due (place + 1) (settledBy p s place k)) (rulingFor on-going)) (gives Waiting (rulingFor whole-frame))
+abbrev pub due_taken : Profile → ℕ → KnownBorders → ℕ → Judged
+due_taken p place s k =
+    cond (ltb place (last_place p)) (gives (Due (place + 1) (settled_by p s place k)) (ruling_for on_going)) (gives Waiting (ruling_for whole_frame))
 
 -- a line that is not due: 18, then waiting; but an SOF numbered 0 opens a new frame at once
 abbrev pub astray : ℕ → ℕ → Judged
-astray k n = cond (opens k n) (refuses begun notTheLineDue) (refuses Waiting notTheLineDue)
+astray k n = cond (opens k n) (refuses begun not_the_line_due) (refuses Waiting not_the_line_due)
 
 -- a line while waiting: an SOF numbered 0 opens a frame
 abbrev pub first : ℕ → ℕ → Judged
-first k n = cond (opens k n) (gives begun (rulingFor on-going)) (gives Waiting (rulingFor still-waiting))
+first k n = cond (opens k n) (gives begun (ruling_for on_going)) (gives Waiting (ruling_for still_waiting))
 
 -- a whole line of a kind and number
 abbrev pub whole : Profile → Judge → ℕ → ℕ → Judged
 whole p Waiting k n = first k n
-whole p (Due place s) k n = cond (lineDue p s place k n) (dueTaken p place s k) (astray k n)
+whole p (Due place s) k n = cond (line_due p s place k n) (due_taken p place s k) (astray k n)
 
 -- one call: 11, 13, 14, which change nothing; a broken line (kind 0), whose number isn't looked at; or a whole line
-unfoldable pub judgeOf : Profile → Judge → ℕ → ℕ → Judged
-judgeOf p j k n =
+unfoldable pub judge_of : Profile → Judge → ℕ → ℕ → Judged
+judge_of p j k n =
     cond (passes p j)
-    (cond (leb k (kindNumber EOF))
-    (cond (eqb k brokenKind) (broken j) (cond (leb n greatest) (whole p j k n) (refuses j numberTooLarge)))
-    (refuses j badKind))
-    (refuses j badState)
+    (cond (leb k (kind_number EOF))
+    (cond (eqb k broken_kind) (broken j) (cond (leb n greatest) (whole p j k n) (refuses j number_too_large)))
+    (refuses j bad_kind))
+    (refuses j bad_state)
 
 -- a call that leaves this judge, and says this
 pub record JudgedAs (wanted r : Judged) : Type 0 where
@@ -114,5 +114,5 @@ pub record JudgedAs (wanted r : Judged) : Type 0 where
   pub says : said_of r.ruling ≡ said_of wanted.ruling
 
 -- 18 and 19 break a frame; 11, 13 and 14 leave the judge as it was
-abbrev pub breaksFrame : ℕ → Bool
-breaksFrame refusal = eqb refusal notTheLineDue || eqb refusal brokenLine
+abbrev pub breaks_frame : ℕ → Bool
+breaks_frame refusal = eqb refusal not_the_line_due || eqb refusal broken_line

@@ -5,7 +5,7 @@
 // judge state that no calls can reach with this profile, 13 a kind above 5, 14 a number above 4095. After the EOF line a line's number is
 // not compared (paper 02, A3). Cost: constant.
 ghost use Rattle.std.specs.Prelude.{◌≡◌};
-ghost use Rattle.frame_judge.specs.Frame.{within, passes, lineDue, settledBy, refuses, opens, broken, dueTaken, astray, first, whole, judgeOf, JudgedAs, breaksFrame};
+ghost use Rattle.frame_judge.specs.Frame.{within, passes, line_due, settled_by, refuses, opens, broken, due_taken, astray, first, whole, judge_of, JudgedAs, breaks_frame};
 
 use frame_layout::{Borders, FIRST_BLACK};
 use line_code::Kind;
@@ -55,7 +55,7 @@ impl Judge {
 
     // Takes a line, or kind 0 for a broken one. Refused, in this order: 11, 13, 14; then 19, 18.
     pub fn line(self, profile: Profile, kind: u8, number: u16) -> Judged
-        ensures { JudgedAs (judgeOf profile self kind number) result }
+        ensures { JudgedAs (judge_of profile self kind number) result }
     {
         if self.passes(profile) {
             if kind > Kind::EOF.number() {
@@ -119,7 +119,7 @@ impl Judge {
 impl KnownBorders {
     // Whether this is the line due at a place.
     fn line_due(self, profile: Profile, place: u16, kind: u8, number: u16) -> bool
-        ensures { result ≡ lineDue profile self place kind number }
+        ensures { result ≡ line_due profile self place kind number }
     {
         match self {
             KnownBorders::Unsettled => {
@@ -134,7 +134,7 @@ impl KnownBorders {
 
     // The borders after a line that was due.
     fn settled_by(self, profile: Profile, place: u16, kind: u8) -> KnownBorders
-        ensures { result ≡ settledBy profile self place kind }
+        ensures { result ≡ settled_by profile self place kind }
     {
         match self {
             KnownBorders::Unsettled => {
@@ -153,7 +153,7 @@ impl KnownBorders {
 
 // Whether a refusal of the judge, 18 or 19, breaks the frame.
 pub fn breaks_frame(number: u8) -> bool
-    ensures { result ≡ breaksFrame number }
+    ensures { result ≡ breaks_frame number }
 {
     if number == refusal::NOT_THE_LINE_DUE {
         return true;
@@ -166,7 +166,7 @@ const FIRST_PLACE: u16 = 0;
 
 // A line that is due.
 fn take_due(profile: Profile, place: u16, borders: KnownBorders, kind: u8) -> Judged
-    ensures { result ≡ dueTaken profile place borders kind }
+    ensures { result ≡ due_taken profile place borders kind }
 {
     if place < frame_layout::last_place(profile) {
         let next = borders.settled_by(profile, place, kind);

@@ -6,51 +6,51 @@ use Rattle.std.proofs.lemmas.Bool.{lt-leb}
 use Rattle.std.proofs.Math.ListN.{get_or-eq_default}
 use Rattle.line_code.specs.declared.Kind.{Kind}
 use Rattle.line_code.specs.declared.Kind.TheVariants.{BL, BK, VL, SOF, EOF}
-use Rattle.line_code.specs.LineCode.{kindNumber}
+use Rattle.line_code.specs.LineCode.{kind_number}
 use Rattle.profile.specs.declared.Profile.{Profile}
 use Rattle.profile.specs.declared.Profile.TheVariants.{VV5404, VV5300}
 use Rattle.frame_layout.specs.declared.Borders.{Borders}
 use Rattle.frame_layout.specs.declared.Borders.TheVariants.{On, Off}
 use Rattle.frame_layout.specs.declared.Layout.{Layout}
-use Rattle.frame_layout.specs.FrameLayout.{bordersOn, bordersOff, layout, kindsOf, lastPlace, endPlace, settlingPlace, kindAtPlace, standsAt}
-use Rattle.frame_layout.specs.Places.{kindWithin}
-use Rattle.frame_layout.specs.FrameLength.{frame-length}
+use Rattle.frame_layout.specs.FrameLayout.{borders_on, borders_off, layout, kinds_of, last_place, end_place, settling_place, kind_at_place, stands_at}
+use Rattle.frame_layout.specs.Places.{kind_within}
+use Rattle.frame_layout.specs.FrameLength.{frame_length}
 
 -- the kinds by ranges, so many from a place on
-abbrev kindsFrom : Layout → ℕ → ℕ → List Kind
-kindsFrom l place zero = []
-kindsFrom l place (suc n) = kindWithin l place ∷ kindsFrom l (suc place) n
+abbrev kinds_from : Layout → ℕ → ℕ → List Kind
+kinds_from l place zero = []
+kinds_from l place (suc n) = kind_within l place ∷ kinds_from l (suc place) n
 
-from_place : (l : Layout) (place n i : ℕ) → i < n → get_or (kindsFrom l place n) i BL ≡ kindWithin l (place + i)
+from_place : (l : Layout) (place n i : ℕ) → i < n → get_or (kinds_from l place n) i BL ≡ kind_within l (place + i)
 from_place l place zero i h = absurd (not-suc-le-zero h)
-from_place l place (suc n) zero h = ap (kindWithin l) (omega arith)
-from_place l place (suc n) (suc i) h = from_place l (suc place) n i (le_of_suc-le-suc h) ∙ ap (kindWithin l) (omega arith)
+from_place l place (suc n) zero h = ap (kind_within l) (omega arith)
+from_place l place (suc n) (suc i) h = from_place l (suc place) n i (le_of_suc-le-suc h) ∙ ap (kind_within l) (omega arith)
 
-computed-on : (p : Profile) → kindsOf (bordersOn p) ≡ kindsFrom (bordersOn p) 0 (lastPlace p + 1)
-unfolding kindWithin
-computed-on VV5404 = refl
-computed-on VV5300 = refl
+computed_on : (p : Profile) → kinds_of (borders_on p) ≡ kinds_from (borders_on p) 0 (last_place p + 1)
+unfolding kind_within
+computed_on VV5404 = refl
+computed_on VV5300 = refl
 
-computed-off : (p : Profile) → kindsOf (bordersOff p) ≡ kindsFrom (bordersOff p) 0 (lastPlace p + 1)
-unfolding kindWithin
-computed-off VV5404 = refl
-computed-off VV5300 = refl
+computed_off : (p : Profile) → kinds_of (borders_off p) ≡ kinds_from (borders_off p) 0 (last_place p + 1)
+unfolding kind_within
+computed_off VV5404 = refl
+computed_off VV5300 = refl
 
-computed : (p : Profile) (b : Borders) → kindsOf (layout p b) ≡ kindsFrom (layout p b) 0 (lastPlace p + 1)
-computed p On = computed-on p
-computed p Off = computed-off p
+computed : (p : Profile) (b : Borders) → kinds_of (layout p b) ≡ kinds_from (layout p b) 0 (last_place p + 1)
+computed p On = computed_on p
+computed p Off = computed_off p
 
 -- the places of a layout in order
 ordered : (p : Profile) (b : Borders)
-    → (3 ≤ (layout p b).from) × ((layout p b).from ≤ (layout p b).to) × ((layout p b).to ≤ (layout p b).end) × ((layout p b).end ≤ lastPlace p)
+    → (3 ≤ (layout p b).from) × ((layout p b).from ≤ (layout p b).to) × ((layout p b).to ≤ (layout p b).end) × ((layout p b).end ≤ last_place p)
 ordered VV5404 On = (lit≤ tt, lit≤ tt, lit≤ tt, lit≤ tt)
 ordered VV5404 Off = (lit≤ tt, lit≤ tt, lit≤ tt, lit≤ tt)
 ordered VV5300 On = (lit≤ tt, lit≤ tt, lit≤ tt, lit≤ tt)
 ordered VV5300 Off = (lit≤ tt, lit≤ tt, lit≤ tt, lit≤ tt)
 
-within-past : (p : Profile) (b : Borders) (i : ℕ) → endPlace p b < i → kindWithin (layout p b) i ≡ BL
-unfolding kindWithin
-within-past p b i h =
+within_past : (p : Profile) (b : Borders) (i : ℕ) → end_place p b < i → kind_within (layout p b) i ≡ BL
+unfolding kind_within
+within_past p b i h =
     let o = ordered p b in
     simp (
       le-ltb i 1 (omega (arith, o.0, o.1, o.2)),
@@ -60,50 +60,50 @@ within-past p b i h =
       ne_eqb i (layout p b).end (λ e. omega (arith, e)),
     )
 
-pub kind-by-range : (p : Profile) (b : Borders) (i : ℕ) → kindAtPlace p b i ≡ kindWithin (layout p b) i
-unfolding kindAtPlace
-kind-by-range p b i = by (ltb i (lastPlace p + 1)) refl
+pub kind_by_range : (p : Profile) (b : Borders) (i : ℕ) → kind_at_place p b i ≡ kind_within (layout p b) i
+unfolding kind_at_place
+kind_by_range p b i = by (ltb i (last_place p + 1)) refl
   where
-    by : (t : Bool) → ltb i (lastPlace p + 1) ≡ t → get_or (kindsOf (layout p b)) i BL ≡ kindWithin (layout p b) i
+    by : (t : Bool) → ltb i (last_place p + 1) ≡ t → get_or (kinds_of (layout p b)) i BL ≡ kind_within (layout p b) i
     by true e =
         ap (λ (ks : List Kind). get_or ks i BL) (computed p b)
-        ∙ from_place (layout p b) 0 (lastPlace p + 1) i (ltb-true i (lastPlace p + 1) e)
-        ∙ ap (kindWithin (layout p b)) (omega arith)
+        ∙ from_place (layout p b) 0 (last_place p + 1) i (ltb-true i (last_place p + 1) e)
+        ∙ ap (kind_within (layout p b)) (omega arith)
     by false e =
-        let h : lastPlace p + 1 ≤ i = ltb-false i (lastPlace p + 1) e in
+        let h : last_place p + 1 ≤ i = ltb-false i (last_place p + 1) e in
         let o = ordered p b in
-        get_or-eq_default (kindsOf (layout p b)) BL {n = i} (omega (arith, frame-length p b)) ∙ sym (within-past p b i (omega (arith, o.3)))
+        get_or-eq_default (kinds_of (layout p b)) BL {n = i} (omega (arith, frame_length p b)) ∙ sym (within_past p b i (omega (arith, o.3)))
 
 -- each line after the EOF line is a BL
-pub blank-after : (p : Profile) (b : Borders) (place : ℕ) → endPlace p b < place → kindAtPlace p b place ≡ BL
-blank-after p b place h = kind-by-range p b place ∙ within-past p b place h
+pub blank_after_lem : (p : Profile) (b : Borders) (place : ℕ) → end_place p b < place → kind_at_place p b place ≡ BL
+blank_after_lem p b place h = kind_by_range p b place ∙ within_past p b place h
 
 -- an SOF stands at no place but the first
-abbrev isSof : Kind → Bool
-isSof k = eqb (kindNumber SOF) (kindNumber k)
+abbrev is_sof : Kind → Bool
+is_sof k = eqb (kind_number SOF) (kind_number k)
 
-pub sof-only-first : (p : Profile) (b : Borders) (place : ℕ) → standsAt p b (suc place) (kindNumber SOF) ≡ false
-unfolding kindWithin
-sof-only-first p b place =
-    ap isSof (kind-by-range p b (suc place))
+pub sof_only_first : (p : Profile) (b : Borders) (place : ℕ) → stands_at p b (suc place) (kind_number SOF) ≡ false
+unfolding kind_within
+sof_only_first p b place =
+    ap is_sof (kind_by_range p b (suc place))
     ∙ simp (le-ltb (suc place) 1 (omega arith))
     (by (ltb (suc place) 3) (ltb (suc place) (layout p b).from) (leb (suc place) (layout p b).to) (eqb (suc place) (layout p b).end))
   where
-    by : (black blank visible end : Bool) → isSof (cond black BK (cond blank BL (cond visible VL (cond end EOF BL)))) ≡ false
+    by : (black blank visible end : Bool) → is_sof (cond black BK (cond blank BL (cond visible VL (cond end EOF BL)))) ≡ false
     by true blank visible end = refl
     by false true visible end = refl
     by false false true end = refl
     by false false false true = refl
     by false false false false = refl
 
-pub settling-small : (p : Profile) → settlingPlace p < 12
-settling-small VV5404 = lit≤ tt
-settling-small VV5300 = lit≤ tt
+pub settling_small : (p : Profile) → settling_place p < 12
+settling_small VV5404 = lit≤ tt
+settling_small VV5300 = lit≤ tt
 
 -- no frame has more than 304 lines, nor an EOF line behind its last
-pub last-small : (p : Profile) → lastPlace p < 304
-last-small VV5404 = lit≤ tt
-last-small VV5300 = lit≤ tt
+pub last_small : (p : Profile) → last_place p < 304
+last_small VV5404 = lit≤ tt
+last_small VV5300 = lit≤ tt
 
-pub end-within : (p : Profile) (b : Borders) → endPlace p b ≤ lastPlace p
-end-within p b = (ordered p b).3
+pub end_within : (p : Profile) (b : Borders) → end_place p b ≤ last_place p
+end_within p b = (ordered p b).3

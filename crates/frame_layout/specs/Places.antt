@@ -5,6 +5,6 @@ use Rattle.line_code.specs.declared.Kind.TheVariants.{BL, BK, VL, SOF, EOF}
 use Rattle.frame_layout.specs.declared.Layout.{Layout}
 
 -- the kind at a place of a layout
-unfoldable pub kindWithin : Layout → ℕ → Kind
-kindWithin l place =
+unfoldable pub kind_within : Layout → ℕ → Kind
+kind_within l place =
     cond (ltb place 1) SOF (cond (ltb place 3) BK (cond (ltb place l.from) BL (cond (leb place l.to) VL (cond (eqb place l.end) EOF BL))))

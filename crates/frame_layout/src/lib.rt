@@ -3,8 +3,8 @@
 // In: the profile, whether borders are on, and a place, counted from 0. Out: whether a line is due there; the place that settles the borders,
 // and the last one. Nothing is refused. Cost: constant.
 ghost use Rattle.std.specs.Prelude.{◌≡◌};
-ghost use Rattle.frame_layout.specs.FrameLayout.{bordersOn, bordersOff, layout, lastPlace, endPlace, settlingPlace, kindAtPlace, standsAt, numberDue, due_at};
-ghost use Rattle.frame_layout.specs.Places.{kindWithin};
+ghost use Rattle.frame_layout.specs.FrameLayout.{borders_on, borders_off, layout, last_place, end_place, settling_place, kind_at_place, stands_at, number_due, due_at};
+ghost use Rattle.frame_layout.specs.Places.{kind_within};
 
 use line_code::Kind;
 use profile::Profile;
@@ -32,7 +32,7 @@ struct Layout {
 
 // The place of a frame's last line.
 pub fn last_place(profile: Profile) -> u16
-    ensures { result ≡ lastPlace profile }
+    ensures { result ≡ last_place profile }
 {
     let on = borders_on(profile);
     on.last
@@ -40,7 +40,7 @@ pub fn last_place(profile: Profile) -> u16
 
 // The place whose line settles the borders: that of the first visible line with borders on.
 pub fn settling_place(profile: Profile) -> u16
-    ensures { result ≡ settlingPlace profile }
+    ensures { result ≡ settling_place profile }
 {
     let on = borders_on(profile);
     on.from
@@ -48,7 +48,7 @@ pub fn settling_place(profile: Profile) -> u16
 
 // The layout of each profile, borders on and off.
 fn borders_on(profile: Profile) -> Layout
-    ensures { result ≡ bordersOn profile }
+    ensures { result ≡ borders_on profile }
 {
     match profile {
         Profile::VV5404 => Layout {
@@ -67,7 +67,7 @@ fn borders_on(profile: Profile) -> Layout
 }
 
 fn borders_off(profile: Profile) -> Layout
-    ensures { result ≡ bordersOff profile }
+    ensures { result ≡ borders_off profile }
 {
     match profile {
         Profile::VV5404 => Layout {
@@ -88,7 +88,7 @@ fn borders_off(profile: Profile) -> Layout
 impl Layout {
     // The kind at a place.
     fn kind_within(self, place: u16) -> Kind
-        ensures { result ≡ kindWithin self place }
+        ensures { result ≡ kind_within self place }
     {
         if place < FIRST_BLACK {
             return Kind::SOF;
@@ -122,21 +122,21 @@ impl Borders {
 
     // Whether a line of this kind stands at a place.
     fn stands_at(self, profile: Profile, place: u16, kind: u8) -> bool
-        ensures { result ≡ standsAt profile self place kind }
+        ensures { result ≡ stands_at profile self place kind }
     {
         kind == self.kind_at_place(profile, place).number()
     }
 
     // The kind of the line at a place.
     pub fn kind_at_place(self, profile: Profile, place: u16) -> Kind
-        ensures { result ≡ kindAtPlace profile self place }
+        ensures { result ≡ kind_at_place profile self place }
     {
         self.layout(profile).kind_within(place)
     }
 
     // The place of the EOF line.
     pub fn end_place(self, profile: Profile) -> u16
-        ensures { result ≡ endPlace profile self }
+        ensures { result ≡ end_place profile self }
     {
         let layout = self.layout(profile);
         layout.end
@@ -144,7 +144,7 @@ impl Borders {
 
     // Whether this number is due at a place: the place's own, or, after the EOF line, any.
     fn number_due(self, profile: Profile, place: u16, number: u16) -> bool
-        ensures { result ≡ numberDue profile self place number }
+        ensures { result ≡ number_due profile self place number }
     {
         if number == place {
             return true;

@@ -2,11 +2,11 @@
 -- other; for a comparison it is the line whole, as a list of lines has it.
 use Rattle.std.specs.Prelude.{◌≡◌, Bool, ◌&&◌, cond, List, [], ◌∷◌, ◌++◌, ℕ, ◌+◌, eqb, leb, length, take, drop}
 use Rattle.line_code.specs.declared.Kind.TheVariants.{VL}
-use Rattle.line_code.specs.LineCode.{kindNumber}
+use Rattle.line_code.specs.LineCode.{kind_number}
 use Rattle.profile.specs.Profile.{width}
 use Rattle.pixel_order.specs.declared.Way.TheVariants.{ToPixels}
 use Rattle.pixel_order.specs.PixelOrder.{reordered}
-use Rattle.line_records.specs.Lines.{lineSize, inTwo}
+use Rattle.line_records.specs.Lines.{line_size, in_two}
 use Rattle.frame_row.specs.declared.Order.{Order}
 use Rattle.frame_row.specs.declared.Order.TheVariants.{AsSent, OddFirst}
 use Rattle.frame_row.specs.declared.Keeping.{Keeping}
@@ -14,34 +14,34 @@ use Rattle.frame_row.specs.declared.Keeping.TheVariants.{VisiblePixels, WholeLin
 use Rattle.frame_row.specs.declared.Row.{Row}
 
 -- a body's pixels: as sent, or put in order where the head sends odd pixels first
-abbrev pub pixelsOf : Order → List ℕ → List ℕ
-pixelsOf AsSent body = body
-pixelsOf OddFirst body = reordered ToPixels body
+abbrev pub pixels_of : Order → List ℕ → List ℕ
+pixels_of AsSent body = body
+pixels_of OddFirst body = reordered ToPixels body
 
 -- the number of a visible line's kind
-abbrev pub isVisible : ℕ → Bool
-isVisible k = eqb k (kindNumber VL)
+abbrev pub is_visible : ℕ → Bool
+is_visible k = eqb k (kind_number VL)
 
 -- the row of the line at a place of its frame, of this kind and with this body
-abbrev pub keptRow : Keeping → ℕ → ℕ → List ℕ → List ℕ
-keptRow (VisiblePixels o) place kind body = cond (isVisible kind) (pixelsOf o body) []
-keptRow WholeLines place kind body = (kind ∷ inTwo place) ++ body
+abbrev pub kept_row : Keeping → ℕ → ℕ → List ℕ → List ℕ
+kept_row (VisiblePixels o) place kind body = cond (is_visible kind) (pixels_of o body) []
+kept_row WholeLines place kind body = (kind ∷ in_two place) ++ body
 
 -- how long it is, where the body has 356 bytes
-abbrev pub rowSize : Keeping → ℕ → ℕ
-rowSize (VisiblePixels o) kind = cond (isVisible kind) width 0
-rowSize WholeLines kind = lineSize
+abbrev pub row_size : Keeping → ℕ → ℕ
+row_size (VisiblePixels o) kind = cond (is_visible kind) width 0
+row_size WholeLines kind = line_size
 
 -- a row of a line that was due is put after the bytes kept, unless the line buffer is shorter than a body, or there is no room for the row
-unfoldable pub rowFits : Keeping → ℕ → ℕ → List ℕ → List ℕ → Bool
-rowFits k kept kind body buffer = eqb (length body) width && leb (kept + rowSize k kind) (length buffer)
+unfoldable pub row_fits : Keeping → ℕ → ℕ → List ℕ → List ℕ → Bool
+row_fits k kept kind body buffer = eqb (length body) width && leb (kept + row_size k kind) (length buffer)
 
 -- a buffer with a line's row after the bytes kept
 unfoldable pub with_row : Keeping → ℕ → ℕ → ℕ → List ℕ → List ℕ → List ℕ
-with_row k kept place kind body buffer = take kept buffer ++ (keptRow k place kind body ++ drop (kept + rowSize k kind) buffer)
+with_row k kept place kind body buffer = take kept buffer ++ (kept_row k place kind body ++ drop (kept + row_size k kind) buffer)
 
 -- a call that says whether a row fits, puts it where it does, and says where the rows end then
 pub record Keeps (k : Keeping) (kept place kind : ℕ) (body before : List ℕ) (answer : Row) (after : List ℕ) : Type 0 where
-  pub fitting : answer.fits ≡ rowFits k kept kind body before
-  pub ending : answer.end ≡ cond answer.fits (kept + rowSize k kind) kept
+  pub fitting : answer.fits ≡ row_fits k kept kind body before
+  pub ending : answer.end ≡ cond answer.fits (kept + row_size k kind) kept
   pub leaves : after ≡ cond answer.fits (with_row k kept place kind body before) before

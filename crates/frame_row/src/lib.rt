@@ -7,8 +7,8 @@
 // with its own, and then nothing changes. Cost: linear in the row.
 ghost use Rattle.std.specs.Prelude.{◌≡◌, ◌∷◌, ◌++◌, ◌+◌, ◌≤◌, leb, length, take, drop};
 ghost use Rattle.profile.specs.Profile.{width};
-ghost use Rattle.line_records.specs.Lines.{lineSize, inTwo};
-ghost use Rattle.frame_row.specs.FrameRow.{pixelsOf, rowSize, with_row, Keeps};
+ghost use Rattle.line_records.specs.Lines.{line_size, in_two};
+ghost use Rattle.frame_row.specs.FrameRow.{pixels_of, row_size, with_row, Keeps};
 
 use line_code::Kind;
 use line_records::LINE;
@@ -68,7 +68,7 @@ pub fn keep(
 
 // The length of the row of a line of a kind.
 fn row_size(keeping: Keeping, kind: u8) -> usize
-    ensures { result ≡ rowSize keeping kind }
+    ensures { result ≡ row_size keeping kind }
 {
     match keeping {
         Keeping::VisiblePixels(_) => {
@@ -96,7 +96,7 @@ fn has_room(kept: usize, size: usize, room: usize) -> bool
 
 // Puts the row of a line at a place.
 fn put_row(keeping: Keeping, place: u16, kind: u8, body: &[u8], rows: &mut [u8], at: usize)
-    requires { (length body.now ≡ width) × (at + rowSize keeping kind ≤ length rows.old) }
+    requires { (length body.now ≡ width) × (at + row_size keeping kind ≤ length rows.old) }
     ensures { rows.new ≡ with_row keeping at place kind body.now rows.old }
 {
     match keeping {
@@ -112,7 +112,7 @@ fn put_row(keeping: Keeping, place: u16, kind: u8, body: &[u8], rows: &mut [u8],
 // Puts a body's pixels at a place.
 fn put_pixels(order: Order, body: &[u8], rows: &mut [u8], at: usize)
     requires { (length body.now ≡ width) × (at + width ≤ length rows.old) }
-    ensures { rows.new ≡ take at rows.old ++ (pixelsOf order body.now ++ drop (at + width) rows.old) }
+    ensures { rows.new ≡ take at rows.old ++ (pixels_of order body.now ++ drop (at + width) rows.old) }
 {
     match order {
         Order::AsSent => {
@@ -126,8 +126,8 @@ fn put_pixels(order: Order, body: &[u8], rows: &mut [u8], at: usize)
 
 // Puts a line whole at a place: its kind, its place in the frame in two bytes, and its body.
 fn put_line(place: u16, kind: u8, body: &[u8], rows: &mut [u8], at: usize)
-    requires { (length body.now ≡ width) × (at + lineSize ≤ length rows.old) }
-    ensures { rows.new ≡ take at rows.old ++ (((kind ∷ inTwo place) ++ body.now) ++ drop (at + lineSize) rows.old) }
+    requires { (length body.now ≡ width) × (at + line_size ≤ length rows.old) }
+    ensures { rows.new ≡ take at rows.old ++ (((kind ∷ in_two place) ++ body.now) ++ drop (at + line_size) rows.old) }
 {
     let head = [kind, (place / 256) as u8, (place % 256) as u8];
     let start = text::put(&head, rows, at);

@@ -9,14 +9,14 @@ use Rattle.frame_rows.specs.declared.Gatherer.{Gatherer}
 use Rattle.frame_rows.specs.declared.Gathered.{Gathered}
 use Rattle.frame_rows.specs.declared.Progress.{Progress}
 use Rattle.frame_rows.specs.declared.Progress.TheVariants as progress
-use Rattle.frame_rows.specs.FrameRows.{AfterCall, Gathers, outputOf, saying, rowKept, afterBreak}
+use Rattle.frame_rows.specs.FrameRows.{AfterCall, Gathers, output_of, saying, row_kept, after_break}
 
 pub gives : (o : AfterCall) (s : Gatherer) (p : Progress) (answer : Gathered) (after : List ℕ) → answer ≡ saying s p
-    → o ≡ record { gatherer = s; output = outputOf p after; buffer = after } → Gathers o answer after
+    → o ≡ record { gatherer = s; output = output_of p after; buffer = after } → Gathers o answer after
 gives o s p answer after e f =
     record {
       next = ap (λ (x : Gathered). x.gatherer) e ∙ sym (ap (λ (x : AfterCall). x.gatherer) f);
-      says = ap (λ (x : Gathered). outputOf x.progress after) e ∙ sym (ap (λ (x : AfterCall). x.output) f);
+      says = ap (λ (x : Gathered). output_of x.progress after) e ∙ sym (ap (λ (x : AfterCall). x.output) f);
       leaves = sym (ap (λ (x : AfterCall). x.buffer) f);
     }
 
@@ -25,7 +25,7 @@ pub quietly : {moved s : Gatherer} {answer : Gathered} → answer ≡ saying mov
 quietly e f = e ∙ ap (λ (x : Gatherer). saying x progress.Nothing) f
 
 -- a line that breaks a frame and leaves the judge in one has opened it
-pub opens-anew : {j : Judge} {place : ℕ} {b : KnownBorders} → j ≡ Due place b → (s : Gatherer) (kind : ℕ) (body buffer : List ℕ)
-    → afterBreak s j kind body buffer ≡ rowKept s j 0 0 kind body buffer
-unfolding afterBreak
-opens-anew e s kind body buffer = ap (λ (j : Judge). afterBreak s j kind body buffer) e ∙ ap (λ (j : Judge). rowKept s j 0 0 kind body buffer) (sym e)
+pub opens_anew : {j : Judge} {place : ℕ} {b : KnownBorders} → j ≡ Due place b → (s : Gatherer) (kind : ℕ) (body buffer : List ℕ)
+    → after_break s j kind body buffer ≡ row_kept s j 0 0 kind body buffer
+unfolding after_break
+opens_anew e s kind body buffer = ap (λ (j : Judge). after_break s j kind body buffer) e ∙ ap (λ (j : Judge). row_kept s j 0 0 kind body buffer) (sym e)

@@ -9,7 +9,7 @@
 // room for every picture, one of ALL_LINES for every frame's lines. Cost: linear in the row that is put.
 ghost use Rattle.std.specs.Prelude.{◌≡◌, take};
 ghost use Rattle.profile.specs.Profile.{width};
-ghost use Rattle.frame_rows.specs.FrameRows.{fresh, moved, saying, placeDue, shownAs, rowKept, completed, afterBreak, handed, take_of, Gathers};
+ghost use Rattle.frame_rows.specs.FrameRows.{fresh, moved, saying, place_due, shown_as, row_kept, completed, after_break, handed, take_of, Gathers};
 
 use frame_handing::Handed;
 use frame_judge::{Judge, Ruling};
@@ -72,7 +72,7 @@ impl Gatherer {
 
     // Hands the judge a line, or kind 0.
     fn hand(self, kind: u8, number: u16, line: &[u8], rows: &mut [u8]) -> Gathered
-        ensures { Gathers (handed self (shownAs kind number line.now) rows.old) result rows.new }
+        ensures { Gathers (handed self (shown_as kind number line.now) rows.old) result rows.new }
     {
         let before = self.judge;
         let place = place_due(before);
@@ -114,7 +114,7 @@ impl Gatherer {
         line: &[u8],
         rows: &mut [u8],
     ) -> Gathered
-        ensures { Gathers (rowKept self judge kept place kind (take width line.now) rows.old) result rows.new }
+        ensures { Gathers (row_kept self judge kept place kind (take width line.now) rows.old) result rows.new }
     {
         let keeping = self.keeping;
         let row = frame_row::keep(keeping, kept, place, kind, line, rows);
@@ -140,7 +140,7 @@ impl Gatherer {
 
     // A line that breaks the frame: it may be the first of a new one.
     fn after_break(self, judge: Judge, kind: u8, line: &[u8], rows: &mut [u8]) -> Gathered
-        ensures { Gathers (afterBreak self judge kind (take width line.now) rows.old) result rows.new }
+        ensures { Gathers (after_break self judge kind (take width line.now) rows.old) result rows.new }
     {
         match judge {
             Judge::Waiting => quiet(self.moved(judge, 0)),
@@ -151,7 +151,7 @@ impl Gatherer {
 
 // The place of the line that is due.
 fn place_due(judge: Judge) -> u16
-    ensures { result ≡ placeDue judge }
+    ensures { result ≡ place_due judge }
 {
     match judge {
         Judge::Waiting => 0,

@@ -7,28 +7,28 @@ use Rattle.profile.specs.Layout.{rules, fits}
 use Rattle.stream.specs.declared.Answer.{Answer}
 use Rattle.frame_layout.specs.declared.Borders.{Borders}
 use Rattle.frame_layout.specs.declared.Borders.TheVariants.{On, Off}
-use Rattle.frame_layout.specs.FrameLayout.{lastPlace}
+use Rattle.frame_layout.specs.FrameLayout.{last_place}
 use Rattle.frame_judge.specs.Calls.{Line, IsFrame}
-use Rattle.frame_handing.specs.Handing.{handedLines}
+use Rattle.frame_handing.specs.Handing.{handed_lines}
 use Rattle.picture_file.specs.PictureFile.{size}
 use Rattle.picture_file.specs.declared.Format.{Format}
 use Rattle.picture_file.specs.declared.Format.TheVariants.{Bordered, Plain}
-use Rattle.line_records.specs.Lines.{lineSize}
+use Rattle.line_records.specs.Lines.{line_size}
 use Rattle.frame_row.specs.declared.Keeping.{Keeping}
 use Rattle.frame_row.specs.declared.Keeping.TheVariants.{VisiblePixels, WholeLines}
-use Rattle.frame_row.specs.FrameRow.{isVisible, keptRow}
-use Rattle.frame_rows.specs.FrameRows.{Shown, Output, nothing, complete, refused, AfterCall, fresh, quiet, shownAs, take_of}
+use Rattle.frame_row.specs.FrameRow.{is_visible, kept_row}
+use Rattle.frame_rows.specs.FrameRows.{Shown, Output, nothing, complete, refused, AfterCall, fresh, quiet, shown_as, take_of}
 
 -- The rows of lines.
 
 -- the rows of lines from a place of the frame on, top to bottom and end to end
-abbrev pub keptRowsFrom : Keeping → ℕ → List Shown → List ℕ
-keptRowsFrom k place [] = []
-keptRowsFrom k place (l ∷ ls) = keptRow k place l.given.kind l.body ++ keptRowsFrom k (suc place) ls
+abbrev pub kept_rows_from : Keeping → ℕ → List Shown → List ℕ
+kept_rows_from k place [] = []
+kept_rows_from k place (l ∷ ls) = kept_row k place l.given.kind l.body ++ kept_rows_from k (suc place) ls
 
 -- the rows of a frame's lines
 abbrev pub rows_of : Keeping → List Shown → List ℕ
-rows_of k ls = keptRowsFrom k 0 ls
+rows_of k ls = kept_rows_from k 0 ls
 
 -- Calls.
 
@@ -53,29 +53,29 @@ start k buffer = quiet (fresh k) buffer
 -- The lines taken: those that 01 hands to the judge, of the calls that are not refused.
 
 -- a call that is refused
-abbrev pub isRefusedCall : Output → Bool
-isRefusedCall nothing = false
-isRefusedCall (complete n rows) = false
-isRefusedCall (refused n) = true
+abbrev pub is_refused_call : Output → Bool
+is_refused_call nothing = false
+is_refused_call (complete n rows) = false
+is_refused_call (refused n) = true
 
 -- lines, but none of a refused call
-abbrev pub unlessRefused : Output → List Shown → List Shown
-unlessRefused o ls = cond (isRefusedCall o) [] ls
+abbrev pub unless_refused : Output → List Shown → List Shown
+unless_refused o ls = cond (is_refused_call o) [] ls
 
 -- lines, each with the body in the line buffer
 abbrev pub shown : List Line → List ℕ → List Shown
 shown [] held = []
-shown (l ∷ ls) held = shownAs l.kind l.number held ∷ shown ls held
+shown (l ∷ ls) held = shown_as l.kind l.number held ∷ shown ls held
 
 -- the lines that calls one after another take
 abbrev pub taken : AfterCall → List Given → List Shown
 taken x [] = []
-taken x (g ∷ gs) = unlessRefused (call x g).output (shown (handedLines g.answer) g.held) ++ taken (call x g) gs
+taken x (g ∷ gs) = unless_refused (call x g).output (shown (handed_lines g.answer) g.held) ++ taken (call x g) gs
 
 -- refused or not
-abbrev pub shownAll : List Given → List Shown
-shownAll [] = []
-shownAll (g ∷ gs) = shown (handedLines g.answer) g.held ++ shownAll gs
+abbrev pub shown_all : List Given → List Shown
+shown_all [] = []
+shown_all (g ∷ gs) = shown (handed_lines g.answer) g.held ++ shown_all gs
 
 -- shown lines as the judge sees them
 abbrev pub lines_of : List Shown → List Line
@@ -83,14 +83,14 @@ lines_of [] = []
 lines_of (l ∷ ls) = l.given ∷ lines_of ls
 
 -- the picture of a frame
-abbrev pub pictureOf : Borders → Format
-pictureOf On = Bordered
-pictureOf Off = Plain
+abbrev pub picture_of : Borders → Format
+picture_of On = Bordered
+picture_of Off = Plain
 
 -- the bytes of a frame's rows: its picture's pixels, or its 304 lines
-abbrev pub frameSize : Keeping → Borders → ℕ
-frameSize (VisiblePixels o) b = size (pictureOf b)
-frameSize WholeLines b = lineSize * (lastPlace VV5404 + 1)
+abbrev pub frame_size : Keeping → Borders → ℕ
+frame_size (VisiblePixels o) b = size (picture_of b)
+frame_size WholeLines b = line_size * (last_place VV5404 + 1)
 
 -- a line's body has 356 bytes: the line buffer was not too short
 abbrev pub WholeBody : Shown → Type 0
@@ -98,7 +98,7 @@ WholeBody l = length l.body ≡ width
 
 -- a visible line's body is laid out as 01 says
 abbrev pub Laid : Shown → Type 0
-Laid l = isVisible l.given.kind ≡ true → fits (rules VV5404 VL) l.body ≡ true
+Laid l = is_visible l.given.kind ≡ true → fits (rules VV5404 VL) l.body ≡ true
 
 -- of each line
 abbrev pub Every : (Shown → Type 0) → List Shown → Type 0
@@ -114,5 +114,5 @@ pub record CompletesRows (k : Keeping) (ls : List Shown) (n : ℕ) (rows : List 
   pub whole : IsFrame VV5404 borders (lines_of frame)
   pub bodies : Every WholeBody frame
   pub shows : rows ≡ rows_of k frame
-  pub sized : length rows ≡ frameSize k borders
+  pub sized : length rows ≡ frame_size k borders
   pub used : n ≡ length rows

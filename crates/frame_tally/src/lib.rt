@@ -4,7 +4,7 @@
 // broken, or cut off by the capture's end. What frame_handing::handed_over has of an answer is handed to the judge. Nothing is refused; where the
 // judge refuses 11, 13 or 14, which leave it as it was, the mark is counted. Cost: constant.
 ghost use Rattle.std.specs.Prelude.{◌≡◌};
-ghost use Rattle.frame_tally.specs.Tally.{freshTally, quiet, marked, markedBy, ownAnswer, bordersOf, opening, moved, completed, brokenBy, refusedBy, handed, take_of, isUnfinished, cut_of, closeOf};
+ghost use Rattle.frame_tally.specs.Tally.{fresh_tally, quiet, marked, marked_by, own_answer, borders_of, opening, moved, completed, broken_by, refused_by, handed, take_of, is_unfinished, cut_of, close_of};
 
 use counts::one_more;
 use frame_handing::Handed;
@@ -45,7 +45,7 @@ pub struct Told {
 impl Tally {
     // A fresh judge, and nothing counted.
     pub fn new(profile: Profile) -> Tally
-        ensures { result ≡ freshTally profile }
+        ensures { result ≡ fresh_tally profile }
     {
         let judge = Judge::new();
         Tally {
@@ -73,7 +73,7 @@ impl Tally {
     // Takes finish's answer, at the end of the capture. A frame that is still open is cut off, also within a line (3): it doesn't count as
     // broken.
     pub fn close(self, last: Answer) -> Told
-        ensures { result ≡ closeOf self last }
+        ensures { result ≡ close_of self last }
     {
         if is_unfinished(last) {
             return self.marked().cut();
@@ -110,7 +110,7 @@ impl Tally {
 
     // Every answer but Nothing is a mark's.
     fn marked_by(self, answer: Answer) -> Tally
-        ensures { result ≡ markedBy self answer }
+        ensures { result ≡ marked_by self answer }
     {
         match answer {
             Answer::Nothing => self,
@@ -174,7 +174,7 @@ impl Tally {
 
     // The judge refuses: 18 and 19 break the frame.
     fn refused(self, judge: Judge, number: u8, own: u8) -> Told
-        ensures { result ≡ refusedBy self judge number own }
+        ensures { result ≡ refused_by self judge number own }
     {
         if frame_judge::breaks_frame(number) {
             return self.broken_by(judge, number, own);
@@ -185,7 +185,7 @@ impl Tally {
 
     // The frame is broken; another may open at once.
     fn broken_by(self, judge: Judge, number: u8, own: u8) -> Told
-        ensures { result ≡ brokenBy self judge number own }
+        ensures { result ≡ broken_by self judge number own }
     {
         let broken = one_more(self.broken);
         let profile = self.profile;
@@ -229,7 +229,7 @@ fn quiet(tally: Tally) -> Told
 
 // The refusal that a mark was answered; 0 where it was not refused.
 fn own_answer(answer: Answer) -> u8
-    ensures { result ≡ ownAnswer answer }
+    ensures { result ≡ own_answer answer }
 {
     match answer {
         Answer::Nothing => 0,
@@ -241,7 +241,7 @@ fn own_answer(answer: Answer) -> u8
 
 // Whether the capture ended within a line.
 fn is_unfinished(last: Answer) -> bool
-    ensures { result ≡ isUnfinished last }
+    ensures { result ≡ is_unfinished last }
 {
     match last {
         Answer::Nothing => false,
@@ -253,7 +253,7 @@ fn is_unfinished(last: Answer) -> bool
 
 // The borders of the frame that a judge is in.
 fn borders(judge: Judge) -> KnownBorders
-    ensures { result ≡ bordersOf judge }
+    ensures { result ≡ borders_of judge }
 {
     match judge {
         Judge::Waiting => KnownBorders::Unsettled,

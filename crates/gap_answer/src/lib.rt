@@ -4,9 +4,9 @@
 // In: the profile, what the mark before was, the text's length, and what is kept of it. Out: 8, 9 or the good gap. Cost: constant.
 ghost use Rattle.std.specs.Prelude.{◌≡◌, ℕ, ◌+◌, min};
 ghost use Rattle.std.proofs.Math.Option.{some};
-ghost use Rattle.period.specs.Period.{mostNibbles};
-ghost use Rattle.stream.specs.Answers.{answerFor, groupNibbles, lineNibbles, periodOf};
-ghost use Rattle.gap_answer.specs.KeptGap.{keptGap, keptEnd};
+ghost use Rattle.period.specs.Period.{most_nibbles};
+ghost use Rattle.stream.specs.Answers.{answer_for, group_nibbles, line_nibbles, period_of};
+ghost use Rattle.gap_answer.specs.KeptGap.{kept_gap, kept_end};
 
 use line_code::Kind;
 use mark_text::{BODY_PLACE, Kept};
@@ -22,7 +22,7 @@ pub fn end_answer(
     length: u32,
     kept: Kept,
 ) -> Answer
-    ensures { result ≡ answerFor (keptEnd profile before period.0 length kept) }
+    ensures { result ≡ answer_for (kept_end profile before period.0 length kept) }
 {
     match before {
         Before::NoLine => Answer::Refused(refusal::END_WITHOUT_LINE),
@@ -33,7 +33,7 @@ pub fn end_answer(
 
 // The period of the line before an end mark whose gap a mark closes: 0 where the line was not handed out.
 pub fn line_period(profile: Profile, before: Before, length: u32) -> Nibbles
-    ensures { (next : ℕ) → result.0 ≡ periodOf profile before length (some next) }
+    ensures { (next : ℕ) → result.0 ≡ period_of profile before length (some next) }
 {
     match before {
         Before::NoLine => Nibbles(0),
@@ -48,7 +48,7 @@ const AROUND_BODY: usize = 18;
 
 // Where it was: F F F F 0 0 and text of the line, F F F F 0 0 and text of the end mark.
 fn handed_period(profile: Profile, length: u32) -> Nibbles
-    ensures { result.0 ≡ min mostNibbles (groupNibbles + lineNibbles profile + groupNibbles + length) }
+    ensures { result.0 ≡ min most_nibbles (group_nibbles + line_nibbles profile + group_nibbles + length) }
 {
     let line = 2 * profile.body_length() + AROUND_BODY;
     let most = Nibbles::MOST as usize;
@@ -60,7 +60,7 @@ fn handed_period(profile: Profile, length: u32) -> Nibbles
 
 // 9, or the good gap.
 fn gap_answer(profile: Profile, kind: Kind, period: Nibbles, length: u32, kept: Kept) -> Answer
-    ensures { result ≡ answerFor (keptGap profile kind period.0 length kept) }
+    ensures { result ≡ answer_for (kept_gap profile kind period.0 length kept) }
 {
     if kept.stray {
         return Answer::Refused(refusal::BAD_GAP);

@@ -7,18 +7,18 @@ use native.Mathlib.Numerals.{add-one}
 use lib.ListN.{length, take, drop, get_or, drop_of_length-le}
 use lib.Seq.{drop-cons}
 use Rattle.profile.specs.declared.Profile.TheVariants.{VV5300}
-use Rattle.profile.specs.Profile.{imageStart}
-use Rattle.half_means.specs.HalfMeans.{total, halfAt}
+use Rattle.profile.specs.Profile.{image_start}
+use Rattle.half_means.specs.HalfMeans.{total, half_at}
 
 module _ (bytes : List ℕ) (i : ℕ) where
-  pub total-step : i < length bytes → total (drop i bytes) ≡ get_or bytes i 0 + total (drop (i + 1) bytes)
-  total-step h = rw (add-one, drop-cons bytes i 0)
+  pub total_step : i < length bytes → total (drop i bytes) ≡ get_or bytes i 0 + total (drop (i + 1) bytes)
+  total_step h = rw (add-one, drop-cons bytes i 0)
 
-  pub total-end : length bytes ≤ i → total (drop i bytes) ≡ 0
-  total-end h = rw (drop_of_length-le bytes)
+  pub total_end : length bytes ≤ i → total (drop i bytes) ≡ 0
+  total_end h = rw (drop_of_length-le bytes)
 
   -- the part that the code lends, from the place where the image starts
-  pub part-is : (start : ℕ) → start ≡ imageStart VV5300 → total (take (start + i + 64 - (start + i)) (drop (start + i) bytes)) ≡ total (halfAt i bytes)
-  part-is start e =
+  pub part_is : (start : ℕ) → start ≡ image_start VV5300 → total (take (start + i + 64 - (start + i)) (drop (start + i) bytes)) ≡ total (half_at i bytes)
+  part_is start e =
       let l : start + i + 64 - (start + i) ≡ 64 = omega arith in
       ap (λ (n : ℕ). total (take n (drop (start + i) bytes))) l ∙ ap (λ (s : ℕ). total (take 64 (drop (s + i) bytes))) e

@@ -12,9 +12,9 @@ use mir.Val.{SFits, to_z, of_z}
 use mir.ValLaws.{to_z_pos, to_z-of_z}
 use Rattle.half_means.specs.HalfMeans.{difference}
 
-mag-minus : (a b : ℕ) → mag (pos a -ℤ pos b) ≤ a + b
-mag-minus a zero = le_refl (a + zero)
-mag-minus a (suc b) = go (ltb a (suc b))
+mag_minus : (a b : ℕ) → mag (pos a -ℤ pos b) ≤ a + b
+mag_minus a zero = le_refl (a + zero)
+mag_minus a (suc b) = go (ltb a (suc b))
   where
     go : (t : Bool) → mag (cond t (negsuc (suc b - suc a)) (pos (a - suc b))) ≤ a + suc b
     go true = omega arith
@@ -25,10 +25,10 @@ module _ (a b : ℕ) (h : a < 2 ^ 30) (g : b < 2 ^ 30) where
   as_is = ap (λ (z : ℤ). z -ℤ to_z w32 b) (to_z_pos w32 a (omega arith)) ∙ ap (λ (z : ℤ). pos a -ℤ z) (to_z_pos w32 b (omega arith))
 
   small : SFits w32 (pos a -ℤ pos b)
-  small = record { sfits = omega (arith, mag-minus a b) }
+  small = record { sfits = omega (arith, mag_minus a b) }
 
-  pub minus-fits : SFits w32 (to_z w32 a -ℤ to_z w32 b)
-  minus-fits = subst (SFits w32) (sym as_is) small
+  pub minus_fits : SFits w32 (to_z w32 a -ℤ to_z w32 b)
+  minus_fits = subst (SFits w32) (sym as_is) small
 
   pub minus_is : to_z w32 (of_z w32 (to_z w32 a -ℤ to_z w32 b)) ≡ pos a -ℤ pos b
   minus_is = ap (λ (z : ℤ). to_z w32 (of_z w32 z)) as_is ∙ to_z-of_z w32 (pos a -ℤ pos b) small

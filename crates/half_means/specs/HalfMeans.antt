@@ -2,26 +2,26 @@
 use Rattle.std.specs.Prelude.{Bool, true, false, ◌&&◌, List, [], ◌∷◌, ℕ, ◌+◌, ◌*◌, eqb, ℤ, pos, ◌-ℤ◌, Float, length, take, drop}
 use Rattle.std.specs.Float.Ieee.{round}
 use Rattle.std.specs.Float.{binary64}
-use Rattle.refusal.specs.Refusal.{badState, wrongBodyLength, byteNotAllowed, notVisible}
+use Rattle.refusal.specs.Refusal.{bad_state, wrong_body_length, byte_not_allowed, not_visible}
 use Rattle.line_code.specs.declared.Kind.TheVariants.{VL}
-use Rattle.line_code.specs.LineCode.{kindNumber}
+use Rattle.line_code.specs.LineCode.{kind_number}
 use Rattle.profile.specs.declared.Profile.TheVariants.{VV5300}
-use Rattle.profile.specs.Profile.{profileNumber, bodyLength, imageStart}
-use Rattle.profile.specs.Layout.{rules, fits, gapFits}
+use Rattle.profile.specs.Profile.{profile_number, body_length, image_start}
+use Rattle.profile.specs.Layout.{rules, fits, gap_fits}
 use Rattle.half_means.specs.declared.Halves.{Halves}
 use Rattle.half_means.specs.declared.Halves.TheVariants.{Given, Refused}
 
 -- the image places where the halves start, and the pixels of each
-abbrev pub firstPlace : ℕ
-firstPlace = 16
+abbrev pub first_place : ℕ
+first_place = 16
 
 -- the image place where the second half begins
-abbrev pub secondPlace : ℕ
-secondPlace = 80
+abbrev pub second_place : ℕ
+second_place = 80
 
 -- how many pixels a half has
-abbrev pub halfLength : ℕ
-halfLength = 64
+abbrev pub half_length : ℕ
+half_length = 64
 
 -- the sum of bytes
 abbrev pub total : List ℕ → ℕ
@@ -29,24 +29,24 @@ total [] = 0
 total (b ∷ bs) = b + total bs
 
 -- the half of a body that starts at an image place
-abbrev pub halfAt : ℕ → List ℕ → List ℕ
-halfAt place body = take halfLength (drop (imageStart VV5300 + place) body)
+abbrev pub half_at : ℕ → List ℕ → List ℕ
+half_at place body = take half_length (drop (image_start VV5300 + place) body)
 
 -- image places 16 to 79, and 80 to 143: their sums
 unfoldable pub first_sum : List ℕ → ℕ
-first_sum body = total (halfAt firstPlace body)
+first_sum body = total (half_at first_place body)
 
 -- the sum of the second half's pixels
-unfoldable pub secondSum : List ℕ → ℕ
-secondSum body = total (halfAt secondPlace body)
+unfoldable pub second_sum : List ℕ → ℕ
+second_sum body = total (half_at second_place body)
 
 -- n / 64, rounded to an f64 (`exact`, in the laws: nothing is lost where n is below 2 ^ 53)
-unfoldable pub sixtyFourth : ℕ → Float
-sixtyFourth n = round binary64 false n halfLength
+unfoldable pub sixty_fourth : ℕ → Float
+sixty_fourth n = round binary64 false n half_length
 
 -- 64 times the sensor's byte, minus the sum
 unfoldable pub difference : ℕ → ℕ → ℤ
-difference byte sum = pos (halfLength * byte) -ℤ pos sum
+difference byte sum = pos (half_length * byte) -ℤ pos sum
 
 -- what a call says: the exact mean of each half, its sum, and the signed difference beside it; or a refusal with its number
 pub data HalfValues : Type 0 where
@@ -59,13 +59,13 @@ values_of (Given m s d e) = means m.first m.second s.first s.second d e
 values_of (Refused n) = refused n
 
 -- the program's answer that says this
-abbrev pub answerFor : HalfValues → Halves
-answerFor (means x y s t d e) = Given (record { first = x; second = y }) (record { first = s; second = t }) d e
-answerFor (refused n) = Refused n
+abbrev pub answer_for : HalfValues → Halves
+answer_for (means x y s t d e) = Given (record { first = x; second = y }) (record { first = s; second = t }) d e
+answer_for (refused n) = Refused n
 
 -- what is said of two sums beside the sensor's two bytes
-unfoldable pub besideOf : ℕ → ℕ → ℕ → ℕ → HalfValues
-besideOf s t a b = means (sixtyFourth s) (sixtyFourth t) s t (difference a s) (difference b t)
+unfoldable pub beside_of : ℕ → ℕ → ℕ → ℕ → HalfValues
+beside_of s t a b = means (sixty_fourth s) (sixty_fourth t) s t (difference a s) (difference b t)
 
 -- the values, if a test passes; else a refusal
 unfoldable pub require : Bool → ℕ → HalfValues → HalfValues
@@ -73,13 +73,13 @@ require true n v = v
 require false n v = refused n
 
 -- what a call says: of a profile and a kind by their numbers, a body and the sensor's two means
-unfoldable pub halfValues : ℕ → ℕ → List ℕ → ℕ → ℕ → HalfValues
-halfValues profile kind body a b =
-    require (eqb profile (profileNumber VV5300)) badState
-    (require (eqb kind (kindNumber VL)) notVisible
-    (require (eqb (length body) (bodyLength VV5300)) wrongBodyLength
-    (require (fits (rules VV5300 VL) body && gapFits VV5300 VL a b) byteNotAllowed (besideOf (first_sum body) (secondSum body) a b))))
+unfoldable pub half_values : ℕ → ℕ → List ℕ → ℕ → ℕ → HalfValues
+half_values profile kind body a b =
+    require (eqb profile (profile_number VV5300)) bad_state
+    (require (eqb kind (kind_number VL)) not_visible
+    (require (eqb (length body) (body_length VV5300)) wrong_body_length
+    (require (fits (rules VV5300 VL) body && gap_fits VV5300 VL a b) byte_not_allowed (beside_of (first_sum body) (second_sum body) a b))))
 
 -- the program's answer
-unfoldable pub halvesOf : ℕ → ℕ → List ℕ → ℕ → ℕ → Halves
-halvesOf profile kind body a b = answerFor (halfValues profile kind body a b)
+unfoldable pub halves_of : ℕ → ℕ → List ℕ → ℕ → ℕ → Halves
+halves_of profile kind body a b = answer_for (half_values profile kind body a b)

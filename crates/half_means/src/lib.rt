@@ -5,8 +5,8 @@
 // byte minus the sum, between -16,192 and 16,192. Nothing is judged. Refused, in this order: 11 no VV5300, 23 not a visible line, 15 the
 // body's length, 16 a body byte or a mean that is not allowed. Cost: linear in the body.
 ghost use Rattle.std.specs.Prelude.{◌≡◌, ◌≤◌, length};
-ghost use Rattle.half_means.specs.HalfMeans.{halfLength, total, halfAt, sixtyFourth, difference, values_of, besideOf, halfValues};
-ghost use Rattle.profile.specs.Profile.{bodyLength};
+ghost use Rattle.half_means.specs.HalfMeans.{half_length, total, half_at, sixty_fourth, difference, values_of, beside_of, half_values};
+ghost use Rattle.profile.specs.Profile.{body_length};
 ghost use Rattle.profile.specs.declared.Profile.TheVariants.{VV5300};
 
 use line_code::Kind;
@@ -46,7 +46,7 @@ pub const HALF: u16 = 64;
 
 // What is said of a line's two halves.
 pub fn of_line(profile: u8, kind: u8, body: &[u8], first: u8, second: u8) -> Halves
-    ensures { values_of result ≡ halfValues profile kind body.now first second }
+    ensures { values_of result ≡ half_values profile kind body.now first second }
 {
     if profile != VV5300 {
         return Halves::Refused(refusal::BAD_STATE);
@@ -67,7 +67,7 @@ pub fn of_line(profile: u8, kind: u8, body: &[u8], first: u8, second: u8) -> Hal
 
 // What is said of two sums beside the sensor's two means.
 fn beside(s: u16, t: u16, first: u8, second: u8) -> Halves
-    ensures { values_of result ≡ besideOf s t first second }
+    ensures { values_of result ≡ beside_of s t first second }
 {
     let means = Means {
         first: mean(s),
@@ -82,7 +82,7 @@ fn beside(s: u16, t: u16, first: u8, second: u8) -> Halves
 
 // The sum divided by 64: an f64 holds both, and the quotient, exactly.
 fn mean(sum: u16) -> f64
-    ensures { result ≡ sixtyFourth sum }
+    ensures { result ≡ sixty_fourth sum }
 {
     sum as f64 / HALF as f64
 }
@@ -97,8 +97,8 @@ fn difference(byte: u8, sum: u16) -> i32
 
 // The sum of the half that starts at an image place.
 fn half_sum(body: &[u8], place: usize) -> u16
-    requires { (length body.now ≡ bodyLength VV5300) × (place ≤ 80) }
-    ensures { result ≡ total (halfAt place body.now) }
+    requires { (length body.now ≡ body_length VV5300) × (place ≤ 80) }
+    ensures { result ≡ total (half_at place body.now) }
 {
     let start = Profile::VV5300.image_start() + place;
     total(&body[start..start + HALF as usize])
@@ -106,7 +106,7 @@ fn half_sum(body: &[u8], place: usize) -> u16
 
 // The sum of a half's bytes.
 fn total(half: &[u8]) -> u16
-    requires { length half.now ≤ halfLength }
+    requires { length half.now ≤ half_length }
     ensures { result ≡ total half.now }
 {
     let mut sum: u16 = 0;

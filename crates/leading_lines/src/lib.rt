@@ -4,7 +4,7 @@
 // the lines so far lie at places one after another, and a count of closing blank lines, whose numbers are free (paper 02, A3). Nothing is refused.
 // Cost: constant.
 ghost use Rattle.std.specs.Prelude.{◌≡◌, cond, ◌+◌};
-ghost use Rattle.leading_lines.specs.LeadingLines.{noLines, firstPlace, nextPlace, mostClosing, firstBlanks, nextBlanks, withLine, placeStands, isRun};
+ghost use Rattle.leading_lines.specs.LeadingLines.{no_lines, first_place, next_place, most_closing, first_blanks, next_blanks, with_line, place_stands, is_run};
 
 use frame_layout::Borders;
 use line_code::Kind;
@@ -23,7 +23,7 @@ pub struct LeadingLines {
 impl LeadingLines {
     // No line yet.
     pub fn new() -> LeadingLines
-        ensures { result ≡ noLines }
+        ensures { result ≡ no_lines }
     {
         LeadingLines {
             seen: false,
@@ -35,7 +35,7 @@ impl LeadingLines {
 
     // With a line.
     pub fn with(self, profile: Profile, kind: u8, number: u16) -> LeadingLines
-        ensures { result ≡ withLine profile self kind number }
+        ensures { result ≡ with_line profile self kind number }
     {
         if self.seen {
             return LeadingLines {
@@ -55,7 +55,7 @@ impl LeadingLines {
 
     // Whether they are a run of places; where a frame opened after them, up to a frame's last.
     pub fn is_run(self, profile: Profile, opened: bool) -> bool
-        ensures { result ≡ isRun profile opened self }
+        ensures { result ≡ is_run profile opened self }
     {
         if self.seen {
             if 0 < self.blanks {
@@ -72,7 +72,7 @@ impl LeadingLines {
 
 // The place due after a first line: its number tells its own, up to the EOF line's.
 fn first_place(profile: Profile, borders: Borders, kind: u8, number: u16) -> u16
-    ensures { result ≡ firstPlace profile borders kind number }
+    ensures { result ≡ first_place profile borders kind number }
 {
     if borders.end_place(profile) < number {
         return 0;
@@ -85,7 +85,7 @@ fn first_place(profile: Profile, borders: Borders, kind: u8, number: u16) -> u16
 
 // The place due after a line more.
 fn next_place(profile: Profile, borders: Borders, place: u16, kind: u8, number: u16) -> u16
-    ensures { result ≡ nextPlace profile borders place kind number }
+    ensures { result ≡ next_place profile borders place kind number }
 {
     if place == 0 {
         return 0;
@@ -100,7 +100,7 @@ fn next_place(profile: Profile, borders: Borders, place: u16, kind: u8, number: 
 }
 
 fn first_blanks(kind: u8) -> u16
-    ensures { result ≡ firstBlanks kind }
+    ensures { result ≡ first_blanks kind }
 {
     if kind == Kind::BL.number() {
         return 1;
@@ -109,7 +109,7 @@ fn first_blanks(kind: u8) -> u16
 }
 
 fn next_blanks(profile: Profile, blanks: u16, kind: u8) -> u16
-    ensures { result ≡ nextBlanks profile blanks kind }
+    ensures { result ≡ next_blanks profile blanks kind }
 {
     if blanks == 0 {
         return 0;
@@ -124,7 +124,7 @@ fn next_blanks(profile: Profile, blanks: u16, kind: u8) -> u16
 
 // The most blank lines after an EOF line.
 fn most_closing(profile: Profile) -> u16
-    ensures { result ≡ mostClosing profile }
+    ensures { result ≡ most_closing profile }
 {
     match profile {
         Profile::VV5404 => 3,
@@ -133,7 +133,7 @@ fn most_closing(profile: Profile) -> u16
 }
 
 fn place_stands(profile: Profile, opened: bool, place: u16) -> bool
-    ensures { result ≡ placeStands profile opened place }
+    ensures { result ≡ place_stands profile opened place }
 {
     if opened {
         return frame_layout::last_place(profile) < place;

@@ -4,8 +4,8 @@
 // or the line. Cost: constant, but that the body is scanned where length and number are right.
 ghost use Rattle.std.specs.Prelude.{◌≡◌};
 ghost use Rattle.line_code.specs.LineCode.{reading_of};
-ghost use Rattle.stream.specs.Answers.{answerFor};
-ghost use Rattle.line_answer.specs.KeptLine.{keptBody, keptLine};
+ghost use Rattle.stream.specs.Answers.{answer_for};
+ghost use Rattle.line_answer.specs.KeptLine.{kept_body, kept_line};
 
 use line_code::{Kind, Repair};
 use line_number::Decoded;
@@ -23,7 +23,7 @@ pub fn line_answer(
     body: &[u8],
     next: u8,
 ) -> Answer
-    ensures { result ≡ answerFor (keptLine profile kind start length kept body.now (reading_of next)) }
+    ensures { result ≡ answer_for (kept_line profile kind start length kept body.now (reading_of next)) }
 {
     let wanted = 2 * profile.body_length() + BODY_PLACE as usize;
     if length as usize == wanted {
@@ -45,7 +45,7 @@ fn body_answer(
     body: &[u8],
     next: u8,
 ) -> Answer
-    ensures { result ≡ answerFor (keptBody profile kind start number body.now (reading_of next)) }
+    ensures { result ≡ answer_for (kept_body profile kind start number body.now (reading_of next)) }
 {
     let n = profile.body_length();
     if body.len() < n {

@@ -13,50 +13,50 @@ use Rattle.line_code.specs.declared.LineKind.{LineKind}
 use Rattle.line_code.specs.declared.LineKind.TheVariants.{NotLine, LineOf}
 
 -- the paper's number of a line kind, 1 to 5
-abbrev pub kindNumber : Kind → ℕ
-kindNumber BL = 1
-kindNumber BK = 2
-kindNumber VL = 3
-kindNumber SOF = 4
-kindNumber EOF = 5
+abbrev pub kind_number : Kind → ℕ
+kind_number BL = 1
+kind_number BK = 2
+kind_number VL = 3
+kind_number SOF = 4
+kind_number EOF = 5
 
 -- the kind with a number, if it has one
-unfoldable pub kindNumbered : ℕ → LineKind
-kindNumbered n =
+unfoldable pub kind_numbered : ℕ → LineKind
+kind_numbered n =
     cond (eqb n 1) (LineOf BL)
     (cond (eqb n 2) (LineOf BK) (cond (eqb n 3) (LineOf VL) (cond (eqb n 4) (LineOf SOF) (cond (eqb n 5) (LineOf EOF) NotLine))))
 
 -- the code C2 C1 C0 of a meaning, 0 to 7
 abbrev pub code_of : Meaning → ℕ
 code_of EndOfLine = 0
-code_of (Line k) = kindNumber k
+code_of (Line k) = kind_number k
 code_of ReservedEC = 6
 code_of ReservedF1 = 7
 
 -- the codes 6 and 7
-unfoldable pub reservedOf : ℕ → Meaning
-reservedOf c = cond (eqb c 6) ReservedEC ReservedF1
+unfoldable pub reserved_of : ℕ → Meaning
+reserved_of c = cond (eqb c 6) ReservedEC ReservedF1
 
 -- a line, if the code is a kind's number, else the meaning given
-abbrev pub lineOr : LineKind → Meaning → Meaning
-lineOr (LineOf k) m = Line k
-lineOr NotLine m = m
+abbrev pub line_or : LineKind → Meaning → Meaning
+line_or (LineOf k) m = Line k
+line_or NotLine m = m
 
 -- the meaning of a code C2 C1 C0
-unfoldable pub meaningOf : ℕ → Meaning
-meaningOf c = cond (eqb c 0) EndOfLine (lineOr (kindNumbered c) (reservedOf c))
+unfoldable pub meaning_of : ℕ → Meaning
+meaning_of c = cond (eqb c 0) EndOfLine (line_or (kind_numbered c) (reserved_of c))
 
 -- the code bits C2 C1 C0 of a byte
-abbrev pub codeBits : ℕ → ℕ
-codeBits b = b / 16 % 8
+abbrev pub code_bits : ℕ → ℕ
+code_bits b = b / 16 % 8
 
 -- a count is even
 abbrev pub even : ℕ → Bool
 even n = eqb (n % 2) 0
 
 -- the four parity sums (004, Table 6): ones are even in each of C2 C1 C0 P0; C2 C1 P1; C2 C0 P2; C1 C0 P3
-abbrev pub parityHolds : ℕ → Bool
-parityHolds b =
+abbrev pub parity_holds : ℕ → Bool
+parity_holds b =
     even (bit b 6 + bit b 5 + bit b 4 + bit b 0)
     && (even (bit b 6 + bit b 5 + bit b 1) && (even (bit b 6 + bit b 4 + bit b 2) && even (bit b 5 + bit b 4 + bit b 3)))
 
@@ -66,11 +66,11 @@ top_bit b = eqb (b / 128) 1
 
 -- a clean byte: its top bit is 1, and the parity sums hold
 abbrev pub clean : ℕ → Bool
-clean b = top_bit b && parityHolds b
+clean b = top_bit b && parity_holds b
 
 -- the clean byte of a meaning: its parity bits make the four sums even
-unfoldable pub cleanByte : Meaning → ℕ
-cleanByte m =
+unfoldable pub clean_byte : Meaning → ℕ
+clean_byte m =
     let c : ℕ = code_of m in
     let c2 : ℕ = bit c 2 in
     let c1 : ℕ = bit c 1 in
@@ -78,79 +78,79 @@ cleanByte m =
     128 + 16 * c + 8 * ((c1 + c0) % 2) + 4 * ((c2 + c0) % 2) + 2 * ((c2 + c1) % 2) + (c2 + c1 + c0) % 2
 
 -- repaired to a clean byte that differs in one of the n lowest bits, which the reading names, or damaged
-abbrev pub repairedIn : ℕ → ℕ → Reading
-repairedIn zero b = Damaged
-repairedIn (suc n) b = cond (clean (flipped b n)) (Says (meaningOf (codeBits (flipped b n))) (Bit n)) (repairedIn n b)
+abbrev pub repaired_in : ℕ → ℕ → Reading
+repaired_in zero b = Damaged
+repaired_in (suc n) b = cond (clean (flipped b n)) (Says (meaning_of (code_bits (flipped b n))) (Bit n)) (repaired_in n b)
 
 -- the reading of a byte: clean, or repaired in one of its eight bits, or damaged
 unfoldable pub reading_of : ℕ → Reading
-reading_of b = cond (clean b) (Says (meaningOf (codeBits b)) Clean) (repairedIn 8 b)
+reading_of b = cond (clean b) (Says (meaning_of (code_bits b)) Clean) (repaired_in 8 b)
 
 -- the line kind that a meaning names
-abbrev pub kindMeant : Meaning → LineKind
-kindMeant EndOfLine = NotLine
-kindMeant (Line k) = LineOf k
-kindMeant ReservedEC = NotLine
-kindMeant ReservedF1 = NotLine
+abbrev pub kind_meant : Meaning → LineKind
+kind_meant EndOfLine = NotLine
+kind_meant (Line k) = LineOf k
+kind_meant ReservedEC = NotLine
+kind_meant ReservedF1 = NotLine
 
 -- the line kind of a clean or repaired code
 abbrev pub kind_of : Reading → LineKind
-kind_of (Says m r) = kindMeant m
+kind_of (Says m r) = kind_meant m
 kind_of Damaged = NotLine
 
 -- the meaning is end of line
-abbrev pub endMeant : Meaning → Bool
-endMeant EndOfLine = true
-endMeant (Line k) = false
-endMeant ReservedEC = false
-endMeant ReservedF1 = false
+abbrev pub end_meant : Meaning → Bool
+end_meant EndOfLine = true
+end_meant (Line k) = false
+end_meant ReservedEC = false
+end_meant ReservedF1 = false
 
 -- end of line, clean or repaired
-abbrev pub isEnd : Reading → Bool
-isEnd (Says m r) = endMeant m
-isEnd Damaged = false
+abbrev pub is_end : Reading → Bool
+is_end (Says m r) = end_meant m
+is_end Damaged = false
 
 -- what was repaired: of a damaged code nothing
-abbrev pub repairOf : Reading → Repair
-repairOf (Says m r) = r
-repairOf Damaged = Clean
+abbrev pub repair_of : Reading → Repair
+repair_of (Says m r) = r
+repair_of Damaged = Clean
 
 -- a bit was repaired
-abbrev pub isBit : Repair → Bool
-isBit Clean = false
-isBit (Bit i) = true
+abbrev pub is_bit : Repair → Bool
+is_bit Clean = false
+is_bit (Bit i) = true
 
 -- a clean code
-abbrev pub isClean : Reading → Bool
-isClean (Says m Clean) = true
-isClean (Says m (Bit i)) = false
-isClean Damaged = false
+abbrev pub is_clean : Reading → Bool
+is_clean (Says m Clean) = true
+is_clean (Says m (Bit i)) = false
+is_clean Damaged = false
 
 -- a repaired code
-abbrev pub isRepaired : Reading → Bool
-isRepaired r = isBit (repairOf r)
+abbrev pub is_repaired : Reading → Bool
+is_repaired r = is_bit (repair_of r)
 
 -- a damaged code
-abbrev pub isDamaged : Reading → Bool
-isDamaged (Says m r) = false
-isDamaged Damaged = true
+abbrev pub is_damaged : Reading → Bool
+is_damaged (Says m r) = false
+is_damaged Damaged = true
 
 -- A reading as a number, and back: what the program's table holds.
 
 -- 0 for no repair, else one more than the bit
-abbrev pub repairNumber : Repair → ℕ
-repairNumber Clean = 0
-repairNumber (Bit i) = i + 1
+abbrev pub repair_number : Repair → ℕ
+repair_number Clean = 0
+repair_number (Bit i) = i + 1
 
 -- the repair of a number
-unfoldable pub repairNumbered : ℕ → Repair
-repairNumbered n = cond (eqb n 0) Clean (Bit (n - 1))
+unfoldable pub repair_numbered : ℕ → Repair
+repair_numbered n = cond (eqb n 0) Clean (Bit (n - 1))
 
 -- in hexadecimal, the low digit is the code, 0 to 7, and the high one the repair; 8 is damaged
-abbrev pub readingNumber : Reading → ℕ
-readingNumber (Says m r) = 16 * repairNumber r + code_of m
-readingNumber Damaged = 8
+abbrev pub reading_number : Reading → ℕ
+reading_number (Says m r) = 16 * repair_number r + code_of m
+reading_number Damaged = 8
 
 -- the reading of a number: meaning in its low four bits, repair above them
-unfoldable pub readingNumbered : ℕ → Reading
-readingNumbered n = cond (ltb (n % 16) 8) (Says (meaningOf (n % 16)) (repairNumbered (n / 16))) Damaged
+unfoldable pub reading_numbered : ℕ → Reading
+reading_numbered n = cond (ltb (n % 16) 8) (Says (meaning_of (n % 16)) (repair_numbered (n / 16))) Damaged

@@ -3,7 +3,7 @@
 // In: the byte after a mark's F F F F 0 0. Out: how it reads: one of eight meanings, clean or with one of its eight bits repaired (and
 // which), or damaged. Every byte has a reading, so nothing is refused here. Cost: a few operations, no loop.
 ghost use Rattle.std.specs.Prelude.{◌≡◌, ◌%◌, ◌<◌};
-ghost use Rattle.line_code.specs.LineCode.{meaningOf, reservedOf, kindMeant, endMeant, cleanByte, reading_of, readingNumbered, repairNumber, repairNumbered, kind_of, isEnd, repairOf, isBit, kindNumber, kindNumbered};
+ghost use Rattle.line_code.specs.LineCode.{meaning_of, reserved_of, kind_meant, end_meant, clean_byte, reading_of, reading_numbered, repair_number, repair_numbered, kind_of, is_end, repair_of, is_bit, kind_number, kind_numbered};
 ghost use Rattle.line_code.specs.Parts.{entry_at, RowHolds};
 ghost use Rattle.line_code.specs.declared.Meaning.TheVariants.{Line};
 
@@ -50,7 +50,7 @@ pub enum LineKind {
 impl Kind {
     // The paper's number of the kind.
     pub fn number(self) -> u8
-        ensures { result ≡ kindNumber self }
+        ensures { result ≡ kind_number self }
     {
         match self {
             Kind::BL => 1,
@@ -63,7 +63,7 @@ impl Kind {
 
     // The clean byte that starts a line of this kind.
     pub fn clean_byte(self) -> u8
-        ensures { result ≡ cleanByte (Line self) }
+        ensures { result ≡ clean_byte (Line self) }
     {
         match self {
             Kind::BL => 0x9D,
@@ -76,7 +76,7 @@ impl Kind {
 
     // The kind with this number: none but 1 to 5 have one.
     pub fn numbered(n: u8) -> LineKind
-        ensures { result ≡ kindNumbered n }
+        ensures { result ≡ kind_numbered n }
     {
         if n == 1 {
             return LineKind::LineOf(Kind::BL);
@@ -100,7 +100,7 @@ impl Kind {
 impl Meaning {
     // The clean byte that says this.
     pub fn clean_byte(self) -> u8
-        ensures { result ≡ cleanByte self }
+        ensures { result ≡ clean_byte self }
     {
         match self {
             Meaning::EndOfLine => 0x80,
@@ -114,7 +114,7 @@ impl Meaning {
 impl Repair {
     // Whether a bit was repaired.
     pub fn is_bit(self) -> bool
-        ensures { result ≡ isBit self }
+        ensures { result ≡ is_bit self }
     {
         match self {
             Repair::Clean => false,
@@ -124,7 +124,7 @@ impl Repair {
 
     // The repair as a number: 0 for none, else one more than the bit's.
     pub fn number(self) -> u16
-        ensures { result ≡ repairNumber self }
+        ensures { result ≡ repair_number self }
     {
         match self {
             Repair::Clean => 0,
@@ -146,7 +146,7 @@ impl Reading {
 
     // Whether it is end of line, clean or repaired.
     pub fn is_end(self) -> bool
-        ensures { result ≡ isEnd self }
+        ensures { result ≡ is_end self }
     {
         match self {
             Reading::Says(m, _) => says_end(m),
@@ -156,7 +156,7 @@ impl Reading {
 
     // What was repaired: of a damaged code nothing.
     pub fn repair(self) -> Repair
-        ensures { result ≡ repairOf self }
+        ensures { result ≡ repair_of self }
     {
         match self {
             Reading::Says(_, repair) => repair,
@@ -227,7 +227,7 @@ fn entry(row: u64, place: u8) -> u8
 
 // The reading with a number.
 fn reading_numbered(n: u8) -> Reading
-    ensures { result ≡ readingNumbered n }
+    ensures { result ≡ reading_numbered n }
 {
     let code = n % 16;
     if code < 8 {
@@ -240,7 +240,7 @@ fn reading_numbered(n: u8) -> Reading
 
 // The repair with a number.
 fn repair_numbered(n: u8) -> Repair
-    ensures { result ≡ repairNumbered n }
+    ensures { result ≡ repair_numbered n }
 {
     if n == 0 {
         return Repair::Clean;
@@ -250,7 +250,7 @@ fn repair_numbered(n: u8) -> Repair
 
 // The meaning with a code number.
 fn meaning_of(code: u8) -> Meaning
-    ensures { result ≡ meaningOf code }
+    ensures { result ≡ meaning_of code }
 {
     if code == 0 {
         return Meaning::EndOfLine;
@@ -263,7 +263,7 @@ fn meaning_of(code: u8) -> Meaning
 }
 
 fn reserved(code: u8) -> Meaning
-    ensures { result ≡ reservedOf code }
+    ensures { result ≡ reserved_of code }
 {
     if code == 6 {
         return Meaning::ReservedEC;
@@ -272,7 +272,7 @@ fn reserved(code: u8) -> Meaning
 }
 
 fn kind_of(m: Meaning) -> LineKind
-    ensures { result ≡ kindMeant m }
+    ensures { result ≡ kind_meant m }
 {
     match m {
         Meaning::EndOfLine => LineKind::NotLine,
@@ -283,7 +283,7 @@ fn kind_of(m: Meaning) -> LineKind
 }
 
 fn says_end(m: Meaning) -> bool
-    ensures { result ≡ endMeant m }
+    ensures { result ≡ end_meant m }
 {
     match m {
         Meaning::EndOfLine => true,

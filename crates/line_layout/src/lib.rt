@@ -6,9 +6,9 @@
 ghost use Rattle.std.specs.Prelude.{◌≡◌, ◌≤◌, get_or};
 ghost use Rattle.line_code.specs.declared.Kind.TheVariants.{BK, SOF, EOF};
 ghost use Rattle.profile.specs.declared.Rule.TheVariants.{Filler};
-ghost use Rattle.profile.specs.Profile.{imageStart};
-ghost use Rattle.profile.specs.Layout.{rules, fits, bothAre, bothPixels, gapFits};
-ghost use Rattle.line_layout.specs.Places.{border, averagesReach, ruleWithin, imageWithin, evenly};
+ghost use Rattle.profile.specs.Profile.{image_start};
+ghost use Rattle.profile.specs.Layout.{rules, fits, both_are, both_pixels, gap_fits};
+ghost use Rattle.line_layout.specs.Places.{border, averages_reach, rule_within, image_within, evenly};
 
 use line_code::Kind;
 use profile::{Profile, Rule};
@@ -47,7 +47,7 @@ pub fn body_fits(profile: Profile, kind: Kind, body: &[u8]) -> bool
 
 // Whether these two bytes may follow the end of a line of this kind.
 pub fn gap_fits(profile: Profile, kind: Kind, first: u8, second: u8) -> bool
-    ensures { result ≡ gapFits profile kind first second }
+    ensures { result ≡ gap_fits profile kind first second }
 {
     match profile {
         Profile::VV5404 => both_are(Profile::NULL, first, second),
@@ -100,7 +100,7 @@ fn border(profile: Profile) -> usize
 
 // How far into the image of an EOF line bin averages reach.
 fn averages(profile: Profile) -> usize
-    ensures { result ≡ averagesReach profile }
+    ensures { result ≡ averages_reach profile }
 {
     match profile {
         Profile::VV5404 => 0,
@@ -110,8 +110,8 @@ fn averages(profile: Profile) -> usize
 
 // The rule within the image and a margin on either side of it.
 fn image_at(profile: Profile, place: usize, margin: usize, rule: Rule) -> Rule
-    requires { margin ≤ imageStart profile }
-    ensures { result ≡ imageWithin profile margin place rule }
+    requires { margin ≤ image_start profile }
+    ensures { result ≡ image_within profile margin place rule }
 {
     let start = profile.image_start();
     within(
@@ -124,7 +124,7 @@ fn image_at(profile: Profile, place: usize, margin: usize, rule: Rule) -> Rule
 
 // The rule, from one place up to another; elsewhere the filler.
 fn within(place: usize, from: usize, to: usize, rule: Rule) -> Rule
-    ensures { result ≡ ruleWithin place from to rule }
+    ensures { result ≡ rule_within place from to rule }
 {
     if place < from {
         return Rule::Filler;
@@ -147,7 +147,7 @@ fn at_even(place: usize, rule: Rule) -> Rule
 
 // Whether both bytes are x.
 fn both_are(x: u8, a: u8, b: u8) -> bool
-    ensures { result ≡ bothAre x a b }
+    ensures { result ≡ both_are x a b }
 {
     if a == x {
         return b == x;
@@ -157,7 +157,7 @@ fn both_are(x: u8, a: u8, b: u8) -> bool
 
 // Whether both bytes are pixels or means.
 fn both_pixels(a: u8, b: u8) -> bool
-    ensures { result ≡ bothPixels a b }
+    ensures { result ≡ both_pixels a b }
 {
     if profile::is_pixel(a) {
         return profile::is_pixel(b);

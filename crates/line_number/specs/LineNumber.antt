@@ -11,21 +11,21 @@ abbrev pub greatest : ℕ
 greatest = 4095
 
 -- a 6-bit value as a byte: a 0, the six bits, then a bit that makes the count of ones odd
-unfoldable pub numberByte : ℕ → ℕ
-numberByte v = 2 * v + (ones v + 1) % 2
+unfoldable pub number_byte : ℕ → ℕ
+number_byte v = 2 * v + (ones v + 1) % 2
 
 -- a number byte: top bit 0, and an odd count of ones
-unfoldable pub numberGood : ℕ → Bool
-numberGood b = ltb b 128 && eqb (ones b % 2) 1
+unfoldable pub number_good : ℕ → Bool
+number_good b = ltb b 128 && eqb (ones b % 2) 1
 
 -- the number of two number bytes
-abbrev pub numberFrom : ℕ → ℕ → ℕ
-numberFrom high low = 64 * (high / 2) + low / 2
+abbrev pub number_from : ℕ → ℕ → ℕ
+number_from high low = 64 * (high / 2) + low / 2
 
 -- a number as two bytes, the high one first
-abbrev pub encodeOf : ℕ → Encoded
-encodeOf n = cond (leb n greatest) (Bytes (numberByte (n / 64)) (numberByte (n % 64))) TooLarge
+abbrev pub encode_of : ℕ → Encoded
+encode_of n = cond (leb n greatest) (Bytes (number_byte (n / 64)) (number_byte (n % 64))) TooLarge
 
 -- the number of two bytes, or bad
-abbrev pub decodeOf : ℕ → ℕ → Decoded
-decodeOf high low = cond (numberGood high && numberGood low) (Number (numberFrom high low)) Bad
+abbrev pub decode_of : ℕ → ℕ → Decoded
+decode_of high low = cond (number_good high && number_good low) (Number (number_from high low)) Bad

@@ -3,7 +3,7 @@
 // A number of 12 bits stands in two bytes, high six bits first: each byte is a 0, six bits, and a bit that makes its count of ones odd.
 // Refused: encoding a number above 4095; decoding a byte with top bit 1 or an even count of ones. Cost: constant.
 ghost use Rattle.std.specs.Prelude.{◌≡◌, ◌<◌};
-ghost use Rattle.line_number.specs.LineNumber.{numberByte, numberGood, encodeOf, decodeOf};
+ghost use Rattle.line_number.specs.LineNumber.{number_byte, number_good, encode_of, decode_of};
 
 // Two number bytes, read.
 #[derive(Drop)]
@@ -27,7 +27,7 @@ const SIX_BITS: u16 = 64;
 
 // The number's two bytes: TooLarge above 4095.
 pub fn encode(number: u16) -> Encoded
-    ensures { result ≡ encodeOf number }
+    ensures { result ≡ encode_of number }
 {
     if GREATEST < number {
         return Encoded::TooLarge;
@@ -39,7 +39,7 @@ pub fn encode(number: u16) -> Encoded
 
 // The number of two bytes: Bad if either of them is no number byte.
 pub fn decode(high: u8, low: u8) -> Decoded
-    ensures { result ≡ decodeOf high low }
+    ensures { result ≡ decode_of high low }
 {
     if is_good(high) {
         if is_good(low) {
@@ -51,7 +51,7 @@ pub fn decode(high: u8, low: u8) -> Decoded
 
 // Whether a byte is a number byte.
 pub fn is_good(byte: u8) -> bool
-    ensures { result ≡ numberGood byte }
+    ensures { result ≡ number_good byte }
 {
     if byte < 128 {
         return u8::count_ones(byte) % 2 == 1;
@@ -62,7 +62,7 @@ pub fn is_good(byte: u8) -> bool
 // The byte of six bits.
 fn number_byte(v: u8) -> u8
     requires { v < 64 }
-    ensures { result ≡ numberByte v }
+    ensures { result ≡ number_byte v }
 {
     v * 2 + ((u8::count_ones(v) + 1) % 2) as u8
 }

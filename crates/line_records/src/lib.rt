@@ -5,7 +5,7 @@
 // Out: whether its numbers rise strictly, whether they and its kinds are those of lines, and the number that it starts with, of its whole lines.
 // Nothing is refused. Cost: linear in the lines.
 ghost use Rattle.std.specs.Prelude.{◌≡◌, not, ◌≤◌, ◌<◌, length};
-ghost use Rattle.line_records.specs.Lines.{headSize, noLine, frontLine, headedLines, rises, numbersSmall, kindsKnown, lineEnd, Next};
+ghost use Rattle.line_records.specs.Lines.{head_size, no_line, front_line, headed_lines, rises, numbers_small, kinds_known, line_end, Next};
 
 use line_code::Kind;
 use profile::Profile;
@@ -23,7 +23,7 @@ pub const NO_LINE: usize = 65536;
 
 // Whether a number is not above the one before it.
 pub fn some_falls(list: &[u8]) -> bool
-    ensures { rises (headedLines list.now) ≡ not result }
+    ensures { rises (headed_lines list.now) ≡ not result }
 {
     let mut least: usize = 0;
     let mut i: usize = 0;
@@ -40,7 +40,7 @@ pub fn some_falls(list: &[u8]) -> bool
 
 // Whether a number is above 4095.
 pub fn some_number_past(list: &[u8]) -> bool
-    ensures { numbersSmall (headedLines list.now) ≡ not result }
+    ensures { numbers_small (headed_lines list.now) ≡ not result }
 {
     let mut i: usize = 0;
     while HEAD <= list.len() - i {
@@ -54,7 +54,7 @@ pub fn some_number_past(list: &[u8]) -> bool
 
 // Whether a kind is not 1 to 5.
 pub fn some_kind_bad(list: &[u8]) -> bool
-    ensures { kindsKnown (headedLines list.now) ≡ not result }
+    ensures { kinds_known (headed_lines list.now) ≡ not result }
 {
     let mut i: usize = 0;
     while HEAD <= list.len() - i {
@@ -83,7 +83,7 @@ pub fn next_number(list: &[u8]) -> usize
 // The place where the line at a place ends: the next line's, or the list's end.
 fn line_end(place: usize, size: usize) -> usize
     requires { place ≤ size }
-    ensures { result ≡ lineEnd place size }
+    ensures { result ≡ line_end place size }
 {
     if size - place < LINE {
         return size;
@@ -93,8 +93,8 @@ fn line_end(place: usize, size: usize) -> usize
 
 // The number of the line at the front.
 fn number(line: &[u8]) -> usize
-    requires { headSize ≤ length line.now }
-    ensures { (result ≡ (frontLine line.now).number) × (result < noLine) }
+    requires { head_size ≤ length line.now }
+    ensures { (result ≡ (front_line line.now).number) × (result < no_line) }
 {
     256 * wide(line[1]) + wide(line[2])
 }

@@ -6,11 +6,11 @@
 // runs, and linear in the text.
 ghost use Rattle.std.specs.Prelude.{◌≡◌, ◌+◌, ◌≤◌, length, drop};
 ghost use Rattle.stream.specs.Written.{nibbles};
-ghost use Rattle.verdict.specs.Verdict.{verdictOf};
-ghost use Rattle.verdict_report.specs.Report.{reportRoom, reportOf};
-ghost use Rattle.list_news.specs.NewsLines.{newsLine, newsRoom};
+ghost use Rattle.verdict.specs.Verdict.{verdict_of};
+ghost use Rattle.verdict_report.specs.Report.{report_room, report_of};
+ghost use Rattle.list_news.specs.NewsLines.{news_line, news_room};
 ghost use Rattle.text.specs.Put.{Put};
-ghost use Rattle.list_frames.specs.FrameLister.{ListsFrames, freshLister, listed_of, finishedOf};
+ghost use Rattle.list_frames.specs.FrameLister.{ListsFrames, fresh_lister, listed_of, finished_of};
 
 use findings::Findings;
 use frame_tally::News;
@@ -36,7 +36,7 @@ pub struct FramesListed {
 impl FrameLister {
     // A fresh reader, and nothing found.
     pub fn new(profile: Profile) -> FrameLister
-        ensures { result ≡ freshLister profile }
+        ensures { result ≡ fresh_lister profile }
     {
         let reader = Reader::fresh(profile);
         let findings = Findings::new(profile);
@@ -83,7 +83,7 @@ impl FrameLister {
     // Lists the last frame, if there is news of it, and the report below, and leaves a fresh lister. A buffer of fewer than END bytes leaves
     // all as it was.
     pub fn finish(self, out: &mut [u8]) -> FramesListed
-        ensures { ListsFrames (finishedOf self (length out.old)) result out.old out.new }
+        ensures { ListsFrames (finished_of self (length out.old)) result out.old out.new }
     {
         if out.len() < END {
             return FramesListed {
@@ -120,16 +120,16 @@ pub const END: usize = list_news::ROOM + verdict_report::ROOM;
 
 // Puts the line on a frame at a place, and gives the place after it.
 fn put_news(news: News, out: &mut [u8], at: usize) -> usize
-    requires { at + newsRoom ≤ length out.old }
-    ensures { Put out.old at (newsLine news) result out.new }
+    requires { at + news_room ≤ length out.old }
+    ensures { Put out.old at (news_line news) result out.new }
 {
     at + list_news::news(news, &mut out[at..])
 }
 
 // Puts the report, with its verdict.
 fn put_findings(findings: Findings, lost: bool, out: &mut [u8], at: usize) -> usize
-    requires { at + reportRoom ≤ length out.old }
-    ensures { Put out.old at (reportOf findings lost (verdictOf findings lost)) result out.new }
+    requires { at + report_room ≤ length out.old }
+    ensures { Put out.old at (report_of findings lost (verdict_of findings lost)) result out.new }
 {
     let verdict = Verdict::of(findings, lost);
     at + verdict_report::put_report(findings, lost, verdict, &mut out[at..])

@@ -6,9 +6,9 @@
 // in the text.
 ghost use Rattle.std.specs.Prelude.{◌≡◌, ◌+◌, ◌≤◌, length, drop};
 ghost use Rattle.stream.specs.Written.{nibbles};
-ghost use Rattle.list_rows.specs.Rows.{row_of, rowRoom};
+ghost use Rattle.list_rows.specs.Rows.{row_of, row_room};
 ghost use Rattle.text.specs.Put.{Put};
-ghost use Rattle.list_marks.specs.MarkLister.{ListsMarks, freshLister, marksWith, listed_of, finishedOf};
+ghost use Rattle.list_marks.specs.MarkLister.{ListsMarks, fresh_lister, marks_with, listed_of, finished_of};
 
 use counts::one_more;
 use profile::Profile;
@@ -33,7 +33,7 @@ pub struct MarksListed {
 impl MarkLister {
     // A fresh reader, and no mark.
     pub fn new(profile: Profile) -> MarkLister
-        ensures { result ≡ freshLister profile }
+        ensures { result ≡ fresh_lister profile }
     {
         let reader = Reader::fresh(profile);
         MarkLister { reader, marks: 0 }
@@ -76,7 +76,7 @@ impl MarkLister {
 
     // Lists the last mark, if there is one, and leaves a fresh lister. A buffer with less room than a row can ask for leaves all as it was.
     pub fn finish(self, out: &mut [u8]) -> MarksListed
-        ensures { ListsMarks (finishedOf self (length out.old)) result out.old out.new }
+        ensures { ListsMarks (finished_of self (length out.old)) result out.old out.new }
     {
         if out.len() < list_rows::ROW {
             return MarksListed {
@@ -102,7 +102,7 @@ impl MarkLister {
 
 // The marks with an answer.
 fn with_mark(marks: u64, answer: Answer) -> u64
-    ensures { result ≡ marksWith marks answer }
+    ensures { result ≡ marks_with marks answer }
 {
     if answer.is_answer() {
         return one_more(marks);
@@ -112,7 +112,7 @@ fn with_mark(marks: u64, answer: Answer) -> u64
 
 // Puts the row of a mark at a place, and gives the place after it.
 fn put_row(mark: u64, answer: Answer, out: &mut [u8], at: usize) -> usize
-    requires { at + rowRoom ≤ length out.old }
+    requires { at + row_room ≤ length out.old }
     ensures { Put out.old at (row_of mark answer) result out.new }
 {
     at + list_rows::row(mark, answer, &mut out[at..])

@@ -8,8 +8,8 @@ ghost use Rattle.std.specs.Prelude.{◌≡◌, ◌+◌, ◌≤◌, length, drop}
 ghost use Rattle.profile.specs.Profile.{longest};
 ghost use Rattle.stream.specs.Written.{nibbles};
 ghost use Rattle.text.specs.Put.{Put};
-ghost use Rattle.mean_rows.specs.MeanRows.{meansRow, meansRoom};
-ghost use Rattle.list_means.specs.MeanLister.{freshLister, gapRow, answerRow, text_of, listed_of, finishedOf, ListsMeans};
+ghost use Rattle.mean_rows.specs.MeanRows.{means_row, means_room};
+ghost use Rattle.list_means.specs.MeanLister.{fresh_lister, gap_row, answer_row, text_of, listed_of, finished_of, ListsMeans};
 
 use half_means::Halves;
 use line_code::Kind;
@@ -37,7 +37,7 @@ pub struct MeansListed {
 impl MeanLister {
     // A fresh VV5300 reader, an empty line buffer, and a line awaited.
     pub fn new() -> MeanLister
-        ensures { result ≡ freshLister }
+        ensures { result ≡ fresh_lister }
     {
         let reader = Reader::fresh(Profile::VV5300);
         let line = [0u8; Profile::LONGEST];
@@ -91,7 +91,7 @@ impl MeanLister {
     // Lists the last mark, if there is one, and leaves a fresh reader, with a line awaited. A buffer with less room than a row can ask for
     // leaves all as it was.
     pub fn finish(self, out: &mut [u8]) -> MeansListed
-        ensures { ListsMeans (finishedOf self (length out.old)) result out.old out.new }
+        ensures { ListsMeans (finished_of self (length out.old)) result out.old out.new }
     {
         if out.len() < mean_rows::ROOM {
             return MeansListed {
@@ -123,7 +123,7 @@ impl MeanLister {
 
 // Puts the row that an answer completes, if it does, at a place, and gives the place after it.
 fn put_text(awaits: Awaits, answer: Answer, line: &[u8], out: &mut [u8], at: usize) -> usize
-    requires { (length line.now ≡ longest) × (at + meansRoom ≤ length out.old) }
+    requires { (length line.now ≡ longest) × (at + means_room ≤ length out.old) }
     ensures { Put out.old at (text_of awaits answer line.now) result out.new }
 {
     match awaits {
@@ -134,8 +134,8 @@ fn put_text(awaits: Awaits, answer: Answer, line: &[u8], out: &mut [u8], at: usi
 
 // Puts the row of the visible line with this number, where its gap is answered.
 fn put_answer(number: u16, answer: Answer, line: &[u8], out: &mut [u8], at: usize) -> usize
-    requires { (length line.now ≡ longest) × (at + meansRoom ≤ length out.old) }
-    ensures { Put out.old at (answerRow number answer line.now) result out.new }
+    requires { (length line.now ≡ longest) × (at + means_room ≤ length out.old) }
+    ensures { Put out.old at (answer_row number answer line.now) result out.new }
 {
     match answer {
         Answer::Nothing => at,
@@ -146,8 +146,8 @@ fn put_answer(number: u16, answer: Answer, line: &[u8], out: &mut [u8], at: usiz
 }
 
 fn put_gap(number: u16, gap: GapFacts, line: &[u8], out: &mut [u8], at: usize) -> usize
-    requires { (length line.now ≡ longest) × (at + meansRoom ≤ length out.old) }
-    ensures { Put out.old at (gapRow number gap line.now) result out.new }
+    requires { (length line.now ≡ longest) × (at + means_room ≤ length out.old) }
+    ensures { Put out.old at (gap_row number gap line.now) result out.new }
 {
     let body = &line[..Profile::VV5300.body_length()];
     let halves = half_means::of_line(1, Kind::VL.number(), body, gap.first, gap.second);
@@ -156,8 +156,8 @@ fn put_gap(number: u16, gap: GapFacts, line: &[u8], out: &mut [u8], at: usize) -
 
 // A row has room.
 fn put_row(number: u16, first: u8, second: u8, halves: Halves, out: &mut [u8], at: usize) -> usize
-    requires { at + meansRoom ≤ length out.old }
-    ensures { Put out.old at (meansRow number first second halves) result out.new }
+    requires { at + means_room ≤ length out.old }
+    ensures { Put out.old at (means_row number first second halves) result out.new }
 {
     mean_rows::put_row(number, first, second, halves, out, at)
 }

@@ -4,7 +4,7 @@
 // than ROOM bytes stays as it was, and the count is 0. Cost: linear in the line.
 ghost use Rattle.std.specs.Prelude.{length};
 ghost use Rattle.text.specs.Put.{Puts, AtFront};
-ghost use Rattle.list_news.specs.NewsLines.{frameWords, bordersWord, brokenLineWords, reasonWords, completeLine, brokenLineOf, newsLine, newsIfRoom};
+ghost use Rattle.list_news.specs.NewsLines.{frame_words, borders_word, broken_line_words, reason_words, complete_line, broken_line_of, news_line, news_if_room};
 
 use frame_judge::KnownBorders;
 use frame_layout::Borders;
@@ -16,7 +16,7 @@ pub const ROOM: usize = 144;
 
 // Puts the line of a frame at the front of a buffer: none where there is no news.
 pub fn news(news: News, out: &mut [u8]) -> usize
-    ensures { AtFront (newsIfRoom (length out.old) (newsLine news)) result out.old out.new }
+    ensures { AtFront (news_if_room (length out.old) (news_line news)) result out.old out.new }
 {
     if out.len() < ROOM {
         return 0;
@@ -39,7 +39,7 @@ pub fn news(news: News, out: &mut [u8]) -> usize
 }
 
 fn put_complete(frame: u64, borders: KnownBorders, mark: u64, out: &mut [u8]) -> usize
-    ensures { Puts out.old 0 (completeLine frame borders mark) result out.new }
+    ensures { Puts out.old 0 (complete_line frame borders mark) result out.new }
 {
     let at = put_frame(frame, out);
     let at = put(b" complete, borders ", out, at);
@@ -49,7 +49,7 @@ fn put_complete(frame: u64, borders: KnownBorders, mark: u64, out: &mut [u8]) ->
 }
 
 fn put_broken(frame: u64, mark: u64, refusal: u8, own: u8, out: &mut [u8]) -> usize
-    ensures { Puts out.old 0 (brokenLineOf frame mark refusal own) result out.new }
+    ensures { Puts out.old 0 (broken_line_of frame mark refusal own) result out.new }
 {
     let at = put_frame(frame, out);
     let at = put(b" broken at mark ", out, at);
@@ -60,14 +60,14 @@ fn put_broken(frame: u64, mark: u64, refusal: u8, own: u8, out: &mut [u8]) -> us
 }
 
 fn put_frame(frame: u64, out: &mut [u8]) -> usize
-    ensures { Puts out.old 0 (frameWords frame) result out.new }
+    ensures { Puts out.old 0 (frame_words frame) result out.new }
 {
     let at = put(b"frame ", out, 0);
     put_decimal(frame, out, at)
 }
 
 fn put_borders(borders: KnownBorders, out: &mut [u8], at: usize) -> usize
-    ensures { Puts out.old at (bordersWord borders) result out.new }
+    ensures { Puts out.old at (borders_word borders) result out.new }
 {
     match borders {
         KnownBorders::Unsettled => put(b"unsettled", out, at),
@@ -80,7 +80,7 @@ fn put_borders(borders: KnownBorders, out: &mut [u8], at: usize) -> usize
 
 // Why a frame broke.
 fn put_reason(refusal: u8, own: u8, out: &mut [u8], at: usize) -> usize
-    ensures { Puts out.old at (reasonWords refusal own) result out.new }
+    ensures { Puts out.old at (reason_words refusal own) result out.new }
 {
     if refusal == refusal::NOT_THE_LINE_DUE {
         return put(b", not the line due", out, at);
@@ -92,7 +92,7 @@ fn put_reason(refusal: u8, own: u8, out: &mut [u8], at: usize) -> usize
 }
 
 fn put_broken_line(own: u8, out: &mut [u8], at: usize) -> usize
-    ensures { Puts out.old at (brokenLineWords own) result out.new }
+    ensures { Puts out.old at (broken_line_words own) result out.new }
 {
     let at = put(b", a broken line (its answer: ", out, at);
     let at = put_decimal(own as u64, out, at);

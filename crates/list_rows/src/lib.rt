@@ -4,7 +4,7 @@
 // a buffer of fewer than ROW bytes stays as it was, and the count is 0. Cost: linear in the row.
 ghost use Rattle.std.specs.Prelude.{length};
 ghost use Rattle.text.specs.Put.{Puts, AtFront};
-ghost use Rattle.list_rows.specs.Rows.{headerRow, kindWord, noteWord, gapWords, lineWords, refusedWords, rowWith, row_of, rowIfRoom};
+ghost use Rattle.list_rows.specs.Rows.{header_row, kind_word, note_word, gap_words, line_words, refused_words, row_with, row_of, row_if_room};
 
 use line_code::Kind;
 use stream::{Answer, LineFacts};
@@ -15,7 +15,7 @@ pub const ROW: usize = 64;
 
 // Puts the first row, which names the columns, at the front of a buffer.
 pub fn header(out: &mut [u8]) -> usize
-    ensures { AtFront (rowIfRoom (length out.old) headerRow) result out.old out.new }
+    ensures { AtFront (row_if_room (length out.old) header_row) result out.old out.new }
 {
     if out.len() < ROW {
         return 0;
@@ -25,7 +25,7 @@ pub fn header(out: &mut [u8]) -> usize
 
 // Puts the row of a mark, counted from 1, and its answer at the front of a buffer: no row where there is no answer.
 pub fn row(mark: u64, answer: Answer, out: &mut [u8]) -> usize
-    ensures { AtFront (rowIfRoom (length out.old) (row_of mark answer)) result out.old out.new }
+    ensures { AtFront (row_if_room (length out.old) (row_of mark answer)) result out.old out.new }
 {
     if out.len() < ROW {
         return 0;
@@ -39,7 +39,7 @@ pub fn row(mark: u64, answer: Answer, out: &mut [u8]) -> usize
 }
 
 fn line_row(mark: u64, facts: LineFacts, out: &mut [u8]) -> usize
-    ensures { Puts out.old 0 (rowWith mark (lineWords facts)) result out.new }
+    ensures { Puts out.old 0 (row_with mark (line_words facts)) result out.new }
 {
     let at = put_decimal(mark, out, 0);
     let at = put(b" ", out, at);
@@ -48,14 +48,14 @@ fn line_row(mark: u64, facts: LineFacts, out: &mut [u8]) -> usize
 }
 
 fn gap_row(mark: u64, out: &mut [u8]) -> usize
-    ensures { Puts out.old 0 (rowWith mark gapWords) result out.new }
+    ensures { Puts out.old 0 (row_with mark gap_words) result out.new }
 {
     let at = put_decimal(mark, out, 0);
     put(b" GAP - ok\n", out, at)
 }
 
 fn refused_row(mark: u64, number: u64, out: &mut [u8]) -> usize
-    ensures { Puts out.old 0 (rowWith mark (refusedWords number)) result out.new }
+    ensures { Puts out.old 0 (row_with mark (refused_words number)) result out.new }
 {
     let at = put_decimal(mark, out, 0);
     let at = put(b" REFUSED - ", out, at);
@@ -65,7 +65,7 @@ fn refused_row(mark: u64, number: u64, out: &mut [u8]) -> usize
 
 // What a row says of a line: kind, number, note.
 fn put_line(facts: LineFacts, out: &mut [u8], at: usize) -> usize
-    ensures { Puts out.old at (lineWords facts) result out.new }
+    ensures { Puts out.old at (line_words facts) result out.new }
 {
     let kind = facts.kind;
     let at = put_kind(kind, out, at);
@@ -76,7 +76,7 @@ fn put_line(facts: LineFacts, out: &mut [u8], at: usize) -> usize
 }
 
 fn put_kind(kind: Kind, out: &mut [u8], at: usize) -> usize
-    ensures { Puts out.old at (kindWord kind) result out.new }
+    ensures { Puts out.old at (kind_word kind) result out.new }
 {
     match kind {
         Kind::BL => put(b"BL", out, at),
@@ -88,7 +88,7 @@ fn put_kind(kind: Kind, out: &mut [u8], at: usize) -> usize
 }
 
 fn put_note(repaired: bool, out: &mut [u8], at: usize) -> usize
-    ensures { Puts out.old at (noteWord repaired) result out.new }
+    ensures { Puts out.old at (note_word repaired) result out.new }
 {
     if repaired {
         return put(b"repaired", out, at);

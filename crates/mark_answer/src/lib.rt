@@ -6,8 +6,8 @@
 ghost use Rattle.std.specs.Prelude.{◌≡◌, []};
 ghost use Rattle.std.proofs.Math.Option.{none, some};
 ghost use Rattle.line_code.specs.declared.Repair.{Repair};
-ghost use Rattle.stream.specs.Answers.{answerFor};
-ghost use Rattle.mark_answer.specs.KeptAnswer.{keptByMeaning, keptByReading, keptAnswer};
+ghost use Rattle.stream.specs.Answers.{answer_for};
+ghost use Rattle.mark_answer.specs.KeptAnswer.{kept_by_meaning, kept_by_reading, kept_answer};
 ghost use Rattle.mark_answer.specs.Gives.{MarkGives};
 
 use line_code::{Meaning, Reading, Repair};
@@ -33,7 +33,7 @@ pub fn at_mark(
     body: &[u8],
     next: u8,
 ) -> Closed
-    ensures { MarkGives mark (keptAnswer profile mark length kept body.now (some next)) result }
+    ensures { MarkGives mark (kept_answer profile mark length kept body.now (some next)) result }
 {
     match mark {
         Mark::NoMark => {
@@ -54,7 +54,7 @@ pub fn at_mark(
 
 // The open mark's answer at finish.
 pub fn at_finish(profile: Profile, mark: Mark, length: u32, kept: Kept) -> Answer
-    ensures { result ≡ answerFor (keptAnswer profile mark length kept [] none) }
+    ensures { result ≡ answer_for (kept_answer profile mark length kept [] none) }
 {
     match mark {
         Mark::NoMark => Answer::Nothing,
@@ -78,7 +78,7 @@ fn reading_answer(
     body: &[u8],
     next: u8,
 ) -> Answer
-    ensures { result ≡ answerFor (keptByReading profile before reading length kept body.now (some next)) }
+    ensures { result ≡ answer_for (kept_by_reading profile before reading length kept body.now (some next)) }
 {
     match reading {
         Reading::Says(m, repair) => meaning_answer(
@@ -98,7 +98,7 @@ fn meaning_answer(
     body: &[u8],
     next: u8,
 ) -> Answer
-    ensures { result ≡ answerFor (keptByMeaning profile before m start length kept body.now (some next)) }
+    ensures { result ≡ answer_for (kept_by_meaning profile before m start length kept body.now (some next)) }
 {
     match m {
         Meaning::EndOfLine => {
@@ -114,7 +114,7 @@ fn meaning_answer(
 }
 
 fn last_answer(profile: Profile, before: Before, m: Meaning, length: u32, kept: Kept) -> Answer
-    ensures { (start : Repair) → result ≡ answerFor (keptByMeaning profile before m start length kept [] none) }
+    ensures { (start : Repair) → result ≡ answer_for (kept_by_meaning profile before m start length kept [] none) }
 {
     match m {
         Meaning::EndOfLine => {

@@ -1,8 +1,8 @@
 -- Marks found in a capture (02, A9), piece by piece: each with its number, its place, the reader's answer to it, and its own bytes.
 use Rattle.std.specs.Prelude.{◌≡◌, Bool, true, false, cond, List, ℕ, ◌+◌, ◌-◌, ◌/◌, ◌%◌, min, eqb, ltb, length, take, drop}
 use Rattle.std.proofs.lemmas.List.Edits.{sets}
-use Rattle.counts.specs.Counts.{greatestCount, oneMore}
-use Rattle.line_code.specs.LineCode.{kindNumber}
+use Rattle.counts.specs.Counts.{greatest_count, one_more}
+use Rattle.line_code.specs.LineCode.{kind_number}
 use Rattle.profile.specs.declared.Profile.{Profile}
 use Rattle.profile.specs.Profile.{longest}
 use Rattle.stream.specs.declared.Answer.{Answer}
@@ -11,9 +11,9 @@ use Rattle.stream.specs.declared.Before.{Before}
 use Rattle.stream.specs.declared.Before.TheVariants.{NoLine, RefusedLine, HandedOut}
 use Rattle.stream.specs.declared.Mark.{Mark}
 use Rattle.stream.specs.declared.Mark.TheVariants.{NoMark, Open}
-use Rattle.stream.specs.Answers.{answerFor, isAnswer}
+use Rattle.stream.specs.Answers.{answer_for, is_answer}
 use Rattle.reader.specs.declared.Reader.{Reader}
-use Rattle.reader.specs.Reader.{freshReader}
+use Rattle.reader.specs.Reader.{fresh_reader}
 use Rattle.run.specs.Run.{Ran}
 use Rattle.capture_bytes.specs.Unpacked.{run_from}
 use Rattle.mark_finder.specs.declared.Located.{Located}
@@ -21,48 +21,48 @@ use Rattle.mark_finder.specs.declared.Finder.{Finder}
 use Rattle.mark_finder.specs.declared.FoundMark.{FoundMark}
 
 -- a finder before a capture's first byte
-abbrev pub freshFinder : Profile → Finder
-freshFinder p = record { reader = freshReader p; number = 0; place = 0; low = false; offset = 0; begin = 0; length = 0 }
+abbrev pub fresh_finder : Profile → Finder
+fresh_finder p = record { reader = fresh_reader p; number = 0; place = 0; low = false; offset = 0; begin = 0; length = 0 }
 
 -- The open mark.
 
 -- the paper's number of the kind that the mark before is, 0 for none
-abbrev pub numberBefore : Before → ℕ
-numberBefore NoLine = 0
-numberBefore (RefusedLine k) = kindNumber k
-numberBefore (HandedOut k) = kindNumber k
+abbrev pub number_before : Before → ℕ
+number_before NoLine = 0
+number_before (RefusedLine k) = kind_number k
+number_before (HandedOut k) = kind_number k
 
 -- the kind of the mark before the open one, as a number
-abbrev pub kindBeforeIt : Mark → ℕ
-kindBeforeIt NoMark = 0
-kindBeforeIt (Open before code) = numberBefore before
+abbrev pub kind_before_it : Mark → ℕ
+kind_before_it NoMark = 0
+kind_before_it (Open before code) = number_before before
 
 -- the number that an answer refuses with, 0 for a good line or gap
-abbrev pub refusalIn : Answer → ℕ
-refusalIn answer.Nothing = 0
-refusalIn (answer.Line f) = 0
-refusalIn (answer.Gap g) = 0
-refusalIn (answer.Refused n) = n
+abbrev pub refusal_in : Answer → ℕ
+refusal_in answer.Nothing = 0
+refusal_in (answer.Line f) = 0
+refusal_in (answer.Gap g) = 0
+refusal_in (answer.Refused n) = n
 
 -- with its answer: its place in the capture is counted without the four bytes of the end of line before it
 abbrev pub located : Finder → Answer → Located
 located f a =
     record {
       profile = f.reader.head.profile;
-      before = kindBeforeIt f.reader.head.at;
+      before = kind_before_it f.reader.head.at;
       number = f.number;
-      refusal = refusalIn a;
+      refusal = refusal_in a;
       place = f.place - 4;
       low = f.low;
     }
 
 -- the mark whose code ends just before a nibble of the piece: it begins eight nibbles before that
-abbrev pub openingNext : Finder → Reader → ℕ → Finder
-openingNext f r next =
+abbrev pub opening_next : Finder → Reader → ℕ → Finder
+opening_next f r next =
     record {
       reader = r;
-      number = oneMore f.number;
-      place = min (f.offset + (next - 8) / 2) greatestCount;
+      number = one_more f.number;
+      place = min (f.offset + (next - 8) / 2) greatest_count;
       low = eqb ((next - 8) % 2) 1;
       offset = f.offset;
       begin = (next - 8) / 2;
@@ -76,12 +76,12 @@ abbrev pub span : List ℕ → ℕ → ℕ → List ℕ
 span bytes from to = take (to - from) (drop from bytes)
 
 -- those of a piece up to a place are put behind the ones that are kept, as far as there is room: how many there are then, and the buffer
-abbrev pub keptCount : Finder → List ℕ → ℕ → List ℕ → ℕ
-keptCount f piece to held = f.length + min (length (span piece f.begin to)) (length held - f.length)
+abbrev pub kept_count : Finder → List ℕ → ℕ → List ℕ → ℕ
+kept_count f piece to held = f.length + min (length (span piece f.begin to)) (length held - f.length)
 
 -- the bytes kept of a mark, with those of a piece up to a place
-abbrev pub keptBytes : Finder → List ℕ → ℕ → List ℕ → List ℕ
-keptBytes f piece to held = sets held f.length (span piece f.begin to)
+abbrev pub kept_bytes : Finder → List ℕ → ℕ → List ℕ → List ℕ
+kept_bytes f piece to held = sets held f.length (span piece f.begin to)
 
 -- A call.
 
@@ -96,18 +96,18 @@ answering f piece next held t =
     record {
       found =
           record {
-            finder = openingNext f t.reader next;
+            finder = opening_next f t.reader next;
             taken = t.taken;
             answered = true;
-            mark = located f (answerFor t.outcome);
-            length = keptCount f piece (next / 2 + next % 2) held;
+            mark = located f (answer_for t.outcome);
+            length = kept_count f piece (next / 2 + next % 2) held;
           };
-      buffer = keptBytes f piece (next / 2 + next % 2) held;
+      buffer = kept_bytes f piece (next / 2 + next % 2) held;
     }
 
 -- none is
-abbrev pub goingOn : Finder → List ℕ → Ran → AfterFind
-goingOn f held t =
+abbrev pub going_on : Finder → List ℕ → Ran → AfterFind
+going_on f held t =
     record {
       found =
           record {
@@ -123,19 +123,19 @@ goingOn f held t =
                 };
             taken = t.taken;
             answered = false;
-            mark = located f (answerFor t.outcome);
+            mark = located f (answer_for t.outcome);
             length = f.length;
           };
       buffer = held;
     }
 
 -- by what a run over the piece's nibbles from a place on gives
-abbrev pub findBy : Finder → List ℕ → ℕ → List ℕ → Ran → AfterFind
-findBy f piece from held t = cond (isAnswer (answerFor t.outcome)) (answering f piece (from + t.taken) held t) (goingOn f held t)
+abbrev pub find_by : Finder → List ℕ → ℕ → List ℕ → Ran → AfterFind
+find_by f piece from held t = cond (is_answer (answer_for t.outcome)) (answering f piece (from + t.taken) held t) (going_on f held t)
 
 -- the search for the next mark's answer, from a nibble's place of a piece on
-unfoldable pub findOf : Finder → List ℕ → ℕ → List ℕ → AfterFind
-findOf f piece from held = findBy f piece from held (run_from f.reader.head f.reader.body piece from longest)
+unfoldable pub find_of : Finder → List ℕ → ℕ → List ℕ → AfterFind
+find_of f piece from held = find_by f piece from held (run_from f.reader.head f.reader.body piece from longest)
 
 -- a call that gives, and leaves the buffer, so
 pub record Finds (a : AfterFind) (r : FoundMark) (after : List ℕ) : Type 0 where
@@ -150,8 +150,8 @@ pub record AfterPiece : Type 0 where
   pub buffer : List ℕ
 
 -- all of its bytes from the mark's on are kept; the next piece begins with its last four
-unfoldable pub endPieceOf : Finder → List ℕ → List ℕ → AfterPiece
-endPieceOf f piece held =
+unfoldable pub end_piece_of : Finder → List ℕ → List ℕ → AfterPiece
+end_piece_of f piece held =
     record {
       finder =
           record {
@@ -159,11 +159,11 @@ endPieceOf f piece held =
             number = f.number;
             place = f.place;
             low = f.low;
-            offset = min (f.offset + (length piece - 4)) greatestCount;
+            offset = min (f.offset + (length piece - 4)) greatest_count;
             begin = 4;
-            length = keptCount f piece (length piece) held;
+            length = kept_count f piece (length piece) held;
           };
-      buffer = keptBytes f piece (length piece) held;
+      buffer = kept_bytes f piece (length piece) held;
     }
 
 -- what a call at a piece's end gives
@@ -172,11 +172,11 @@ pub record EndsPiece (a : AfterPiece) (r : Finder) (after : List ℕ) : Type 0 w
   pub leaves : after ≡ a.buffer
 
 -- the last four of a buffer's first n bytes at its front; none where there are not so many
-unfoldable pub lastFour : List ℕ → ℕ → List ℕ
-lastFour buffer n = cond (ltb n 4) buffer (cond (ltb (length buffer) n) buffer (sets buffer 0 (take 4 (drop (n - 4) buffer))))
+unfoldable pub last_four : List ℕ → ℕ → List ℕ
+last_four buffer n = cond (ltb n 4) buffer (cond (ltb (length buffer) n) buffer (sets buffer 0 (take 4 (drop (n - 4) buffer))))
 
 -- Which marks are told.
 
 -- the one with the number wanted, or, where that is 0, each that is refused; mark 0 is none of the capture's
-unfoldable pub isWanted : Located → ℕ → Bool
-isWanted m wanted = cond (eqb m.number 0) false (cond (eqb wanted 0) (ltb 0 m.refusal) (eqb m.number wanted))
+unfoldable pub is_wanted : Located → ℕ → Bool
+is_wanted m wanted = cond (eqb m.number 0) false (cond (eqb wanted 0) (ltb 0 m.refusal) (eqb m.number wanted))

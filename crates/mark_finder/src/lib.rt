@@ -7,11 +7,11 @@
 // room for: from the byte that it begins in through the byte in which the next mark's code ends. Nothing else is refused: a reader that fails its
 // own test is answered 11, and then nothing is taken. Cost: that of the reader's runs, and linear in the bytes kept.
 ghost use Rattle.std.specs.Prelude.{◌≡◌, ◌+◌, ◌-◌, min, length};
-ghost use Rattle.reader.specs.Reader.{finishOf};
-ghost use Rattle.stream.specs.Answers.{answerFor};
-ghost use Rattle.counts.specs.Counts.{greatestCount};
+ghost use Rattle.reader.specs.Reader.{finish_of};
+ghost use Rattle.stream.specs.Answers.{answer_for};
+ghost use Rattle.counts.specs.Counts.{greatest_count};
 ghost use Rattle.text.specs.Put.{Puts};
-ghost use Rattle.mark_finder.specs.MarkFinder.{span, lastFour, numberBefore, kindBeforeIt, refusalIn, located, openingNext, freshFinder, findOf, Finds, endPieceOf, EndsPiece, isWanted};
+ghost use Rattle.mark_finder.specs.MarkFinder.{span, last_four, number_before, kind_before_it, refusal_in, located, opening_next, fresh_finder, find_of, Finds, end_piece_of, EndsPiece, is_wanted};
 
 use profile::Profile;
 use reader::Reader;
@@ -69,7 +69,7 @@ const MARK: usize = 8;
 impl Finder {
     // A fresh reader, and nothing found.
     pub fn new(profile: Profile) -> Finder
-        ensures { result ≡ freshFinder profile }
+        ensures { result ≡ fresh_finder profile }
     {
         let reader = Reader::fresh(profile);
         Finder {
@@ -85,7 +85,7 @@ impl Finder {
 
     // Takes the nibbles of a piece's bytes from a place on, up to the first answer.
     pub fn find(self, piece: &[u8], from: usize, held: &mut [u8]) -> FoundMark
-        ensures { Finds (findOf self piece.now from held.old) result held.new }
+        ensures { Finds (find_of self piece.now from held.old) result held.new }
     {
         let reader = self.reader;
         let mut body = reader.body;
@@ -127,7 +127,7 @@ impl Finder {
 
     // Leaves a piece that is taken: the open mark's bytes there are kept.
     pub fn end_piece(self, piece: &[u8], held: &mut [u8]) -> Finder
-        ensures { EndsPiece (endPieceOf self piece.now held.old) result held.new }
+        ensures { EndsPiece (end_piece_of self piece.now held.old) result held.new }
     {
         let n = piece.len();
         let length = keep_bytes(piece, self.begin, n, held, self.length);
@@ -146,7 +146,7 @@ impl Finder {
 
     // The last mark, as the capture's end answers it. How many of its bytes are kept is the finder's own length.
     pub fn finish(self) -> Located
-        ensures { result ≡ located self (answerFor (finishOf self.reader).outcome) }
+        ensures { result ≡ located self (answer_for (finish_of self.reader).outcome) }
     {
         let reader = self.reader;
         let fed = reader.finish();
@@ -177,7 +177,7 @@ impl Finder {
 
     // The mark whose code ends just before a nibble of the piece.
     fn open_next(self, reader: Reader, next: usize) -> Finder
-        ensures { result ≡ openingNext self reader next }
+        ensures { result ≡ opening_next self reader next }
     {
         let start = less(next, MARK);
         let begin = start / 2;
@@ -198,7 +198,7 @@ impl Finder {
 
 // Puts the last four of a buffer's first n bytes at its front: those that the next piece begins with.
 pub fn carry(buf: &mut [u8], n: usize)
-    ensures { buf.new ≡ lastFour buf.old n }
+    ensures { buf.new ≡ last_four buf.old n }
 {
     if n < OVERLAP {
         return;
@@ -212,7 +212,7 @@ pub fn carry(buf: &mut [u8], n: usize)
 
 // Whether a mark is asked for: the one with the number wanted, or, where that is 0, any that is refused. Mark 0 is none of the capture's.
 pub fn is_wanted(mark: Located, wanted: u64) -> bool
-    ensures { result ≡ isWanted mark wanted }
+    ensures { result ≡ is_wanted mark wanted }
 {
     if mark.number == 0 {
         return false;
@@ -235,7 +235,7 @@ fn keep_bytes(piece: &[u8], begin: usize, to: usize, held: &mut [u8], n: usize) 
 
 // The number of the kind of the mark before, 0 for none.
 fn kind_before(mark: Mark) -> u8
-    ensures { result ≡ kindBeforeIt mark }
+    ensures { result ≡ kind_before_it mark }
 {
     match mark {
         Mark::NoMark => 0,
@@ -244,7 +244,7 @@ fn kind_before(mark: Mark) -> u8
 }
 
 fn number_before(before: Before) -> u8
-    ensures { result ≡ numberBefore before }
+    ensures { result ≡ number_before before }
 {
     match before {
         Before::NoLine => 0,
@@ -255,7 +255,7 @@ fn number_before(before: Before) -> u8
 
 // The number that an answer refuses with, 0 for a good line or gap.
 fn refusal_in(answer: Answer) -> u8
-    ensures { result ≡ refusalIn answer }
+    ensures { result ≡ refusal_in answer }
 {
     match answer {
         Answer::Nothing => 0,
@@ -286,7 +286,7 @@ fn less(n: usize, m: usize) -> usize
 
 // A place and some bytes more, held at the greatest u64, which no capture reaches.
 fn further(place: u64, n: usize) -> u64
-    ensures { result ≡ min (place + n) greatestCount }
+    ensures { result ≡ min (place + n) greatest_count }
 {
     let more = n as u64;
     if u64::MAX - place < more {

@@ -2,19 +2,19 @@
 use Rattle.std.specs.Prelude.{◌≡◌, true, false, cond, List, [], ◌∷◌, ◌++◌, ℕ, ◌+◌, ◌-◌, ◌*◌, ◌/◌, ◌%◌, ◌≤◌, eqb, length, take, drop}
 use Rattle.text.specs.Put.{Puts}
 use Rattle.profile.specs.declared.Profile.{Profile}
-use Rattle.stream.specs.Answers.{Outcome, answerFor, isAnswer}
+use Rattle.stream.specs.Answers.{Outcome, answer_for, is_answer}
 use Rattle.stream.specs.Stream.{fresh, run, outcomes}
 use Rattle.stream.specs.Written.{nibbles}
-use Rattle.recovery.specs.Calls.{markNibbles}
+use Rattle.recovery.specs.Calls.{mark_nibbles}
 use Rattle.recovery.specs.CleanAnswers.{said}
 use Rattle.refinement.specs.Refine.{Follows}
 use Rattle.mark_finder.specs.declared.Located.{Located}
 use Rattle.mark_finder.specs.declared.Finder.{Finder}
-use Rattle.mark_finder.specs.MarkFinder.{kindBeforeIt, refusalIn, AfterFind}
+use Rattle.mark_finder.specs.MarkFinder.{kind_before_it, refusal_in, AfterFind}
 
 -- the first piece: an end of line, as the finder's FRONT has it
-abbrev pub frontPiece : List ℕ
-frontPiece = 0xFF ∷ 0xFF ∷ 0x00 ∷ 0x80 ∷ []
+abbrev pub front_piece : List ℕ
+front_piece = 0xFF ∷ 0xFF ∷ 0x00 ∷ 0x80 ∷ []
 
 -- the nibbles taken: those of the bytes before a piece, and of the piece up to a place
 abbrev pub so_far : List ℕ → List ℕ → ℕ → List ℕ
@@ -25,13 +25,13 @@ abbrev pub answers : Profile → List ℕ → List Outcome
 answers p w = said (outcomes p fresh w)
 
 -- where the open mark begins: eight nibbles before the place at which the last answer came, counted on from nibble i, or s where none comes
-abbrev pub beginFrom : ℕ → ℕ → List Outcome → ℕ
-beginFrom s i [] = s
-beginFrom s i (o ∷ os) = beginFrom (cond (isAnswer (answerFor o)) (i + 1 - markNibbles) s) (i + 1) os
+abbrev pub begin_from : ℕ → ℕ → List Outcome → ℕ
+begin_from s i [] = s
+begin_from s i (o ∷ os) = begin_from (cond (is_answer (answer_for o)) (i + 1 - mark_nibbles) s) (i + 1) os
 
 -- where the last mark of a text begins
-abbrev pub beginIn : Profile → List ℕ → ℕ
-beginIn p w = beginFrom 0 0 (outcomes p fresh w)
+abbrev pub begin_in : Profile → List ℕ → ℕ
+begin_in p w = begin_from 0 0 (outcomes p fresh w)
 
 -- a mark begins at a nibble: F F F F 0 0 and its code stand there
 pub record BeginsAt (w : List ℕ) (i : ℕ) : Type 0 where
@@ -46,7 +46,7 @@ pub record KeepsBytes (before piece : List ℕ) (start to n : ℕ) (held : List 
   pub older : List ℕ
   pub bytes : List ℕ
   pub splits : older ++ bytes ≡ before ++ take to piece
-  pub older-is : length older ≡ start / 2
+  pub older_is : length older ≡ start / 2
   pub base : List ℕ
   pub kept : Puts base 0 bytes n held
 
@@ -55,24 +55,24 @@ pub record KeepsBytes (before piece : List ℕ) (start to n : ℕ) (held : List 
 pub record StandsAt (p : Profile) (before piece : List ℕ) (from : ℕ) (f : Finder) (held : List ℕ) : Type 0 where
   pub follows : Follows p f.reader (run p fresh (so_far before piece from))
   pub number_is : f.number ≡ length (answers p (so_far before piece from))
-  pub offset-is : f.offset ≡ length before
-  pub place_is : f.place ≡ beginIn p (so_far before piece from) / 2
-  pub low-is : f.low ≡ eqb (beginIn p (so_far before piece from) % 2) 1
+  pub offset_is : f.offset ≡ length before
+  pub place_is : f.place ≡ begin_in p (so_far before piece from) / 2
+  pub low_is : f.low ≡ eqb (begin_in p (so_far before piece from) % 2) 1
   pub begins : f.begin ≤ from / 2 + from % 2
-  pub keeps : KeepsBytes before piece (beginIn p (so_far before piece from)) f.begin f.length held
+  pub keeps : KeepsBytes before piece (begin_in p (so_far before piece from)) f.begin f.length held
 
 -- a mark that is told between two places of a piece: its answer is the one that the nibbles between bring; its number is the count of the answers
 -- before; its place is where it begins, without the four bytes of the end of line; the kind of the mark before it is the reader's own; and its
 -- bytes go through the byte of the last nibble, where the next mark's code ends
 pub record TellsMark (p : Profile) (before piece : List ℕ) (from next : ℕ) (m : Located) (n : ℕ) (held : List ℕ) : Type 0 where
   pub answer : Outcome
-  pub next-answer : answers p (so_far before piece next) ≡ answers p (so_far before piece from) ++ (answer ∷ [])
-  pub refusal_is : m.refusal ≡ refusalIn (answerFor answer)
+  pub next_answer : answers p (so_far before piece next) ≡ answers p (so_far before piece from) ++ (answer ∷ [])
+  pub refusal_is : m.refusal ≡ refusal_in (answer_for answer)
   pub number_is : m.number ≡ length (answers p (so_far before piece from))
-  pub place_is : m.place ≡ beginIn p (so_far before piece from) / 2 - 4
-  pub low-is : m.low ≡ eqb (beginIn p (so_far before piece from) % 2) 1
-  pub before-is : m.before ≡ kindBeforeIt (run p fresh (so_far before piece from)).at
-  pub keeps : KeepsBytes before piece (beginIn p (so_far before piece from)) (next / 2 + next % 2) n held
+  pub place_is : m.place ≡ begin_in p (so_far before piece from) / 2 - 4
+  pub low_is : m.low ≡ eqb (begin_in p (so_far before piece from) % 2) 1
+  pub before_is : m.before ≡ kind_before_it (run p fresh (so_far before piece from)).at
+  pub keeps : KeepsBytes before piece (begin_in p (so_far before piece from)) (next / 2 + next % 2) n held
 
 -- what a call gives: the finder stands where it went; a mark that it tells is the capture's; where it tells none, the piece is taken
 pub record FindsNext (p : Profile) (before piece : List ℕ) (from : ℕ) (a : AfterFind) : Type 0 where

@@ -3,9 +3,9 @@ use Rattle.std.specs.Prelude.{◌≤◌}
 use Rattle.std.proofs.Common.{lit≤}
 use Rattle.profile.specs.declared.Profile.{Profile}
 use Rattle.profile.specs.declared.Profile.TheVariants.{VV5404, VV5300}
-use Rattle.profile.specs.Profile.{gapStart}
-use Rattle.mark_text.specs.MarkText.{bodyPlace}
+use Rattle.profile.specs.Profile.{gap_start}
+use Rattle.mark_text.specs.MarkText.{body_place}
 
-pub gap-start-small : (p : Profile) → gapStart p ≤ bodyPlace
-gap-start-small VV5404 = lit≤ tt
-gap-start-small VV5300 = lit≤ tt
+pub gap_start_small : (p : Profile) → gap_start p ≤ body_place
+gap_start_small VV5404 = lit≤ tt
+gap_start_small VV5300 = lit≤ tt

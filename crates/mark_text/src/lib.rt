@@ -3,7 +3,7 @@
 // In: the nibbles of a text one after another, numbered from its code's first, 0. Out: the two bytes after the code, whether a nibble where a
 // gap has nothing but F was another, and the body, in a lent buffer. Cost: constant for a nibble.
 ghost use Rattle.std.specs.Prelude.{◌≡◌, ◌+◌, ◌*◌, ◌/◌, ◌%◌, ◌<◌};
-ghost use Rattle.mark_text.specs.MarkText.{nothingKept, byte_at, strayAt, kept_at, body_at};
+ghost use Rattle.mark_text.specs.MarkText.{nothing_kept, byte_at, stray_at, kept_at, body_at};
 
 use profile::Profile;
 
@@ -19,7 +19,7 @@ pub struct Kept {
 impl Kept {
     // Of an empty text.
     pub fn nothing() -> Kept
-        ensures { result ≡ nothingKept }
+        ensures { result ≡ nothing_kept }
     {
         Kept {
             first: 0,
@@ -99,7 +99,7 @@ fn byte_at(from: u32, place: u32, nibble: u8, byte: u8) -> u8
 }
 
 fn stray_at(profile: Profile, place: u32, nibble: u8, stray: bool) -> bool
-    ensures { result ≡ strayAt profile place nibble stray }
+    ensures { result ≡ stray_at profile place nibble stray }
 {
     if stray {
         return true;

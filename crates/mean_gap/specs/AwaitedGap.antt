@@ -9,20 +9,20 @@ use Rattle.mean_gap.specs.declared.Awaits.{Awaits}
 use Rattle.mean_gap.specs.declared.Awaits.TheVariants as awaits
 
 -- the gap of a visible line is awaited after it
-abbrev pub afterKind : Kind → ℕ → Awaits
-afterKind BL n = awaits.Line
-afterKind BK n = awaits.Line
-afterKind VL n = awaits.Gap n
-afterKind SOF n = awaits.Line
-afterKind EOF n = awaits.Line
+abbrev pub after_kind : Kind → ℕ → Awaits
+after_kind BL n = awaits.Line
+after_kind BK n = awaits.Line
+after_kind VL n = awaits.Gap n
+after_kind SOF n = awaits.Line
+after_kind EOF n = awaits.Line
 
 -- what is awaited after a line that is handed out
-abbrev pub afterLine : LineFacts → Awaits
-afterLine f = afterKind f.kind f.number
+abbrev pub after_line : LineFacts → Awaits
+after_line f = after_kind f.kind f.number
 
 -- by the answer: after a gap or a refused mark a line is awaited again
-unfoldable pub awaitsAfter : Awaits → Answer → Awaits
-awaitsAfter w answer.Nothing = w
-awaitsAfter w (answer.Line f) = afterLine f
-awaitsAfter w (answer.Gap g) = awaits.Line
-awaitsAfter w (answer.Refused n) = awaits.Line
+unfoldable pub awaits_after : Awaits → Answer → Awaits
+awaits_after w answer.Nothing = w
+awaits_after w (answer.Line f) = after_line f
+awaits_after w (answer.Gap g) = awaits.Line
+awaits_after w (answer.Refused n) = awaits.Line

@@ -2,7 +2,7 @@
 //
 // In: what is awaited, and the answer of a call. Out: what is awaited then. Nothing is refused. Cost: constant.
 ghost use Rattle.std.specs.Prelude.{◌≡◌};
-ghost use Rattle.mean_gap.specs.AwaitedGap.{afterLine, awaitsAfter};
+ghost use Rattle.mean_gap.specs.AwaitedGap.{after_line, awaits_after};
 
 use line_code::Kind;
 use stream::{Answer, LineFacts};
@@ -16,7 +16,7 @@ pub enum Awaits {
 
 // What is awaited after an answer.
 pub fn after(awaits: Awaits, answer: Answer) -> Awaits
-    ensures { result ≡ awaitsAfter awaits answer }
+    ensures { result ≡ awaits_after awaits answer }
 {
     match answer {
         Answer::Nothing => awaits,
@@ -27,7 +27,7 @@ pub fn after(awaits: Awaits, answer: Answer) -> Awaits
 }
 
 fn after_line(facts: LineFacts) -> Awaits
-    ensures { result ≡ afterLine facts }
+    ensures { result ≡ after_line facts }
 {
     let kind = facts.kind;
     match kind {

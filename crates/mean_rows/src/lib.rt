@@ -6,7 +6,7 @@
 // the rest of the row is left out. Cost: linear in the row.
 ghost use Rattle.text.specs.Put.{Puts};
 ghost use Rattle.half_means.specs.HalfMeans.{difference};
-ghost use Rattle.mean_rows.specs.MeanRows.{places, signed, meansHeader, meanText, startWords, meansWords, differencesWords, givenRow, gapRefusalWords, refusedRow, meansRow};
+ghost use Rattle.mean_rows.specs.MeanRows.{places, signed, means_header, mean_text, start_words, means_words, differences_words, given_row, gap_refusal_words, refused_row, means_row};
 
 use half_means::{HALF, Halves, Sums};
 use text::{put, put_decimal};
@@ -19,7 +19,7 @@ const MILLIONTHS: u32 = 15625;
 
 // Puts the first row, which names the columns.
 pub fn put_header(out: &mut [u8], at: usize) -> usize
-    ensures { Puts out.old at meansHeader result out.new }
+    ensures { Puts out.old at means_header result out.new }
 {
     put(
         b"line sensor1 sensor2 mean1 mean2 difference1 difference2\n",
@@ -37,7 +37,7 @@ pub fn put_row(
     out: &mut [u8],
     at: usize,
 ) -> usize
-    ensures { Puts out.old at (meansRow number first second halves) result out.new }
+    ensures { Puts out.old at (means_row number first second halves) result out.new }
 {
     match halves {
         Halves::Given(_, sums, _, _) => put_given(number, first, second, sums, out, at),
@@ -46,7 +46,7 @@ pub fn put_row(
 }
 
 fn put_given(number: u16, first: u8, second: u8, sums: Sums, out: &mut [u8], at: usize) -> usize
-    ensures { Puts out.old at (givenRow number first second sums) result out.new }
+    ensures { Puts out.old at (given_row number first second sums) result out.new }
 {
     let at = put_start(number, first, second, out, at);
     let at = put_means(sums, out, at);
@@ -55,7 +55,7 @@ fn put_given(number: u16, first: u8, second: u8, sums: Sums, out: &mut [u8], at:
 
 // The number and the sensor's means.
 fn put_start(number: u16, first: u8, second: u8, out: &mut [u8], at: usize) -> usize
-    ensures { Puts out.old at (startWords number first second) result out.new }
+    ensures { Puts out.old at (start_words number first second) result out.new }
 {
     let at = put_decimal(number as u64, out, at);
     let at = put(b" ", out, at);
@@ -67,7 +67,7 @@ fn put_start(number: u16, first: u8, second: u8, out: &mut [u8], at: usize) -> u
 
 // The exact means.
 fn put_means(sums: Sums, out: &mut [u8], at: usize) -> usize
-    ensures { Puts out.old at (meansWords sums) result out.new }
+    ensures { Puts out.old at (means_words sums) result out.new }
 {
     let at = put_mean(sums.first, out, at);
     let at = put(b" ", out, at);
@@ -76,7 +76,7 @@ fn put_means(sums: Sums, out: &mut [u8], at: usize) -> usize
 }
 
 fn put_differences(first: u8, second: u8, sums: Sums, out: &mut [u8], at: usize) -> usize
-    ensures { Puts out.old at (differencesWords first second sums) result out.new }
+    ensures { Puts out.old at (differences_words first second sums) result out.new }
 {
     let at = put_difference(first, sums.first, out, at);
     let at = put(b" ", out, at);
@@ -86,7 +86,7 @@ fn put_differences(first: u8, second: u8, sums: Sums, out: &mut [u8], at: usize)
 
 // A sum divided by 64, in decimal: the fraction of a 64th ends after six digits.
 fn put_mean(sum: u16, out: &mut [u8], at: usize) -> usize
-    ensures { Puts out.old at (meanText sum) result out.new }
+    ensures { Puts out.old at (mean_text sum) result out.new }
 {
     let whole = sum / HALF;
     let part = sum % HALF;
@@ -129,7 +129,7 @@ fn put_difference(byte: u8, sum: u16, out: &mut [u8], at: usize) -> usize
 }
 
 fn put_refused(number: u16, refusal: u8, out: &mut [u8], at: usize) -> usize
-    ensures { Puts out.old at (refusedRow number refusal) result out.new }
+    ensures { Puts out.old at (refused_row number refusal) result out.new }
 {
     let at = put_decimal(number as u64, out, at);
     let at = put(b" refused: ", out, at);
@@ -140,7 +140,7 @@ fn put_refused(number: u16, refusal: u8, out: &mut [u8], at: usize) -> usize
 
 // The words of a gap's refusal.
 fn put_reason(refusal: u8, out: &mut [u8], at: usize) -> usize
-    ensures { Puts out.old at (gapRefusalWords refusal) result out.new }
+    ensures { Puts out.old at (gap_refusal_words refusal) result out.new }
 {
     if refusal == refusal::BAD_GAP {
         return put(b", bad gap", out, at);

@@ -4,7 +4,7 @@
 // would stand past the last index; the index left; the registers with the data stored; whether a byte read differs. Nothing is refused: these are
 // total, of any index. Cost: linear in the data.
 ghost use Rattle.std.specs.Prelude.{◌≡◌, false, ◌≤◌};
-ghost use Rattle.message_data.specs.Registers.{lastIndex, next, runsPast, reached, left, put, stored, storedWhole, differs, someDiffers};
+ghost use Rattle.message_data.specs.Registers.{last_index, next, runs_past, reached, left, put, stored, stored_whole, differs, some_differs};
 
 // How many registers there are, and the last one's index.
 const REGISTERS: u8 = 128;
@@ -16,7 +16,7 @@ const FIRST_SETTABLE: u8 = 5;
 
 // Whether a byte of the data would stand past the last index.
 pub fn runs_past(increment: bool, index: u8, bytes: &[u8]) -> bool
-    ensures { result ≡ runsPast increment index bytes.now }
+    ensures { result ≡ runs_past increment index bytes.now }
 {
     if LAST_INDEX < index {
         return 0 < bytes.len();
@@ -45,7 +45,7 @@ pub fn left(increment: bool, index: u8, bytes: &[u8]) -> u8
 
 // Stores a write's data whole, or where a byte of it would stand past the last index, none of it: whether it would.
 pub fn store(registers: &mut [u8; 128], increment: bool, index: u8, bytes: &[u8]) -> bool
-    ensures { (result ≡ runsPast increment index bytes.now) × (registers.new ≡ storedWhole increment index bytes.now registers.old) }
+    ensures { (result ≡ runs_past increment index bytes.now) × (registers.new ≡ stored_whole increment index bytes.now registers.old) }
 {
     if runs_past(increment, index, bytes) {
         return true;
@@ -56,7 +56,7 @@ pub fn store(registers: &mut [u8; 128], increment: bool, index: u8, bytes: &[u8]
 
 // Whether a byte of a read's data differs. Nothing past the last index is compared.
 pub fn some_differs(registers: &[u8; 128], increment: bool, index: u8, bytes: &[u8]) -> bool
-    ensures { result ≡ someDiffers increment index bytes.now registers.now }
+    ensures { result ≡ some_differs increment index bytes.now registers.now }
 {
     let mut at = index;
     let mut i: usize = 0;
@@ -75,7 +75,7 @@ pub fn some_differs(registers: &[u8; 128], increment: bool, index: u8, bytes: &[
 
 // Stores data that does not pass the last index.
 fn put_all(registers: &mut [u8; 128], increment: bool, index: u8, bytes: &[u8])
-    requires { runsPast increment index bytes.now ≡ false }
+    requires { runs_past increment index bytes.now ≡ false }
     ensures { registers.new ≡ stored increment index bytes.now registers.old }
 {
     let mut at = index;
@@ -89,7 +89,7 @@ fn put_all(registers: &mut [u8; 128], increment: bool, index: u8, bytes: &[u8])
 
 // Stores one byte, but not in the sensor's own registers.
 fn put(registers: &mut [u8; 128], index: u8, byte: u8)
-    requires { index ≤ lastIndex }
+    requires { index ≤ last_index }
     ensures { registers.new ≡ put registers.old index byte }
 {
     if index < FIRST_SETTABLE {
@@ -100,7 +100,7 @@ fn put(registers: &mut [u8; 128], index: u8, byte: u8)
 
 // The index after a data byte's.
 fn next(increment: bool, index: u8) -> u8
-    requires { index ≤ lastIndex }
+    requires { index ≤ last_index }
     ensures { result ≡ next increment index }
 {
     if increment {
@@ -111,7 +111,7 @@ fn next(increment: bool, index: u8) -> u8
 
 // Whether a byte differs from its register. The sensor's own registers are not compared.
 fn differs(registers: &[u8; 128], index: u8, byte: u8) -> bool
-    requires { index ≤ lastIndex }
+    requires { index ≤ last_index }
     ensures { result ≡ differs registers.now index byte }
 {
     if FIRST_SETTABLE <= index {

@@ -3,14 +3,14 @@
 // In: a line, and a place of it. Out: whether its first word is a name; the value after a name of a length; the number that it is from a place on.
 // Nothing is refused: a number that is missing, or above 65,535, is 65,536. Cost: linear in the line.
 ghost use Rattle.std.specs.Prelude.{◌≡◌, drop};
-ghost use Rattle.named_value.specs.Number.{isBlank, pastBlanks, endsWord, firstWordIs, digitOnto, number_in, valueIn};
+ghost use Rattle.named_value.specs.Number.{is_blank, past_blanks, ends_word, first_word_is, digit_onto, number_in, value_in};
 
 // What stands for a number that is missing, or above 65,535.
 const NO_NUMBER: u32 = 65536;
 
 // Whether a character is a space, a tab or a carriage return.
 pub fn is_blank(c: u8) -> bool
-    ensures { result ≡ isBlank c }
+    ensures { result ≡ is_blank c }
 {
     if c == b' ' {
         return true;
@@ -23,7 +23,7 @@ pub fn is_blank(c: u8) -> bool
 
 // Whether a line's first word is this one.
 pub fn begins(line: &[u8], word: &[u8]) -> bool
-    ensures { result ≡ firstWordIs word.now line.now }
+    ensures { result ≡ first_word_is word.now line.now }
 {
     let mut i: usize = 0;
     while i < word.len() {
@@ -41,7 +41,7 @@ pub fn begins(line: &[u8], word: &[u8]) -> bool
 
 // Whether a word of a line may end before a place: the line ends there, or a blank stands there.
 fn ends_word(line: &[u8], at: usize) -> bool
-    ensures { result ≡ endsWord (drop at line.now) }
+    ensures { result ≡ ends_word (drop at line.now) }
 {
     if line.len() <= at {
         return true;
@@ -51,7 +51,7 @@ fn ends_word(line: &[u8], at: usize) -> bool
 
 // The value that stands in a line after a name of a length, and blanks.
 pub fn value(line: &[u8], at: usize) -> u32
-    ensures { result ≡ valueIn (drop at line.now) }
+    ensures { result ≡ value_in (drop at line.now) }
 {
     if line.len() <= at {
         return NO_NUMBER;
@@ -64,7 +64,7 @@ pub fn value(line: &[u8], at: usize) -> u32
 
 // The first place of a line from a place on where no blank stands.
 fn past_blanks(line: &[u8], at: usize) -> usize
-    ensures { drop result line.now ≡ pastBlanks (drop at line.now) }
+    ensures { drop result line.now ≡ past_blanks (drop at line.now) }
 {
     let mut i = at;
     while i < line.len() {
@@ -95,7 +95,7 @@ pub fn number(line: &[u8], at: usize) -> u32
 
 // A number with one decimal digit more.
 fn digit_onto(n: u32, c: u8) -> u32
-    ensures { result ≡ digitOnto n c }
+    ensures { result ≡ digit_onto n c }
 {
     if c < b'0' {
         return NO_NUMBER;

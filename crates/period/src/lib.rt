@@ -1,7 +1,7 @@
 // Line periods (paper 02, A7). Nibble counts and pixel periods are separate units; one period is two nibbles, and an odd count of nibbles is
 // no whole period. Cost: constant.
 ghost use Rattle.std.specs.Prelude.{◌≡◌};
-ghost use Rattle.period.specs.Period.{periodsIn, whole_of, framesIn, rateOf};
+ghost use Rattle.period.specs.Period.{periods_in, whole_of, frames_in, rate_of};
 
 // A count of nibbles, held at 65,535.
 #[derive(Drop)]
@@ -32,7 +32,7 @@ impl Nibbles {
 
     // In whole periods.
     pub fn whole(self) -> WholePeriods
-        ensures { periodsIn result ≡ whole_of self }
+        ensures { periods_in result ≡ whole_of self }
     {
         let n = self.0;
         if n % 2 == 0 {
@@ -44,7 +44,7 @@ impl Nibbles {
 
     // Its name as a line period.
     pub fn rate(self) -> Rate
-        ensures { framesIn result ≡ rateOf self }
+        ensures { frames_in result ≡ rate_of self }
     {
         let n = self.0;
         if n == 786 {

@@ -7,7 +7,7 @@
 ghost use Rattle.std.specs.Prelude.{◌≡◌, ◌≤◌, ◌%◌, length};
 ghost use Rattle.text.specs.Text.{digit};
 ghost use Rattle.lent_buffer.specs.Filled.{Gives};
-ghost use Rattle.picture_file.specs.PictureFile.{height, size, header, headerLength, pixels, starts, writeAs, writeOf, readAs, read_of};
+ghost use Rattle.picture_file.specs.PictureFile.{height, size, header, header_length, pixels, starts, write_as, write_of, read_as, read_of};
 
 use lent_buffer::Filled;
 use picture_file::Format;
@@ -31,7 +31,7 @@ pub const LONGEST_FILE: usize = HEADER + MOST_PIXELS;
 
 // The file of these rows.
 pub fn write(rows: &[u8], file: &mut [u8]) -> Filled
-    ensures { Gives (writeOf rows.now (length file.old)) result file.old file.new }
+    ensures { Gives (write_of rows.now (length file.old)) result file.old file.new }
 {
     if rows.len() == size(Format::Bordered) {
         return write_as(Format::Bordered, rows, file);
@@ -103,7 +103,7 @@ fn header(format: Format) -> [u8; HEADER]
 
 // Whether a file starts with this header.
 fn heads(format: Format, file: &[u8]) -> bool
-    requires { headerLength ≤ length file.now }
+    requires { header_length ≤ length file.now }
     ensures { result ≡ starts (header format) file.now }
 {
     let text = header(format);
@@ -127,7 +127,7 @@ fn digit(n: usize) -> u8
 
 // Rows of a picture's size into its file.
 fn write_as(format: Format, rows: &[u8], file: &mut [u8]) -> Filled
-    ensures { Gives (writeAs format rows.now (length file.old)) result file.old file.new }
+    ensures { Gives (write_as format rows.now (length file.old)) result file.old file.new }
 {
     if all_pixels(rows) {
         let length = HEADER + rows.len();
@@ -143,7 +143,7 @@ fn write_as(format: Format, rows: &[u8], file: &mut [u8]) -> Filled
 
 // What follows a file's header, into rows.
 fn read_as(format: Format, body: &[u8], rows: &mut [u8]) -> Filled
-    ensures { Gives (readAs format body.now (length rows.old)) result rows.old rows.new }
+    ensures { Gives (read_as format body.now (length rows.old)) result rows.old rows.new }
 {
     if body.len() != size(format) {
         return Filled::Refused(refusal::WRONG_PICTURE_LENGTH);

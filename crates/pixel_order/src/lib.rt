@@ -7,7 +7,7 @@
 ghost use Rattle.std.specs.Prelude.{◌≡◌, ◌++◌, ◌<◌, ◌≤◌, length, drop};
 ghost use Rattle.profile.specs.Profile.{width};
 ghost use Rattle.lent_buffer.specs.Filled.{Gives};
-ghost use Rattle.pixel_order.specs.PixelOrder.{place_of, pixelAt, source_of, reordered, reorderOf};
+ghost use Rattle.pixel_order.specs.PixelOrder.{place_of, pixel_at, source_of, reordered, reorder_of};
 ghost use Rattle.pixel_order.specs.declared.Way.TheVariants.{ToPixels, ToBody};
 
 use lent_buffer::Filled;
@@ -23,14 +23,14 @@ pub enum Way {
 
 // The pixels of a body, into the second buffer.
 pub fn to_pixels(kind: u8, body: &[u8], pixels: &mut [u8]) -> Filled
-    ensures { Gives (reorderOf ToPixels kind body.now (length pixels.old)) result pixels.old pixels.new }
+    ensures { Gives (reorder_of ToPixels kind body.now (length pixels.old)) result pixels.old pixels.new }
 {
     reorder(Way::ToPixels, kind, body, pixels)
 }
 
 // The body that sends these pixels, into the second buffer.
 pub fn to_body(kind: u8, pixels: &[u8], body: &mut [u8]) -> Filled
-    ensures { Gives (reorderOf ToBody kind pixels.now (length body.old)) result body.old body.new }
+    ensures { Gives (reorder_of ToBody kind pixels.now (length body.old)) result body.old body.new }
 {
     reorder(Way::ToBody, kind, pixels, body)
 }
@@ -39,7 +39,7 @@ pub fn to_body(kind: u8, pixels: &[u8], body: &mut [u8]) -> Filled
 const HALF: usize = 178;
 
 fn reorder(way: Way, kind: u8, from: &[u8], to: &mut [u8]) -> Filled
-    ensures { Gives (reorderOf way kind from.now (length to.old)) result to.old to.new }
+    ensures { Gives (reorder_of way kind from.now (length to.old)) result to.old to.new }
 {
     if kind != Kind::VL.number() {
         return Filled::Refused(refusal::NOT_VISIBLE);
@@ -92,7 +92,7 @@ fn place_of(i: usize) -> usize
 // The pixel at body place j.
 fn pixel_at(j: usize) -> usize
     requires { j < width }
-    ensures { result ≡ pixelAt j }
+    ensures { result ≡ pixel_at j }
 {
     if j < HALF {
         return 2 * j + 1;

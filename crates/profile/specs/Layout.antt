@@ -6,16 +6,16 @@ use Rattle.profile.specs.declared.Profile.{Profile}
 use Rattle.profile.specs.declared.Profile.TheVariants.{VV5404, VV5300}
 use Rattle.profile.specs.declared.Rule.{Rule}
 use Rattle.profile.specs.declared.Rule.TheVariants.{Filler, Pixel, Any}
-use Rattle.profile.specs.Profile.{bodyLength, imageLength, fillerByte, nullByte}
+use Rattle.profile.specs.Profile.{body_length, image_length, filler_byte, null_byte}
 
 -- a pixel or a mean: 01 to FE
-abbrev pub isPixel : ℕ → Bool
-isPixel b = leb 0x01 b && leb b 0xFE
+abbrev pub is_pixel : ℕ → Bool
+is_pixel b = leb 0x01 b && leb b 0xFE
 
 -- what a place under a rule may hold
 abbrev pub allows : Rule → ℕ → Bool
-allows Filler b = eqb b fillerByte
-allows Pixel b = isPixel b
+allows Filler b = eqb b filler_byte
+allows Pixel b = is_pixel b
 allows Any b = leb b 0xFF
 
 -- every place of the body holds what its rule allows, and there are as many bytes as rules
@@ -37,30 +37,30 @@ laid VV5300 border image = Filler ∷ Filler ∷ border ∷ border ∷ (image ++
 
 -- the image of EOF: profile 1 has bin averages at its places 0, 2, 4 and 6
 abbrev pub averages : Profile → List Rule
-averages VV5404 = replicate (imageLength VV5404) Filler
-averages VV5300 = spaced Pixel 4 ++ replicate (imageLength VV5300 - 8) Filler
+averages VV5404 = replicate (image_length VV5404) Filler
+averages VV5300 = spaced Pixel 4 ++ replicate (image_length VV5300 - 8) Filler
 
 -- the rule of each place of a body
 abbrev pub rules : Profile → Kind → List Rule
-rules p BL = replicate (bodyLength p) Filler
-rules p BK = laid p Pixel (replicate (imageLength p) Pixel)
-rules p VL = laid p Pixel (replicate (imageLength p) Pixel)
-rules p SOF = laid p Filler (spaced Any (imageLength p / 2))
+rules p BL = replicate (body_length p) Filler
+rules p BK = laid p Pixel (replicate (image_length p) Pixel)
+rules p VL = laid p Pixel (replicate (image_length p) Pixel)
+rules p SOF = laid p Filler (spaced Any (image_length p / 2))
 rules p EOF = laid p Filler (averages p)
 
 -- both bytes are this one
-abbrev pub bothAre : ℕ → ℕ → ℕ → Bool
-bothAre x a b = eqb a x && eqb b x
+abbrev pub both_are : ℕ → ℕ → ℕ → Bool
+both_are x a b = eqb a x && eqb b x
 
 -- both bytes are pixels
-abbrev pub bothPixels : ℕ → ℕ → Bool
-bothPixels a b = isPixel a && isPixel b
+abbrev pub both_pixels : ℕ → ℕ → Bool
+both_pixels a b = is_pixel a && is_pixel b
 
 -- the two gap bytes after a line of a kind. Profile 0: FF FF. Profile 1: the line means after a VL, 07 07 after any other
-abbrev pub gapFits : Profile → Kind → ℕ → ℕ → Bool
-gapFits VV5404 k a b = bothAre nullByte a b
-gapFits VV5300 BL a b = bothAre fillerByte a b
-gapFits VV5300 BK a b = bothAre fillerByte a b
-gapFits VV5300 VL a b = bothPixels a b
-gapFits VV5300 SOF a b = bothAre fillerByte a b
-gapFits VV5300 EOF a b = bothAre fillerByte a b
+abbrev pub gap_fits : Profile → Kind → ℕ → ℕ → Bool
+gap_fits VV5404 k a b = both_are null_byte a b
+gap_fits VV5300 BL a b = both_are filler_byte a b
+gap_fits VV5300 BK a b = both_are filler_byte a b
+gap_fits VV5300 VL a b = both_pixels a b
+gap_fits VV5300 SOF a b = both_are filler_byte a b
+gap_fits VV5300 EOF a b = both_are filler_byte a b

@@ -7,32 +7,32 @@ use Rattle.line_code.specs.declared.Kind.TheVariants.{BL, BK, VL, SOF, EOF}
 use Rattle.profile.specs.declared.Profile.{Profile}
 use Rattle.profile.specs.declared.Profile.TheVariants.{VV5404, VV5300}
 use Rattle.profile.specs.declared.Rule.{Rule}
-use Rattle.profile.specs.Profile.{bodyLength, imageStart, imageLength, longest}
+use Rattle.profile.specs.Profile.{body_length, image_start, image_length, longest}
 use Rattle.profile.specs.Layout.{allows, fits, rules}
 
-pub body-small : (p : Profile) → bodyLength p ≤ longest
-body-small VV5404 = lit≤ tt
-body-small VV5300 = lit≤ tt
+pub body_small : (p : Profile) → body_length p ≤ longest
+body_small VV5404 = lit≤ tt
+body_small VV5300 = lit≤ tt
 
-pub rules-length : (p : Profile) (k : Kind) → length (rules p k) ≡ bodyLength p
-rules-length VV5404 BL = refl
-rules-length VV5404 BK = refl
-rules-length VV5404 VL = refl
-rules-length VV5404 SOF = refl
-rules-length VV5404 EOF = refl
-rules-length VV5300 BL = refl
-rules-length VV5300 BK = refl
-rules-length VV5300 VL = refl
-rules-length VV5300 SOF = refl
-rules-length VV5300 EOF = refl
+pub rules_length : (p : Profile) (k : Kind) → length (rules p k) ≡ body_length p
+rules_length VV5404 BL = refl
+rules_length VV5404 BK = refl
+rules_length VV5404 VL = refl
+rules_length VV5404 SOF = refl
+rules_length VV5404 EOF = refl
+rules_length VV5300 BL = refl
+rules_length VV5300 BK = refl
+rules_length VV5300 VL = refl
+rules_length VV5300 SOF = refl
+rules_length VV5300 EOF = refl
 
-pub fits-length : (rs : List Rule) (bs : List ℕ) → fits rs bs ≡ true → length bs ≡ length rs
-fits-length [] [] h = refl
-fits-length [] (b ∷ bs) h = absurd (true≢false (sym h))
-fits-length (r ∷ rs) [] h = absurd (true≢false (sym h))
-fits-length (r ∷ rs) (b ∷ bs) h = ap suc (fits-length rs bs (and_right (allows r b) (fits rs bs) h))
+pub fits_length : (rs : List Rule) (bs : List ℕ) → fits rs bs ≡ true → length bs ≡ length rs
+fits_length [] [] h = refl
+fits_length [] (b ∷ bs) h = absurd (true≢false (sym h))
+fits_length (r ∷ rs) [] h = absurd (true≢false (sym h))
+fits_length (r ∷ rs) (b ∷ bs) h = ap suc (fits_length rs bs (and_right (allows r b) (fits rs bs) h))
 
 -- the image stands in the middle of its body
-pub image-centred : (p : Profile) → imageStart p + imageLength p + imageStart p ≡ bodyLength p
-image-centred VV5404 = refl
-image-centred VV5300 = refl
+pub image_centred : (p : Profile) → image_start p + image_length p + image_start p ≡ body_length p
+image_centred VV5404 = refl
+image_centred VV5300 = refl

@@ -3,8 +3,8 @@
 // A profile gives its lengths and its filler byte; crate `line_layout` says by it what a line may hold. A number other than 0 or 1 is no profile. What
 // a place of a body may hold is a rule, and a rule says which bytes those are. Cost: constant.
 ghost use Rattle.std.specs.Prelude.{◌≡◌};
-ghost use Rattle.profile.specs.Profile.{profileNumbered, bodyLength, imageStart, imageLength, gapStart};
-ghost use Rattle.profile.specs.Layout.{isPixel, allows};
+ghost use Rattle.profile.specs.Profile.{profile_numbered, body_length, image_start, image_length, gap_start};
+ghost use Rattle.profile.specs.Layout.{is_pixel, allows};
 
 // Profile 0 is the VV5404 and VV6404 sensor, profile 1 the VV5300 in 8-bit conversion.
 #[derive(Drop)]
@@ -40,7 +40,7 @@ impl Profile {
 
     // The profile with this number.
     pub fn numbered(n: u8) -> Numbered
-        ensures { result ≡ profileNumbered n }
+        ensures { result ≡ profile_numbered n }
     {
         if n == 0 {
             return Numbered::Profile(Profile::VV5404);
@@ -53,7 +53,7 @@ impl Profile {
 
     // The bytes of a body.
     pub fn body_length(self) -> usize
-        ensures { result ≡ bodyLength self }
+        ensures { result ≡ body_length self }
     {
         match self {
             Profile::VV5404 => Profile::WIDTH,
@@ -63,7 +63,7 @@ impl Profile {
 
     // The place of a body's first image byte.
     pub fn image_start(self) -> usize
-        ensures { result ≡ imageStart self }
+        ensures { result ≡ image_start self }
     {
         match self {
             Profile::VV5404 => 0,
@@ -73,7 +73,7 @@ impl Profile {
 
     // The image bytes of a body.
     pub fn image_length(self) -> usize
-        ensures { result ≡ imageLength self }
+        ensures { result ≡ image_length self }
     {
         match self {
             Profile::VV5404 => Profile::WIDTH,
@@ -83,7 +83,7 @@ impl Profile {
 
     // The place in a gap's text, in nibbles from its code's first, from which it holds nothing but F.
     pub fn gap_start(self) -> u32
-        ensures { result ≡ gapStart self }
+        ensures { result ≡ gap_start self }
     {
         match self {
             Profile::VV5404 => 2,
@@ -107,7 +107,7 @@ impl Rule {
 
 // Whether the byte is a pixel or a mean: 01 to FE.
 pub fn is_pixel(byte: u8) -> bool
-    ensures { result ≡ isPixel byte }
+    ensures { result ≡ is_pixel byte }
 {
     if byte == 0 {
         return false;

@@ -2,15 +2,15 @@
 use Rattle.std.specs.Prelude.{List, ◌++◌, ℕ, take, drop}
 use Rattle.stream.specs.Answers.{is_line}
 use Rattle.reader.specs.declared.Reader.{Reader}
-use Rattle.reader_head.specs.Head.{openedBy}
-use Rattle.reader.specs.Reader.{Took, readerOf, completeOutcome}
+use Rattle.reader_head.specs.Head.{opened_by}
+use Rattle.reader.specs.Reader.{Took, reader_of, complete_outcome}
 
 -- a mark with this code is complete, with the body as it then is: the mark before it is answered
 abbrev pub completing : Reader → ℕ → Took
 completing r code =
     record {
-      reader = readerOf (openedBy r.head code (is_line (completeOutcome r.head r.body code))) r.body;
-      outcome = completeOutcome r.head r.body code;
+      reader = reader_of (opened_by r.head code (is_line (complete_outcome r.head r.body code))) r.body;
+      outcome = complete_outcome r.head r.body code;
     }
 
 -- a list whose first n places hold the first n of another

@@ -5,9 +5,9 @@
 // Refused, with reader and buffer as before: 11 a state that fails the reader's own test, 10 an input above 15, 12 a buffer shorter than
 // the body. Cost: constant for a nibble; a body is scanned and copied only where a line is answered.
 ghost use Rattle.std.specs.Prelude.{◌≡◌, ◌≤◌, ◌-◌, ◌%◌, length};
-ghost use Rattle.profile.specs.Profile.{bodyLength, longest};
-ghost use Rattle.stream.specs.Answers.{outcomeOf, answerFor, bufferAfter, refused};
-ghost use Rattle.reader.specs.Reader.{readerOf, freshReader, newOf, taking, take_of, feedOf, finishOf};
+ghost use Rattle.profile.specs.Profile.{body_length, longest};
+ghost use Rattle.stream.specs.Answers.{outcome_of, answer_for, buffer_after, refused};
+ghost use Rattle.reader.specs.Reader.{reader_of, fresh_reader, new_of, taking, take_of, feed_of, finish_of};
 ghost use Rattle.reader.specs.Gives.{CallGives, FeedGives, TakeGives};
 ghost use Rattle.reader.specs.Parts.{completing, copied};
 
@@ -40,7 +40,7 @@ pub struct Stepped {
 impl Reader {
     // A reader of the profile with this number. Refused: 11 if there is none, and then a fresh profile 0 reader comes back.
     pub fn new(profile: u8) -> Fed
-        ensures { CallGives (newOf profile) result }
+        ensures { CallGives (new_of profile) result }
     {
         let found = Profile::numbered(profile);
         match found {
@@ -65,7 +65,7 @@ impl Reader {
 
     // A fresh reader: no mark, and no nibble.
     pub fn fresh(profile: Profile) -> Reader
-        ensures { result ≡ freshReader profile }
+        ensures { result ≡ fresh_reader profile }
     {
         let at = Mark::NoMark;
         let kept = Kept::nothing();
@@ -84,7 +84,7 @@ impl Reader {
 
     // Takes one nibble. Refused: 11, 10, 12, in this order.
     pub fn feed(self, nibble: u8, buffer: &mut [u8]) -> Fed
-        ensures { FeedGives self.head.profile (feedOf self nibble (length buffer.old)) result buffer.old buffer.new }
+        ensures { FeedGives self.head.profile (feed_of self nibble (length buffer.old)) result buffer.old buffer.new }
     {
         let h = self.head;
         if h.passes() {
@@ -104,7 +104,7 @@ impl Reader {
 
     // Answers the last mark, if there is one, and leaves a fresh reader. Refused: 11, and then the reader stays as it was.
     pub fn finish(self) -> Fed
-        ensures { CallGives (finishOf self) result }
+        ensures { CallGives (finish_of self) result }
     {
         let h = self.head;
         if h.passes() {
@@ -127,7 +127,7 @@ impl Reader {
 // Takes one nibble of a reader whose body is lent, and does not ask whether the reader passes its own test. Refused: 11 where the body
 // is not as long as the longest, 10, 12, in this order.
 pub fn take(h: Head, body: &mut [u8], nibble: u8, buffer: &mut [u8]) -> Stepped
-    ensures { TakeGives (take_of (readerOf h body.old) nibble (length buffer.old)) result body.new buffer.old buffer.new }
+    ensures { TakeGives (take_of (reader_of h body.old) nibble (length buffer.old)) result body.new buffer.old buffer.new }
 {
     if body.len() != Profile::LONGEST {
         return refuse(h, refusal::BAD_STATE);
@@ -143,7 +143,7 @@ pub fn take(h: Head, body: &mut [u8], nibble: u8, buffer: &mut [u8]) -> Stepped
 }
 
 fn refuse(h: Head, number: u8) -> Stepped
-    ensures { (result.head ≡ h) × (result.answer ≡ answerFor (refused number)) }
+    ensures { (result.head ≡ h) × (result.answer ≡ answer_for (refused number)) }
 {
     let answer = Answer::Refused(number);
     Stepped { head: h, answer }
@@ -151,8 +151,8 @@ fn refuse(h: Head, number: u8) -> Stepped
 
 // Takes a nibble, of a byte above 15 the low four bits: the oldest of a full window leaves it, and a mark is complete or not.
 fn taken(h: Head, body: &mut [u8], nibble: u8, buffer: &mut [u8]) -> Stepped
-    requires { (bodyLength h.profile ≤ length buffer.old) × (length body.old ≡ longest) }
-    ensures { TakeGives (taking (readerOf h body.old) (nibble % 16)) result body.new buffer.old buffer.new }
+    requires { (body_length h.profile ≤ length buffer.old) × (length body.old ≡ longest) }
+    ensures { TakeGives (taking (reader_of h body.old) (nibble % 16)) result body.new buffer.old buffer.new }
 {
     leave_body(h, body);
     let newest = slide(h.window, nibble);
@@ -166,8 +166,8 @@ fn taken(h: Head, body: &mut [u8], nibble: u8, buffer: &mut [u8]) -> Stepped
 
 // A mark with this code is complete: the mark before it is answered, and a line handed out.
 fn complete(h: Head, body: &[u8], code: u8, buffer: &mut [u8]) -> Stepped
-    requires { (bodyLength h.profile ≤ length buffer.old) × (length body.now ≡ longest) }
-    ensures { TakeGives (completing (readerOf h body.now) code) result body.now buffer.old buffer.new }
+    requires { (body_length h.profile ≤ length buffer.old) × (length body.now ≡ longest) }
+    ensures { TakeGives (completing (reader_of h body.now) code) result body.now buffer.old buffer.new }
 {
     let p = h.profile;
     let at = h.at;
@@ -192,8 +192,8 @@ fn text_length(count: u32) -> u32
 
 // A line's body goes to the front of the buffer.
 fn hand_out(p: Profile, answer: Answer, body: &[u8], buffer: &mut [u8])
-    requires { (bodyLength p ≤ length buffer.old) × (length body.now ≡ longest) }
-    ensures { buffer.new ≡ bufferAfter (outcomeOf p answer body.now) buffer.old }
+    requires { (body_length p ≤ length buffer.old) × (length body.now ≡ longest) }
+    ensures { buffer.new ≡ buffer_after (outcome_of p answer body.now) buffer.old }
 {
     match answer {
         Answer::Nothing => {}

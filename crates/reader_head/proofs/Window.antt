@@ -11,31 +11,31 @@ use Rattle.reader_head.specs.declared.Head.{Head}
 use Rattle.reader_head.specs.Head.{aged, shifted, flushed}
 
 -- nibbles that leave at the new end are a shift
-pub aged-shift : (k w : ℕ) → aged k w ≡ w / 2 ^ (4 * k)
-aged-shift zero w = omega arith
-aged-shift (suc k) w = aged-shift k (w / 16) ∙ shr-shr w 4 (4 * k) ∙ ap (λ (n : ℕ). w / 2 ^ n) (omega arith)
+pub aged_shift : (k w : ℕ) → aged k w ≡ w / 2 ^ (4 * k)
+aged_shift zero w = omega arith
+aged_shift (suc k) w = aged_shift k (w / 16) ∙ shr-shr w 4 (4 * k) ∙ ap (λ (n : ℕ). w / 2 ^ n) (omega arith)
 
-pub all-aged : (k w : ℕ) → k ≡ 8 → w < 4294967296 → 0 ≡ aged k w
-all-aged k w e h =
+pub all_aged : (k w : ℕ) → k ≡ 8 → w < 4294967296 → 0 ≡ aged k w
+all_aged k w e h =
     let z : 0 ≡ aged 8 w = omega arith in
     z ∙ ap (λ (n : ℕ). aged n w) (sym e)
 
-pub flushed-next : (i : ℕ) (h : Head) → i < 8 → flushed (8 - i) h ≡ flushed (8 - (i + 1)) (shifted h 0)
-flushed-next i h l =
+pub flushed_next : (i : ℕ) (h : Head) → i < 8 → flushed (8 - i) h ≡ flushed (8 - (i + 1)) (shifted h 0)
+flushed_next i h l =
     let e : 8 - i ≡ suc (8 - (i + 1)) = omega arith in
     ap (λ (n : ℕ). flushed n h) e
 
-pub flushed-all : (i : ℕ) (h : Head) → 8 ≤ i → flushed (8 - i) h ≡ h
-flushed-all i h l =
+pub flushed_all : (i : ℕ) (h : Head) → 8 ≤ i → flushed (8 - i) h ≡ h
+flushed_all i h l =
     let e : 8 - i ≡ 0 = omega arith in
     ap (λ (n : ℕ). flushed n h) e
 
 -- a nibble is its own low four bits
-low-four : {v w : ℕ} → (v ≡ w) × (v < 16) → v % 16 ≡ w
-low-four e = omega (arith, e.0, e.1)
+low_four : {v w : ℕ} → (v ≡ w) × (v < 16) → v % 16 ≡ w
+low_four e = omega (arith, e.0, e.1)
 
-pub kept-nibble : (p : Profile) (k : ℕ) (t : Kept) {v w : ℕ} {r : Kept} → r ≡ kept_at p k (v % 16) t → (v ≡ w) × (v < 16) → r ≡ kept_at p k w t
-kept-nibble p k t e f = e ∙ ap (λ (n : ℕ). kept_at p k n t) (low-four f)
+pub kept_nibble : (p : Profile) (k : ℕ) (t : Kept) {v w : ℕ} {r : Kept} → r ≡ kept_at p k (v % 16) t → (v ≡ w) × (v < 16) → r ≡ kept_at p k w t
+kept_nibble p k t e f = e ∙ ap (λ (n : ℕ). kept_at p k n t) (low_four f)
 
-pub body-nibble : (k : ℕ) (b : List ℕ) {v w : ℕ} {r : List ℕ} → r ≡ body_at k (v % 16) b → (v ≡ w) × (v < 16) → r ≡ body_at k w b
-body-nibble k b e f = e ∙ ap (λ (n : ℕ). body_at k n b) (low-four f)
+pub body_nibble : (k : ℕ) (b : List ℕ) {v w : ℕ} {r : List ℕ} → r ≡ body_at k (v % 16) b → (v ≡ w) × (v < 16) → r ≡ body_at k w b
+body_nibble k b e f = e ∙ ap (λ (n : ℕ). body_at k n b) (low_four f)

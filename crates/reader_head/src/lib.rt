@@ -5,7 +5,7 @@
 ghost use Rattle.std.specs.Prelude.{◌≡◌, ◌≤◌, ◌<◌, ◌/◌, ◌%◌};
 ghost use Rattle.stream.specs.declared.Before.{Before};
 ghost use Rattle.stream.specs.declared.Mark.TheVariants.{NoMark, Open};
-ghost use Rattle.reader_head.specs.Head.{topPlace, showsMark, slide, bump, leaveKept, leaveBody, shifted, openedAfter, aged, windowFits, handedFits, passes, flushed};
+ghost use Rattle.reader_head.specs.Head.{top_place, shows_mark, slide, bump, leave_kept, leave_body, shifted, opened_after, aged, window_fits, handed_fits, passes, flushed};
 
 use mark_text::Kept;
 use period::Nibbles;
@@ -70,7 +70,7 @@ const GROUP: u32 = 0xFFFF00;
 
 // A window's newest two nibbles are the code of a mark.
 pub fn is_mark(window: u32) -> bool
-    ensures { result ≡ showsMark window }
+    ensures { result ≡ shows_mark window }
 {
     window / 256 == GROUP
 }
@@ -84,14 +84,14 @@ pub fn slide(window: u32, nibble: u8) -> u32
 
 // A full window's oldest nibble.
 fn top(window: u32) -> u8
-    ensures { (result ≡ window / topPlace) × (result < 16) }
+    ensures { (result ≡ window / top_place) × (result < 16) }
 {
     (window / TOP_PLACE) as u8
 }
 
 // It leaves the window.
 pub fn leave_kept(h: Head) -> Kept
-    ensures { result ≡ leaveKept h }
+    ensures { result ≡ leave_kept h }
 {
     let kept = h.kept;
     if h.count < WINDOW {
@@ -102,7 +102,7 @@ pub fn leave_kept(h: Head) -> Kept
 }
 
 pub fn leave_body(h: Head, body: &mut [u8])
-    ensures { body.new ≡ leaveBody h body.old }
+    ensures { body.new ≡ leave_body h body.old }
 {
     if h.count < WINDOW {
         return;
@@ -140,7 +140,7 @@ pub fn shift(h: Head, nibble: u8) -> Head
 
 // A mark with this code, just complete: what the mark before was to it, and its code, which is all of its text.
 pub fn open_after(h: Head, before: Before, code: u8) -> Head
-    ensures { result ≡ openedAfter h before code }
+    ensures { result ≡ opened_after h before code }
 {
     let profile = h.profile;
     let at = Mark::Open(before, code);
@@ -169,7 +169,7 @@ pub fn flush(h: Head) -> Head
 
 // Only an end of line follows a line handed out.
 fn handed_fits(at: Mark) -> bool
-    ensures { result ≡ handedFits at }
+    ensures { result ≡ handed_fits at }
 {
     match at {
         Mark::NoMark => true,
@@ -183,7 +183,7 @@ fn handed_fits(at: Mark) -> bool
 
 // While the code is still in the window it stands where the count says, and nothing before it.
 fn window_fits(at: Mark, count: u32, window: u32) -> bool
-    ensures { result ≡ windowFits at count window }
+    ensures { result ≡ window_fits at count window }
 {
     match at {
         Mark::NoMark => unmarked_fits(count, window),
@@ -192,7 +192,7 @@ fn window_fits(at: Mark, count: u32, window: u32) -> bool
 }
 
 fn unmarked_fits(count: u32, window: u32) -> bool
-    ensures { result ≡ windowFits NoMark count window }
+    ensures { result ≡ window_fits NoMark count window }
 {
     if WINDOW < count {
         return true;
@@ -201,7 +201,7 @@ fn unmarked_fits(count: u32, window: u32) -> bool
 }
 
 fn marked_fits(code: u32, count: u32, window: u32) -> bool
-    ensures { (before : Before) → result ≡ windowFits (Open before code) count window }
+    ensures { (before : Before) → result ≡ window_fits (Open before code) count window }
 {
     if count < 2 {
         return false;

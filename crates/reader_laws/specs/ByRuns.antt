@@ -3,7 +3,7 @@ use Rattle.std.specs.Prelude.{◌≡◌, List, ◌∷◌, ℕ, ◌+◌, ◌≤�
 use Rattle.profile.specs.Profile.{longest}
 use Rattle.stream.specs.Answers.{Outcome, nothing}
 use Rattle.reader.specs.declared.Reader.{Reader}
-use Rattle.reader.specs.Reader.{Took, feedOf}
+use Rattle.reader.specs.Reader.{Took, feed_of}
 use Rattle.run.specs.Run.{Ran}
 use Rattle.reader_laws.specs.Passing.{Ok}
 
@@ -15,7 +15,7 @@ took r o = record { reader = r; outcome = o }
 pub record ByNibbles (R : Type 0) : Type 0 where
   pub from : Reader → List ℕ → R
   pub next : Took → List ℕ → R
-  pub one : (r : Reader) (n : ℕ) (w : List ℕ) → from r (n ∷ w) ≡ next (feedOf r n longest) w
+  pub one : (r : Reader) (n : ℕ) (w : List ℕ) → from r (n ∷ w) ≡ next (feed_of r n longest) w
   pub ignores : (r : Reader) (w : List ℕ) → next (took r nothing) w ≡ from r w
 
 -- a run of w from r, of which i nibbles were taken before: it takes some, and what is worked out is the same from there on

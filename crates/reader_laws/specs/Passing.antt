@@ -1,14 +1,14 @@
 -- The states that calls reach: the reader's own test as facts, and that a mark's code is a byte. Definitions only.
 use Rattle.std.specs.Prelude.{◌≡◌, true, false, [], ℕ, ◌+◌, ◌-◌, ◌%◌, ◌≤◌, ◌<◌}
-use Rattle.profile.specs.Profile.{gapStart}
+use Rattle.profile.specs.Profile.{gap_start}
 use Rattle.stream.specs.declared.Mark.{Mark}
 use Rattle.stream.specs.declared.Mark.TheVariants.{NoMark, Open}
 use Rattle.reader_head.specs.declared.Head.{Head}
-use Rattle.reader_head.specs.Head.{showsMark, countStop, aged, handedFits, flushed}
+use Rattle.reader_head.specs.Head.{shows_mark, count_stop, aged, handed_fits, flushed}
 use Rattle.std.proofs.Math.Option.{none}
-use Rattle.mark_answer.specs.KeptAnswer.{keptAnswer}
+use Rattle.mark_answer.specs.KeptAnswer.{kept_answer}
 use Rattle.reader.specs.declared.Reader.{Reader}
-use Rattle.reader.specs.Reader.{Took, freshReader}
+use Rattle.reader.specs.Reader.{Took, fresh_reader}
 
 -- The test as facts.
 
@@ -25,11 +25,11 @@ Fits (Open before code) c w = MarkFits code c w
 
 -- what a state that passes the reader's own test has
 pub record Passed (h : Head) : Type 0 where
-  pub count_small : h.count ≤ countStop
-  pub no-mark-there : showsMark h.window ≡ false
-  pub handed-fits : handedFits h.at ≡ true
-  pub window-fits : Fits h.at h.count h.window
-  pub stray-late : h.kept.stray ≡ true → gapStart h.profile + 8 < h.count
+  pub count_small : h.count ≤ count_stop
+  pub no_mark_there : shows_mark h.window ≡ false
+  pub handed_fits_lem : handed_fits h.at ≡ true
+  pub window_fits_lem : Fits h.at h.count h.window
+  pub stray_late : h.kept.stray ≡ true → gap_start h.profile + 8 < h.count
 
 -- a mark's code is a byte
 abbrev pub Byte : Mark → Type 0
@@ -45,6 +45,6 @@ pub record Ok (h : Head) : Type 0 where
 abbrev pub finished : Reader → Took
 finished r =
     record {
-      reader = freshReader r.head.profile;
-      outcome = keptAnswer r.head.profile r.head.at r.head.count (flushed 8 r.head).kept [] none;
+      reader = fresh_reader r.head.profile;
+      outcome = kept_answer r.head.profile r.head.at r.head.count (flushed 8 r.head).kept [] none;
     }

@@ -3,12 +3,12 @@ use Rattle.std.specs.Prelude.{◌≡◌, List, ℕ}
 use Rattle.reader_table.specs.declared.TableOpened.{TableOpened}
 use Rattle.reader_table.specs.declared.TableFed.{TableFed}
 use Rattle.reader_table.specs.declared.TableRunFed.{TableRunFed}
-use Rattle.reader_table.specs.Table.{openingFor, PlaceOpened, PlaceCalled}
+use Rattle.reader_table.specs.Table.{opening_for, PlaceOpened, PlaceCalled}
 
 -- opening
 pub record OpenGives (o : PlaceOpened) (r : TableOpened) : Type 0 where
   pub next : r.table ≡ o.table
-  pub says : r.answer ≡ openingFor o.placing
+  pub says : r.answer ≡ opening_for o.placing
 
 -- finish and close: no buffer is lent
 pub record PlaceGives (c : PlaceCalled) (r : TableFed) : Type 0 where

@@ -6,10 +6,10 @@
 // alike; then what the reader itself refuses. Finish leaves the place to its technician, and close answers no mark. Cost: the reader's own call,
 // and a few copies of the table, 3 kB: feed runs of nibbles rather than single ones.
 ghost use Rattle.std.specs.Prelude.{◌≡◌};
-ghost use Rattle.stream.specs.Answers.{refused, answerFor};
+ghost use Rattle.stream.specs.Answers.{refused, answer_for};
 ghost use Rattle.recovery.specs.Calls.{feed, done};
 ghost use Rattle.refinement.specs.Runs.{run, one};
-ghost use Rattle.reader_table.specs.Table.{emptyTable, freePlace, placeFor, placeAt, withPlace, lowestFree, openPlaceOf, openPlace, notOpened, callPlaceOf, closePlaceOf};
+ghost use Rattle.reader_table.specs.Table.{empty_table, free_place, place_for, place_at, with_place, lowest_free, open_place_of, open_place, not_opened, call_place_of, close_place_of};
 ghost use Rattle.reader_table.specs.Gives.{OpenGives, PlaceGives, FeedPlaceGives, RunPlaceGives};
 
 use profile::{Numbered, Profile};
@@ -66,7 +66,7 @@ const NOBODY: u8 = 0;
 impl ReaderTable {
     // A table of free places.
     pub fn empty() -> ReaderTable
-        ensures { result ≡ emptyTable }
+        ensures { result ≡ empty_table }
     {
         let place = TablePlace::free();
         let places = [place; PLACES];
@@ -75,7 +75,7 @@ impl ReaderTable {
 
     // Gives the lowest free place to a technician, with a fresh reader of the profile with this number. Refused: 32, 11, 33, in this order.
     pub fn open_reader(self, technician: u8, profile: u8) -> TableOpened
-        ensures { OpenGives (openPlaceOf self technician profile) result }
+        ensures { OpenGives (open_place_of self technician profile) result }
     {
         if technician::is_technician(technician) {
             let found = Profile::numbered(profile);
@@ -90,7 +90,7 @@ impl ReaderTable {
 
     // Takes one nibble into the reader of a place. Refused: 32, 34, and as the reader does.
     pub fn feed(self, technician: u8, place: usize, nibble: u8, buffer: &mut [u8]) -> TableFed
-        ensures { FeedPlaceGives (callPlaceOf self technician place (one (feed nibble buffer.old))) result buffer.new }
+        ensures { FeedPlaceGives (call_place_of self technician place (one (feed nibble buffer.old))) result buffer.new }
     {
         let p = self.place_at(place);
         let n = technician::denial(technician, p.owner);
@@ -107,7 +107,7 @@ impl ReaderTable {
 
     // Takes a run of nibbles up to the first answer. Refused: 32, 34, and as the reader does.
     pub fn run(self, technician: u8, place: usize, nibbles: &[u8], buffer: &mut [u8]) -> TableRunFed
-        ensures { RunPlaceGives (callPlaceOf self technician place (run nibbles.now buffer.old)) result buffer.new }
+        ensures { RunPlaceGives (call_place_of self technician place (run nibbles.now buffer.old)) result buffer.new }
     {
         let p = self.place_at(place);
         let n = technician::denial(technician, p.owner);
@@ -129,7 +129,7 @@ impl ReaderTable {
 
     // Answers the last mark of a place, and leaves it a fresh reader; the place stays its technician's. Refused: 32, 34, and as the reader does.
     pub fn finish(self, technician: u8, place: usize) -> TableFed
-        ensures { PlaceGives (callPlaceOf self technician place (one done)) result }
+        ensures { PlaceGives (call_place_of self technician place (one done)) result }
     {
         let p = self.place_at(place);
         let n = technician::denial(technician, p.owner);
@@ -146,7 +146,7 @@ impl ReaderTable {
 
     // Frees a place. Refused: 32, 34.
     pub fn close(self, technician: u8, place: usize) -> TableFed
-        ensures { PlaceGives (closePlaceOf self technician place) result }
+        ensures { PlaceGives (close_place_of self technician place) result }
     {
         let p = self.place_at(place);
         let n = technician::denial(technician, p.owner);
@@ -161,7 +161,7 @@ impl ReaderTable {
 
     // A fresh reader of this profile in the lowest free place. Refused: 33.
     fn open_place(self, technician: u8, profile: Profile) -> TableOpened
-        ensures { OpenGives (openPlace self technician profile) result }
+        ensures { OpenGives (open_place self technician profile) result }
     {
         let place = self.lowest_free();
         if place < PLACES {
@@ -175,7 +175,7 @@ impl ReaderTable {
 
     // The lowest free place; the count of places where all are taken.
     fn lowest_free(self) -> usize
-        ensures { result ≡ lowestFree self.places }
+        ensures { result ≡ lowest_free self.places }
     {
         let mut i: usize = 0;
         while i < PLACES {
@@ -189,7 +189,7 @@ impl ReaderTable {
     }
 
     fn not_opened(self, number: u8) -> TableOpened
-        ensures { OpenGives (notOpened self number) result }
+        ensures { OpenGives (not_opened self number) result }
     {
         let answer = Opening::Refused(number);
         TableOpened {
@@ -199,7 +199,7 @@ impl ReaderTable {
     }
 
     fn refuse(self, number: u8) -> TableFed
-        ensures { (result.table ≡ self) × (result.answer ≡ answerFor (refused number)) }
+        ensures { (result.table ≡ self) × (result.answer ≡ answer_for (refused number)) }
     {
         let answer = Answer::Refused(number);
         TableFed {
@@ -209,7 +209,7 @@ impl ReaderTable {
     }
 
     fn not_run(self, number: u8) -> TableRunFed
-        ensures { (result.table ≡ self) × (result.answer ≡ answerFor (refused number)) × (result.taken ≡ 0) }
+        ensures { (result.table ≡ self) × (result.answer ≡ answer_for (refused number)) × (result.taken ≡ 0) }
     {
         let answer = Answer::Refused(number);
         TableRunFed {
@@ -221,7 +221,7 @@ impl ReaderTable {
 
     // The place with this number; one that is not there counts as free.
     fn place_at(self, place: usize) -> TablePlace
-        ensures { result ≡ placeAt self place }
+        ensures { result ≡ place_at self place }
     {
         if place < PLACES {
             let p = self.places[place];
@@ -232,7 +232,7 @@ impl ReaderTable {
 
     // The table with another place at this number; where none is there, as it was.
     fn put_place(mut self, place: usize, p: TablePlace) -> ReaderTable
-        ensures { result ≡ withPlace self place p }
+        ensures { result ≡ with_place self place p }
     {
         if place < PLACES {
             self.places[place] = p;
@@ -241,7 +241,7 @@ impl ReaderTable {
     }
 
     fn with_reader(self, place: usize, owner: u8, reader: Reader) -> ReaderTable
-        ensures { result ≡ withPlace self place (placeFor owner reader) }
+        ensures { result ≡ with_place self place (place_for owner reader) }
     {
         let p = TablePlace { owner, reader };
         self.put_place(place, p)
@@ -250,7 +250,7 @@ impl ReaderTable {
 
 impl TablePlace {
     fn free() -> TablePlace
-        ensures { result ≡ freePlace }
+        ensures { result ≡ free_place }
     {
         let reader = Reader::fresh(Profile::VV5404);
         TablePlace {

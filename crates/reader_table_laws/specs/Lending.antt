@@ -5,8 +5,8 @@ use Rattle.std.proofs.Math.Option.{Option, none, some}
 use Rattle.recovery.specs.Calls.{feed, done}
 use Rattle.refinement.specs.Runs.{run, one}
 use Rattle.reader_table.specs.declared.ReaderTable.{ReaderTable}
-use Rattle.reader_table.specs.Table.{emptyTable}
-use Rattle.reader_table_laws.specs.History.{TableRequest, toOpen, toRead, toClose, TableCall, TableReply, openReply, callReply, TableServed, serve, toldTo, openingsIn}
+use Rattle.reader_table.specs.Table.{empty_table}
+use Rattle.reader_table_laws.specs.History.{TableRequest, to_open, to_read, to_close, TableCall, TableReply, open_reply, call_reply, TableServed, serve, told_to, openings_in}
 
 -- what each line buffer holds, by the buffer's number
 abbrev pub Buffers : Type 0
@@ -19,11 +19,11 @@ but v j x i = cond (eqb i j) x (v i)
 -- what is asked: a reader of the profile with this number; of a place, that a nibble or a run of inputs is fed to it, with the number of the
 -- buffer lent; that it is finished; that it is closed
 pub data LendingRequest : Type 0 where
-  requestOpen : (profile : ℕ) → LendingRequest
-  requestFeed : (place nibble buffer : ℕ) → LendingRequest
-  requestRun : (place : ℕ) (inputs : List ℕ) (buffer : ℕ) → LendingRequest
-  requestFinish : (place : ℕ) → LendingRequest
-  requestClose : (place : ℕ) → LendingRequest
+  request_open : (profile : ℕ) → LendingRequest
+  request_feed : (place nibble buffer : ℕ) → LendingRequest
+  request_run : (place : ℕ) (inputs : List ℕ) (buffer : ℕ) → LendingRequest
+  request_finish : (place : ℕ) → LendingRequest
+  request_close : (place : ℕ) → LendingRequest
 
 -- a call: the technician's number, and the request
 pub record LendingCall : Type 0 where
@@ -32,51 +32,51 @@ pub record LendingCall : Type 0 where
 
 -- the buffer that a request lends
 abbrev pub lends : LendingRequest → Option ℕ
-lends (requestOpen n) = none
-lends (requestFeed i n b) = some b
-lends (requestRun i w b) = some b
-lends (requestFinish i) = none
-lends (requestClose i) = none
+lends (request_open n) = none
+lends (request_feed i n b) = some b
+lends (request_run i w b) = some b
+lends (request_finish i) = none
+lends (request_close i) = none
 
 -- the request with what the buffer holds, as the table has it
-abbrev pub requestInFull : Buffers → LendingRequest → TableRequest
-requestInFull s (requestOpen n) = toOpen n
-requestInFull s (requestFeed i n b) = toRead i (one (feed n (s b)))
-requestInFull s (requestRun i w b) = toRead i (run w (s b))
-requestInFull s (requestFinish i) = toRead i (one done)
-requestInFull s (requestClose i) = toClose i
+abbrev pub request_in_full : Buffers → LendingRequest → TableRequest
+request_in_full s (request_open n) = to_open n
+request_in_full s (request_feed i n b) = to_read i (one (feed n (s b)))
+request_in_full s (request_run i w b) = to_read i (run w (s b))
+request_in_full s (request_finish i) = to_read i (one done)
+request_in_full s (request_close i) = to_close i
 
 -- the buffers after a call, by what it is told: the one that it lent is as the reply has it, and the others are as they were
-abbrev pub buffersAfter : Buffers → Option ℕ → TableReply → Buffers
-buffersAfter s none x = s
-buffersAfter s (some b) (openReply o) = s
-buffersAfter s (some b) (callReply a n buffer) = but s b buffer
+abbrev pub buffers_after : Buffers → Option ℕ → TableReply → Buffers
+buffers_after s none x = s
+buffers_after s (some b) (open_reply o) = s
+buffers_after s (some b) (call_reply a n buffer) = but s b buffer
 
 -- a history as the table has it: each call with what its buffer holds then
-abbrev pub historyInFull : ReaderTable → Buffers → List LendingCall → List TableCall
-historyInFull t s [] = []
-historyInFull t s (c ∷ h) =
-    let q : TableRequest = requestInFull s c.request in
+abbrev pub history_in_full : ReaderTable → Buffers → List LendingCall → List TableCall
+history_in_full t s [] = []
+history_in_full t s (c ∷ h) =
+    let q : TableRequest = request_in_full s c.request in
     let x : TableServed = serve t c.who q in
-    record { who = c.who; request = q } ∷ historyInFull x.table (buffersAfter s (lends c.request) x.told) h
+    record { who = c.who; request = q } ∷ history_in_full x.table (buffers_after s (lends c.request) x.told) h
 
 -- what the buffers hold after it
-abbrev pub buffersLeft : ReaderTable → Buffers → List LendingCall → Buffers
-buffersLeft t s [] = s
-buffersLeft t s (c ∷ h) =
-    let x : TableServed = serve t c.who (requestInFull s c.request) in
-    buffersLeft x.table (buffersAfter s (lends c.request) x.told) h
+abbrev pub buffers_left : ReaderTable → Buffers → List LendingCall → Buffers
+buffers_left t s [] = s
+buffers_left t s (c ∷ h) =
+    let x : TableServed = serve t c.who (request_in_full s c.request) in
+    buffers_left x.table (buffers_after s (lends c.request) x.told) h
 
 -- One technician's part of a history.
 
 -- what they ask, in order
-abbrev pub requestsOf : ℕ → List LendingCall → List LendingRequest
-requestsOf who [] = []
-requestsOf who (c ∷ h) = cond (eqb c.who who) (c.request ∷ requestsOf who h) (requestsOf who h)
+abbrev pub requests_of : ℕ → List LendingCall → List LendingRequest
+requests_of who [] = []
+requests_of who (c ∷ h) = cond (eqb c.who who) (c.request ∷ requests_of who h) (requests_of who h)
 
 -- what they are told, in order, from an empty table and these buffers on: a call's answer has the buffer as it is then
-abbrev pub toldFrom : ℕ → Buffers → List LendingCall → List TableReply
-toldFrom who s h = toldTo who emptyTable (historyInFull emptyTable s h)
+abbrev pub told_from : ℕ → Buffers → List LendingCall → List TableReply
+told_from who s h = told_to who empty_table (history_in_full empty_table s h)
 
 -- each technician's buffers are their own (`mine` says which those of who are): a buffer that a call lends is one of who's exactly when the call
 -- is theirs
@@ -102,6 +102,6 @@ Isolated who =
     → OwnBuffers mine who h
     → OwnBuffers mine who k
     → SameBuffers mine s z
-    → requestsOf who h ≡ requestsOf who k
-    → openingsIn (toldFrom who s h) ≡ openingsIn (toldFrom who z k)
-    → (toldFrom who s h ≡ toldFrom who z k) × SameBuffers mine (buffersLeft emptyTable s h) (buffersLeft emptyTable z k)
+    → requests_of who h ≡ requests_of who k
+    → openings_in (told_from who s h) ≡ openings_in (told_from who z k)
+    → (told_from who s h ≡ told_from who z k) × SameBuffers mine (buffers_left empty_table s h) (buffers_left empty_table z k)

@@ -5,11 +5,11 @@
 // such profile, 13 a kind above 5, 10 an input above 15 anywhere in the run, 36 a run that doesn't begin with a mark.
 // Cost: linear in the run, which is not copied.
 ghost use Rattle.std.specs.Prelude.{◌≡◌, true, ◌+◌, ◌*◌, ◌<◌, ◌≤◌, length, drop};
-ghost use Rattle.stream.specs.Answers.{lineNibbles};
-ghost use Rattle.stream.specs.Nibbles.{nibblesOnly};
-ghost use Rattle.reason.specs.Sums.{failedSums};
-ghost use Rattle.reason.specs.Explanation.{code_at, beginsMark, nextMark, pair_at, nextReason, lineFromBody, lineFromNumber, lineReason, gapRule, strayReason, twoBytesReason, gapReason, endMarkReason, meaningReason, reasonOf, firstReason, runReason};
-ghost use Rattle.reason.specs.Valued.{valued, explanationValues};
+ghost use Rattle.stream.specs.Answers.{line_nibbles};
+ghost use Rattle.stream.specs.Nibbles.{nibbles_only};
+ghost use Rattle.reason.specs.Sums.{failed_sums};
+ghost use Rattle.reason.specs.Explanation.{code_at, begins_mark, next_mark, pair_at, next_reason, line_from_body, line_from_number, line_reason, gap_rule, stray_reason, two_bytes_reason, gap_reason, end_mark_reason, meaning_reason, reason_of, first_reason, run_reason};
+ghost use Rattle.reason.specs.Valued.{valued, explanation_values};
 
 use line_code::{Kind, LineKind, Meaning, Reading};
 use profile::{Numbered, Profile, Rule};
@@ -65,7 +65,7 @@ pub enum Reason {
 
 // The reason of the answer to a run's first mark.
 pub fn explain(profile: u8, before: u8, run: &[u8]) -> Reason
-    ensures { valued result ≡ explanationValues profile before run.now }
+    ensures { valued result ≡ explanation_values profile before run.now }
 {
     let numbered = Profile::numbered(profile);
     match numbered {
@@ -76,7 +76,7 @@ pub fn explain(profile: u8, before: u8, run: &[u8]) -> Reason
 
 // The same of a profile.
 fn run_reason(profile: Profile, before: u8, run: &[u8]) -> Reason
-    ensures { result ≡ runReason profile before run.now }
+    ensures { result ≡ run_reason profile before run.now }
 {
     if LAST_KIND < before {
         return Reason::Refused(refusal::BAD_KIND);
@@ -104,7 +104,7 @@ const LAST_KIND: u8 = 5;
 
 // Whether no input is above 15.
 fn nibbles_only(run: &[u8]) -> bool
-    ensures { result ≡ nibblesOnly run.now }
+    ensures { result ≡ nibbles_only run.now }
 {
     let mut i: usize = 0;
     while i < run.len() {
@@ -118,7 +118,7 @@ fn nibbles_only(run: &[u8]) -> bool
 
 // Whether the nibbles begin with a mark.
 fn begins_mark(run: &[u8]) -> bool
-    ensures { (result ≡ beginsMark run.now) × (result ≡ true → 8 ≤ length run.now) }
+    ensures { (result ≡ begins_mark run.now) × (result ≡ true → 8 ≤ length run.now) }
 {
     if run.len() < MARK {
         return false;
@@ -143,7 +143,7 @@ fn begins_mark(run: &[u8]) -> bool
 
 // How many nibbles stand before the first place where a mark begins.
 fn next_mark(run: &[u8]) -> usize
-    ensures { (result ≡ nextMark run.now) × (result ≤ length run.now) }
+    ensures { (result ≡ next_mark run.now) × (result ≤ length run.now) }
 {
     let mut i: usize = 0;
     while i < run.len() {
@@ -157,7 +157,7 @@ fn next_mark(run: &[u8]) -> usize
 
 // The code of the mark that the nibbles begin with, if they do.
 fn code_at(run: &[u8]) -> Next
-    requires { nibblesOnly run.now ≡ true }
+    requires { nibbles_only run.now ≡ true }
     ensures { result ≡ code_at run.now }
 {
     if begins_mark(run) {
@@ -168,7 +168,7 @@ fn code_at(run: &[u8]) -> Next
 
 // The byte of the nibbles at a place and the next.
 fn pair_at(text: &[u8], i: usize) -> u8
-    requires { (nibblesOnly text.now ≡ true) × (i + 1 < length text.now) }
+    requires { (nibbles_only text.now ≡ true) × (i + 1 < length text.now) }
     ensures { result ≡ pair_at text.now i }
 {
     joined(text[i], text[i + 1])
@@ -183,8 +183,8 @@ fn joined(high: u8, low: u8) -> u8
 
 // The reason, of what follows a run's first F F F F 0 0.
 fn first_reason(profile: Profile, before: LineKind, run: &[u8]) -> Reason
-    requires { (nibblesOnly run.now ≡ true) × (2 ≤ length run.now) }
-    ensures { result ≡ firstReason profile before run.now }
+    requires { (nibbles_only run.now ≡ true) × (2 ≤ length run.now) }
+    ensures { result ≡ first_reason profile before run.now }
 {
     let code = pair_at(run, 0);
     let end = next_mark(run);
@@ -194,8 +194,8 @@ fn first_reason(profile: Profile, before: LineKind, run: &[u8]) -> Reason
 
 // The reason, of a mark's code, its text and the next mark's code.
 fn mark_reason(profile: Profile, before: LineKind, code: u8, text: &[u8], next: Next) -> Reason
-    requires { nibblesOnly text.now ≡ true }
-    ensures { result ≡ reasonOf profile before code text.now next }
+    requires { nibbles_only text.now ≡ true }
+    ensures { result ≡ reason_of profile before code text.now next }
 {
     let reading = line_code::read(code);
     match reading {
@@ -208,8 +208,8 @@ fn mark_reason(profile: Profile, before: LineKind, code: u8, text: &[u8], next: 
 }
 
 fn meaning_reason(profile: Profile, before: LineKind, m: Meaning, text: &[u8], next: Next) -> Reason
-    requires { nibblesOnly text.now ≡ true }
-    ensures { result ≡ meaningReason profile before m text.now next }
+    requires { nibbles_only text.now ≡ true }
+    ensures { result ≡ meaning_reason profile before m text.now next }
 {
     match m {
         Meaning::EndOfLine => end_mark_reason(profile, before, text),
@@ -221,7 +221,7 @@ fn meaning_reason(profile: Profile, before: LineKind, m: Meaning, text: &[u8], n
 
 // Which of the four parity sums of a code byte fail.
 fn failed_sums(byte: u8) -> FailedSums
-    ensures { result ≡ failedSums byte }
+    ensures { result ≡ failed_sums byte }
 {
     let c2 = byte / 64 % 2;
     let c1 = byte / 32 % 2;
@@ -236,8 +236,8 @@ fn failed_sums(byte: u8) -> FailedSums
 
 // 3, 4, or by number, body and the next mark's code.
 fn line_reason(profile: Profile, kind: Kind, text: &[u8], next: Next) -> Reason
-    requires { nibblesOnly text.now ≡ true }
-    ensures { result ≡ lineReason profile kind text.now next }
+    requires { nibbles_only text.now ≡ true }
+    ensures { result ≡ line_reason profile kind text.now next }
 {
     match next {
         Next::Finish => Reason::UnfinishedLine,
@@ -253,8 +253,8 @@ fn line_reason(profile: Profile, kind: Kind, text: &[u8], next: Next) -> Reason
 
 // 5, or by the body.
 fn number_reason(profile: Profile, kind: Kind, text: &[u8], next: u8) -> Reason
-    requires { (nibblesOnly text.now ≡ true) × (length text.now ≡ lineNibbles profile) }
-    ensures { result ≡ lineFromNumber profile kind text.now next }
+    requires { (nibbles_only text.now ≡ true) × (length text.now ≡ line_nibbles profile) }
+    ensures { result ≡ line_from_number profile kind text.now next }
 {
     let high = pair_at(text, 2);
     let low = pair_at(text, 4);
@@ -269,8 +269,8 @@ fn number_reason(profile: Profile, kind: Kind, text: &[u8], next: u8) -> Reason
 
 // 6, or by the next mark's code.
 fn body_reason(profile: Profile, kind: Kind, text: &[u8], next: u8) -> Reason
-    requires { (nibblesOnly text.now ≡ true) × (length text.now ≡ lineNibbles profile) }
-    ensures { result ≡ lineFromBody profile kind text.now next }
+    requires { (nibbles_only text.now ≡ true) × (length text.now ≡ line_nibbles profile) }
+    ensures { result ≡ line_from_body profile kind text.now next }
 {
     let n = profile.body_length();
     let mut i: usize = 0;
@@ -288,7 +288,7 @@ fn body_reason(profile: Profile, kind: Kind, text: &[u8], next: u8) -> Reason
 
 // 7, or a good line.
 fn next_reason(next: u8) -> Reason
-    ensures { result ≡ nextReason next }
+    ensures { result ≡ next_reason next }
 {
     let reading = line_code::read(next);
     if reading.is_end() {
@@ -299,8 +299,8 @@ fn next_reason(next: u8) -> Reason
 
 // 8, or by the gap.
 fn end_mark_reason(profile: Profile, before: LineKind, text: &[u8]) -> Reason
-    requires { nibblesOnly text.now ≡ true }
-    ensures { result ≡ endMarkReason profile before (drop 2 text.now) }
+    requires { nibbles_only text.now ≡ true }
+    ensures { result ≡ end_mark_reason profile before (drop 2 text.now) }
 {
     match before {
         LineKind::NotLine => Reason::EndWithoutLine,
@@ -323,8 +323,8 @@ fn code_end(length: usize) -> usize
 
 // 9, or a good gap.
 fn gap_reason(profile: Profile, kind: Kind, gap: &[u8]) -> Reason
-    requires { nibblesOnly gap.now ≡ true }
-    ensures { result ≡ gapReason profile kind gap.now }
+    requires { nibbles_only gap.now ≡ true }
+    ensures { result ≡ gap_reason profile kind gap.now }
 {
     match profile {
         Profile::VV5404 => stray_reason(gap, 0),
@@ -334,8 +334,8 @@ fn gap_reason(profile: Profile, kind: Kind, gap: &[u8]) -> Reason
 
 // Profile 1: by the two bytes, then by what follows.
 fn two_bytes_reason(kind: Kind, gap: &[u8]) -> Reason
-    requires { nibblesOnly gap.now ≡ true }
-    ensures { result ≡ twoBytesReason kind gap.now }
+    requires { nibbles_only gap.now ≡ true }
+    ensures { result ≡ two_bytes_reason kind gap.now }
 {
     if gap.len() < 4 {
         return Reason::ShortGap(gap.len());
@@ -354,7 +354,7 @@ fn two_bytes_reason(kind: Kind, gap: &[u8]) -> Reason
 
 // What each of a profile 1 gap's two bytes may be, after a line of this kind.
 fn gap_rule(kind: Kind) -> Rule
-    ensures { result ≡ gapRule kind }
+    ensures { result ≡ gap_rule kind }
 {
     match kind {
         Kind::BL => Rule::Filler,
@@ -368,7 +368,7 @@ fn gap_rule(kind: Kind) -> Rule
 // The first nibble other than F, from a place on.
 fn stray_reason(gap: &[u8], from: usize) -> Reason
     requires { from ≤ length gap.now }
-    ensures { result ≡ strayReason (drop from gap.now) from }
+    ensures { result ≡ stray_reason (drop from gap.now) from }
 {
     let mut i = from;
     while i < gap.len() {

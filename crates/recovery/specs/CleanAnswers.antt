@@ -9,31 +9,31 @@ use Rattle.stream.specs.Written.{Sent, written}
 use Rattle.recovery.specs.Collected.{collected}
 
 -- the answer in an outcome: nothing is none
-abbrev pub saidIn : Outcome → List Outcome
-saidIn nothing = []
-saidIn (line f body) = line f body ∷ []
-saidIn (gap g) = gap g ∷ []
-saidIn (refused n) = refused n ∷ []
+abbrev pub said_in : Outcome → List Outcome
+said_in nothing = []
+said_in (line f body) = line f body ∷ []
+said_in (gap g) = gap g ∷ []
+said_in (refused n) = refused n ∷ []
 
 -- the answers given, in order: the outcomes that are not nothing
 abbrev pub said : List Outcome → List Outcome
-said os = collected saidIn os
+said os = collected said_in os
 
 -- what nibbles bring from a state on, and then finish
-abbrev pub outcomesFinished : Profile → State → List ℕ → List Outcome
-outcomesFinished p x w = outcomes p x w ++ ((finish p (run p x w)).outcome ∷ [])
+abbrev pub outcomes_finished : Profile → State → List ℕ → List Outcome
+outcomes_finished p x w = outcomes p x w ++ ((finish p (run p x w)).outcome ∷ [])
 
 -- the line given to the writer, with these repairs of the code that starts it and of the code that ends it
-abbrev pub lineRead : Sent → Repair → Repair → Outcome
-lineRead s start end = line (facts s.kind s.number start end) s.body
+abbrev pub line_read : Sent → Repair → Repair → Outcome
+line_read s start end = line (facts s.kind s.number start end) s.body
 
 -- its good gap, with the two bytes given to the writer, and this period in nibbles
-abbrev pub gapRead : Sent → ℕ → Outcome
-gapRead s n = gap (record { first = s.gap-one; second = s.gap-two; period = record { 0 = n } })
+abbrev pub gap_read : Sent → ℕ → Outcome
+gap_read s n = gap (record { first = s.gap_one; second = s.gap_two; period = record { 0 = n } })
 
 -- each line, neither code repaired, and its gap, in the order sent. A line's period is its length as written, since the next line's mark stands
 -- straight after it; the last gap is told by finish, and has none
-abbrev pub cleanAnswers : List Sent → List Outcome
-cleanAnswers [] = []
-cleanAnswers (s ∷ []) = lineRead s Clean Clean ∷ gapRead s 0 ∷ []
-cleanAnswers (s ∷ next ∷ ss) = lineRead s Clean Clean ∷ gapRead s (length (written s)) ∷ cleanAnswers (next ∷ ss)
+abbrev pub clean_answers : List Sent → List Outcome
+clean_answers [] = []
+clean_answers (s ∷ []) = line_read s Clean Clean ∷ gap_read s 0 ∷ []
+clean_answers (s ∷ next ∷ ss) = line_read s Clean Clean ∷ gap_read s (length (written s)) ∷ clean_answers (next ∷ ss)

@@ -3,7 +3,7 @@ use Rattle.std.specs.Prelude.{List, [], ◌∷◌, ◌++◌, ℕ}
 use Rattle.stream.specs.Answers.{Outcome, nothing}
 use Rattle.profile.specs.declared.Profile.{Profile}
 use Rattle.stream.specs.Stream.{State, outcomes}
-use Rattle.recovery.specs.Calls.{LineOut, lineIn, gapIn}
+use Rattle.recovery.specs.Calls.{LineOut, line_in, gap_in}
 use Rattle.stream.specs.declared.GapFacts.{GapFacts}
 
 -- nibbles that bring nothing
@@ -18,8 +18,8 @@ collected brings (o ∷ os) = brings o ++ collected brings os
 
 -- the lines that nibbles bring out
 abbrev pub lines : Profile → State → List ℕ → List LineOut
-lines p s w = collected lineIn (outcomes p s w)
+lines p s w = collected line_in (outcomes p s w)
 
 -- the good gaps that nibbles bring out
 abbrev pub gaps : Profile → State → List ℕ → List GapFacts
-gaps p s w = collected gapIn (outcomes p s w)
+gaps p s w = collected gap_in (outcomes p s w)

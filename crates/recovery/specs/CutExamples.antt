@@ -4,22 +4,22 @@ use Rattle.std.specs.Prelude.{◌≡◌, refl, [], ◌∷◌, ℕ, ◌+◌}
 use Rattle.line_code.specs.declared.Kind.TheVariants.{BL}
 use Rattle.profile.specs.declared.Profile.{Profile}
 use Rattle.profile.specs.declared.Profile.TheVariants.{VV5404, VV5300}
-use Rattle.recovery.specs.CutStream.{wholeBetween, closedBetween, CutStream}
-use Rattle.recovery.specs.CutStreamLaws.{cut-stream}
-use Rattle.recovery.specs.Examples.{sample, four, four-writable}
+use Rattle.recovery.specs.CutStream.{whole_between, closed_between, CutStream}
+use Rattle.recovery.specs.CutStreamLaws.{cut_stream}
+use Rattle.recovery.specs.Examples.{sample, four, four_writable}
 
 -- the cut: so many nibbles from the place 100 on
 abbrev pub size : Profile → ℕ
 size VV5404 = 1500
 size VV5300 = 700
 
-pub line-within : (p : Profile) → wholeBetween 100 (100 + size p) (four p) ≡ sample p BL 3 ∷ []
-line-within VV5404 = refl
-line-within VV5300 = refl
+pub line_within : (p : Profile) → whole_between 100 (100 + size p) (four p) ≡ sample p BL 3 ∷ []
+line_within VV5404 = refl
+line_within VV5300 = refl
 
-pub gap_within : (p : Profile) → closedBetween 100 (100 + size p) (four p) ≡ sample p BL 3 ∷ []
+pub gap_within : (p : Profile) → closed_between 100 (100 + size p) (four p) ≡ sample p BL 3 ∷ []
 gap_within VV5404 = refl
 gap_within VV5300 = refl
 
-pub cut-four : (p : Profile) → CutStream p (four p) 100 (size p)
-cut-four p = cut-stream p (four-writable p) 100 (size p)
+pub cut_four : (p : Profile) → CutStream p (four p) 100 (size p)
+cut_four p = cut_stream p (four_writable p) 100 (size p)

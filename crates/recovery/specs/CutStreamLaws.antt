@@ -8,131 +8,131 @@ use Rattle.std.proofs.Math.Seq.{take-nil, drop-nil, drop-append-add}
 use Rattle.line_code.specs.declared.Kind.{Kind}
 use Rattle.line_code.specs.declared.Meaning.TheVariants.{EndOfLine, Line}
 use Rattle.line_code.specs.declared.Repair.TheVariants.{Clean}
-use Rattle.line_code.specs.LineCode.{cleanByte, kind_of}
-use Rattle.line_code.specs.LineCodeLaws.{clean-reading}
-use Rattle.line_number.specs.LineNumber.{numberByte}
+use Rattle.line_code.specs.LineCode.{clean_byte, kind_of}
+use Rattle.line_code.specs.LineCodeLaws.{clean_reading}
+use Rattle.line_number.specs.LineNumber.{number_byte}
 use Rattle.profile.specs.declared.Profile.{Profile}
 use Rattle.profile.specs.declared.Profile.TheVariants.{VV5404, VV5300}
-use Rattle.profile.specs.Profile.{bodyLength, nullByte}
+use Rattle.profile.specs.Profile.{body_length, null_byte}
 use Rattle.stream.specs.declared.Before.TheVariants.{NoLine, HandedOut}
 use Rattle.stream.specs.declared.Mark.{Mark}
 use Rattle.stream.specs.declared.Mark.TheVariants.{NoMark, Open}
-use Rattle.stream.specs.Answers.{Outcome, nothing, is_line, goodGap, byReading, answer_of}
-use Rattle.stream.specs.Stream.{State, fresh, beforeBy, answerAt, finish, run, outcomes}
-use Rattle.stream.specs.Written.{Sent, mostText, Writable, AllWritable, no_lines, and-line, startMark, content, endMark, tail, written, stream}
-use Rattle.recovery.specs.Calls.{lineIn, asSent, gapIn, gapAsSent, endedBy, startFrom, lines_from, closedBy}
+use Rattle.stream.specs.Answers.{Outcome, nothing, is_line, good_gap, by_reading, answer_of}
+use Rattle.stream.specs.Stream.{State, fresh, before_by, answer_at, finish, run, outcomes}
+use Rattle.stream.specs.Written.{Sent, most_text, Writable, AllWritable, no_lines_lem, and_line, start_mark, content, end_mark, tail, written, stream}
+use Rattle.recovery.specs.Calls.{line_in, as_sent, gap_in, gap_as_sent, ended_by, start_from, lines_from, closed_by}
 use Rattle.recovery.specs.Marks.{onto}
 use Rattle.recovery.specs.Collected.{collected, lines, gaps}
-use Rattle.recovery.specs.CollectedLaws.{collected-nothings, take_past}
-use Rattle.recovery.specs.Resync.{stateWith, becomes}
-use Rattle.recovery.specs.MarkFreeLaws.{NoGroup, no-group-empty, few-no-group, lineText, few-line}
-use Rattle.recovery.specs.ReadBack.{restTold, gapText}
-use Rattle.recovery.specs.ReadBackLaws.{outcomes-append, marked, read_small, body-long, line-answer, gap-answer, no-group-gap, length-onto}
-use Rattle.stream.specs.NibblesLaws.{nibbles-length}
-use Rattle.recovery.specs.Damage.{outcomes-take, outcomes-length, lines-up-to, writable-from}
-use Rattle.recovery.specs.Gaps.{endCode, after, back, rest-none, gaps-up-to}
+use Rattle.recovery.specs.CollectedLaws.{collected_nothings, take_past}
+use Rattle.recovery.specs.Resync.{state_with, becomes}
+use Rattle.recovery.specs.MarkFreeLaws.{NoGroup, no_group_empty, few_no_group, line_text, few_line}
+use Rattle.recovery.specs.ReadBack.{rest_told, gap_text}
+use Rattle.recovery.specs.ReadBackLaws.{outcomes_append, marked, read_small, body_long, line_answer_lem, gap_answer_lem, no_group_gap, length_onto}
+use Rattle.stream.specs.NibblesLaws.{nibbles_length}
+use Rattle.recovery.specs.Damage.{outcomes_take, outcomes_length, lines_up_to, writable_from}
+use Rattle.recovery.specs.Gaps.{end_code, after, back, rest_none, gaps_up_to}
 use Rattle.recovery.specs.CleanAnswers.{said}
-use Rattle.recovery.specs.CutStream.{cutOut, Orderly, LastAnswer, TextShort, CutStream}
-use Rattle.recovery.specs.CutTexts.{no-group-cut}
-use Rattle.recovery.specs.CutReading.{Phase, starting, lining, gapping, OpenMark, no-mark-yet, end-first, in-line, in-gap, Brings, brings-nothing, brings-first, brings-eight, brings-line, brings-gap, Reads, reads_none, reads-append, reads-run, ReadsOn, reads_then, reads-front, tidy-from, starting-quiet, last-answer, last-short, reads-text, reads-mark}
+use Rattle.recovery.specs.CutStream.{cut_out, Orderly, LastAnswer, TextShort, CutStream}
+use Rattle.recovery.specs.CutTexts.{no_group_cut}
+use Rattle.recovery.specs.CutReading.{Phase, starting, lining, gapping, OpenMark, no_mark_yet, end_first, in_line, in_gap, Brings, brings_nothing, brings_first, brings_eight, brings_line, brings_gap, Reads, reads_none, reads_append, reads_run, ReadsOn, reads_then, reads_front, tidy_from, starting_quiet, last_answer_lem, last_short, reads_text, reads_mark}
 
 -- Lengths.
 
 -- the most nibbles of an open mark's text in either profile
-pub most-text : (mostText VV5404 ≡ 725) × (mostText VV5300 ≡ 523)
-most-text = (refl, refl)
+pub most_text_lem : (most_text VV5404 ≡ 725) × (most_text VV5300 ≡ 523)
+most_text_lem = (refl, refl)
 
-content-length : (p : Profile) (s : Sent) → Writable p s → length (content s) ≡ 4 + 2 * bodyLength p
-content-length p s g =
+content_length : (p : Profile) (s : Sent) → Writable p s → length (content s) ≡ 4 + 2 * body_length p
+content_length p s g =
     omega (
       arith,
-      nibbles-length (numberByte (s.number / 64) ∷ numberByte (s.number % 64) ∷ s.body),
-      eqb-true (length s.body) (bodyLength p) (body-long p s g),
+      nibbles_length (number_byte (s.number / 64) ∷ number_byte (s.number % 64) ∷ s.body),
+      eqb-true (length s.body) (body_length p) (body_long p s g),
     )
 
-tail-length : (p : Profile) (s : Sent) → Writable p s → length (tail s) ≤ 514
-tail-length p s g =
+tail_length : (p : Profile) (s : Sent) → Writable p s → length (tail s) ≤ 514
+tail_length p s g =
     omega (
       arith,
-      nibbles-length (s.gap-one ∷ s.gap-two ∷ replicate s.nulls nullByte),
-      length-replicate {A = ℕ} s.nulls nullByte,
-      g.nulls-few,
+      nibbles_length (s.gap_one ∷ s.gap_two ∷ replicate s.nulls null_byte),
+      length-replicate {A = ℕ} s.nulls null_byte,
+      g.nulls_few,
     )
 
 -- a text, and seven nibbles more, are within the most
-line-short : (p : Profile) (s : Sent) → Writable p s → (n : ℕ) → n ≤ 2 + length (content s) + 7 → n ≤ mostText p
-line-short p s g n h = omega (arith, h, content-length p s g)
+line_short : (p : Profile) (s : Sent) → Writable p s → (n : ℕ) → n ≤ 2 + length (content s) + 7 → n ≤ most_text p
+line_short p s g n h = omega (arith, h, content_length p s g)
 
-gap-short : (p : Profile) (s : Sent) → Writable p s → (n : ℕ) → n ≤ 2 + length (tail s) + 7 → n ≤ mostText p
-gap-short p s g n h = omega (arith, h, tail-length p s g)
+gap_short : (p : Profile) (s : Sent) → Writable p s → (n : ℕ) → n ≤ 2 + length (tail s) + 7 → n ≤ most_text p
+gap_short p s g n h = omega (arith, h, tail_length p s g)
 
 -- A line as written.
 
 -- before a line's start mark: no F F F F 0 0 in the text, and the start mark opens the line
 record Ready (p : Profile) (q : Phase) (m : Mark) (t : List ℕ) : Type 0 where
   clear : NoGroup t
-  stands : (v : List ℕ) → length v ≤ length t + 7 → OpenMark p q (stateWith m v)
-  brings : (k : Kind) → Brings q (answerAt p m t (some (cleanByte (Line k)))) lining
+  stands : (v : List ℕ) → length v ≤ length t + 7 → OpenMark p q (state_with m v)
+  brings : (k : Kind) → Brings q (answer_at p m t (some (clean_byte (Line k)))) lining
 
-ready-fresh : (p : Profile) {t : List ℕ} → NoGroup t → Ready p starting NoMark t
-ready-fresh p h = record { clear = h; stands = λ v l. no-mark-yet v; brings = λ k. brings-first }
+ready_fresh : (p : Profile) {t : List ℕ} → NoGroup t → Ready p starting NoMark t
+ready_fresh p h = record { clear = h; stands = λ v l. no_mark_yet v; brings = λ k. brings_first }
 
 -- after a line, and after an end mark whose line was cut
-gap-clear : (p : Profile) (s : Sent) → Writable p s → NoGroup (gapText endCode s)
-gap-clear p s g = no-group-gap p s g endCode (read_small endCode Clean EndOfLine (clean-reading EndOfLine))
+gap_clear : (p : Profile) (s : Sent) → Writable p s → NoGroup (gap_text end_code s)
+gap_clear p s g = no_group_gap p s g end_code (read_small end_code Clean EndOfLine (clean_reading EndOfLine))
 
-gap-text-short : (p : Profile) (s : Sent) → Writable p s → (n : ℕ) → n ≤ length (gapText endCode s) + 7 → n ≤ mostText p
-gap-text-short p s g n h = gap-short p s g n (omega (arith, h, length-onto (endCode % 16 ∷ endCode / 16 ∷ []) (tail s)))
+gap_text_short : (p : Profile) (s : Sent) → Writable p s → (n : ℕ) → n ≤ length (gap_text end_code s) + 7 → n ≤ most_text p
+gap_text_short p s g n h = gap_short p s g n (omega (arith, h, length_onto (end_code % 16 ∷ end_code / 16 ∷ []) (tail s)))
 
-good-brings : (n a b : ℕ) → Brings gapping (goodGap n a b) lining
-unfolding goodGap
-good-brings n a b = brings-gap
+good_brings : (n a b : ℕ) → Brings gapping (good_gap n a b) lining
+unfolding good_gap
+good_brings n a b = brings_gap
 
-ready-after : (p : Profile) (s : Sent) → Writable p s → Ready p gapping (Open (HandedOut s.kind) endCode) (gapText endCode s)
-ready-after p s g =
+ready_after : (p : Profile) (s : Sent) → Writable p s → Ready p gapping (Open (HandedOut s.kind) end_code) (gap_text end_code s)
+ready_after p s g =
     record {
-      clear = gap-clear p s g;
-      stands = λ v l. in-gap s.kind v (gap-text-short p s g (length v) l);
+      clear = gap_clear p s g;
+      stands = λ v l. in_gap s.kind v (gap_text_short p s g (length v) l);
       brings = λ k.
           subst (λ (o : Outcome). Brings gapping o lining)
-          (sym (gap-answer p s g endCode Clean (clean-reading EndOfLine) (some (cleanByte (Line k))))) (good-brings _ s.gap-one s.gap-two);
+          (sym (gap_answer_lem p s g end_code Clean (clean_reading EndOfLine) (some (clean_byte (Line k))))) (good_brings _ s.gap_one s.gap_two);
     }
 
-ready-alone : (p : Profile) (s : Sent) → Writable p s → Ready p starting (Open NoLine endCode) (gapText endCode s)
+ready_alone : (p : Profile) (s : Sent) → Writable p s → Ready p starting (Open NoLine end_code) (gap_text end_code s)
 unfolding answer_of
-ready-alone p s g =
+ready_alone p s g =
     record {
-      clear = gap-clear p s g;
-      stands = λ v l. end-first v (gap-text-short p s g (length v) l);
+      clear = gap_clear p s g;
+      stands = λ v l. end_first v (gap_text_short p s g (length v) l);
       brings = λ k.
-          subst (λ c. Brings starting (byReading p NoLine c (gapText endCode s) (some (cleanByte (Line k)))) lining) (sym (clean-reading EndOfLine)) brings-eight;
+          subst (λ c. Brings starting (by_reading p NoLine c (gap_text end_code s) (some (clean_byte (Line k)))) lining) (sym (clean_reading EndOfLine)) brings_eight;
     }
 
 -- a line as written is read whole
-reads-line : (p : Profile) (s : Sent) → Writable p s → (q : Phase) (m : Mark) (t : List ℕ) → Ready p q m t → Reads p q (stateWith m t) (written s) gapping (after s)
-reads-line p s g q m t h =
-    let c = cleanByte (Line s.kind) in
+reads_line : (p : Profile) (s : Sent) → Writable p s → (q : Phase) (m : Mark) (t : List ℕ) → Ready p q m t → Reads p q (state_with m t) (written s) gapping (after s)
+reads_line p s g q m t h =
+    let c = clean_byte (Line s.kind) in
     let b = becomes p m t c in
     let o = Open b c in
-    let e = Open (HandedOut s.kind) endCode in
+    let e = Open (HandedOut s.kind) end_code in
     let two : List ℕ = c % 16 ∷ c / 16 ∷ [] in
-    let clear = few-no-group (lineText c s) (few-line p s g c (read_small c Clean (Line s.kind) (clean-reading (Line s.kind)))) in
-    let answer = line-answer p s g b c endCode Clean Clean (clean-reading (Line s.kind)) (clean-reading EndOfLine) in
-    let handed : becomes p o (lineText c s) endCode ≡ HandedOut s.kind
-    = ap₂ (λ k a. beforeBy k (is_line a)) (ap kind_of (clean-reading (Line s.kind))) answer in
-    reads-append (reads-mark p q lining m t c h.clear h.stands refl (h.brings s.kind) refl (in-line b s.kind two (line-short p s g 2 (omega arith))))
-    (reads-append (reads-text p lining o two (content s) clear (λ v l. in-line b s.kind v (line-short p s g (length v) (omega arith))))
-    (reads-append
-    (reads-mark p lining gapping o (lineText c s) endCode clear
-    (λ v l. in-line b s.kind v (line-short p s g (length v) (omega (arith, l, length-onto two (content s)))))
-    answer brings-line handed (in-gap s.kind _ (gap-short p s g 2 (omega arith))))
-    (reads-text p gapping e (endCode % 16 ∷ endCode / 16 ∷ []) (tail s) (gap-clear p s g) (λ v l. in-gap s.kind v (gap-short p s g (length v) (omega arith))))))
+    let clear = few_no_group (line_text c s) (few_line p s g c (read_small c Clean (Line s.kind) (clean_reading (Line s.kind)))) in
+    let answer = line_answer_lem p s g b c end_code Clean Clean (clean_reading (Line s.kind)) (clean_reading EndOfLine) in
+    let handed : becomes p o (line_text c s) end_code ≡ HandedOut s.kind
+    = ap₂ (λ k a. before_by k (is_line a)) (ap kind_of (clean_reading (Line s.kind))) answer in
+    reads_append (reads_mark p q lining m t c h.clear h.stands refl (h.brings s.kind) refl (in_line b s.kind two (line_short p s g 2 (omega arith))))
+    (reads_append (reads_text p lining o two (content s) clear (λ v l. in_line b s.kind v (line_short p s g (length v) (omega arith))))
+    (reads_append
+    (reads_mark p lining gapping o (line_text c s) end_code clear
+    (λ v l. in_line b s.kind v (line_short p s g (length v) (omega (arith, l, length_onto two (content s)))))
+    answer brings_line handed (in_gap s.kind _ (gap_short p s g 2 (omega arith))))
+    (reads_text p gapping e (end_code % 16 ∷ end_code / 16 ∷ []) (tail s) (gap_clear p s g) (λ v l. in_gap s.kind v (gap_short p s g (length v) (omega arith))))))
 
 -- and so is a clean stream
-reads-stream : (p : Profile) {ss : List Sent} → AllWritable p ss → (q : Phase) (m : Mark) (t : List ℕ) → Ready p q m t → ReadsOn p q (stateWith m t) (stream ss)
-reads-stream p no_lines q m t h = record { phase = q; end = stateWith m t; reads = reads_none (h.stands t (omega arith)) }
-reads-stream p (and-line {s = s} g hs) q m t h =
-    reads_then (reads-line p s g q m t h) (reads-stream p hs gapping (Open (HandedOut s.kind) endCode) (gapText endCode s) (ready-after p s g))
+reads_stream : (p : Profile) {ss : List Sent} → AllWritable p ss → (q : Phase) (m : Mark) (t : List ℕ) → Ready p q m t → ReadsOn p q (state_with m t) (stream ss)
+reads_stream p no_lines_lem q m t h = record { phase = q; end = state_with m t; reads = reads_none (h.stands t (omega arith)) }
+reads_stream p (and_line {s = s} g hs) q m t h =
+    reads_then (reads_line p s g q m t h) (reads_stream p hs gapping (Open (HandedOut s.kind) end_code) (gap_text end_code s) (ready_after p s g))
 
 -- The first piece of a cut: what is left of the line that the cut begins in.
 
@@ -140,53 +140,53 @@ reads-stream p (and-line {s = s} g hs) q m t h =
 record Leads (p : Profile) (u : List ℕ) : Type 0 where
   mark : Mark
   text : List ℕ
-  reads : Reads p starting fresh u starting (stateWith mark text)
+  reads : Reads p starting fresh u starting (state_with mark text)
   ready : Ready p starting mark text
 
-leads-none : (p : Profile) → Leads p []
-leads-none p = record { mark = NoMark; text = []; reads = reads_none (no-mark-yet []); ready = ready-fresh p no-group-empty }
+leads_none : (p : Profile) → Leads p []
+leads_none p = record { mark = NoMark; text = []; reads = reads_none (no_mark_yet []); ready = ready_fresh p no_group_empty }
 
 -- nibbles without F F F F 0 0, then a line's end mark and its gap
-leads-end : (p : Profile) (s : Sent) → Writable p s → (u : List ℕ) → NoGroup (onto [] u) → Leads p (u ++ (endMark ++ tail s))
-leads-end p s g u h =
-    let two : List ℕ = endCode % 16 ∷ endCode / 16 ∷ [] in
+leads_end : (p : Profile) (s : Sent) → Writable p s → (u : List ℕ) → NoGroup (onto [] u) → Leads p (u ++ (end_mark ++ tail s))
+leads_end p s g u h =
+    let two : List ℕ = end_code % 16 ∷ end_code / 16 ∷ [] in
     record {
-      mark = Open NoLine endCode;
-      text = gapText endCode s;
+      mark = Open NoLine end_code;
+      text = gap_text end_code s;
       reads =
-          reads-append (reads-text p starting NoMark [] u h (λ v l. no-mark-yet v))
-          (reads-append (reads-mark p starting starting NoMark (onto [] u) endCode h (λ v l. no-mark-yet v) refl brings-nothing refl (end-first two (gap-short p s g 2 (omega arith))))
-          (reads-text p starting (Open NoLine endCode) two (tail s) (gap-clear p s g) (λ v l. end-first v (gap-short p s g (length v) (omega arith)))));
-      ready = ready-alone p s g;
+          reads_append (reads_text p starting NoMark [] u h (λ v l. no_mark_yet v))
+          (reads_append (reads_mark p starting starting NoMark (onto [] u) end_code h (λ v l. no_mark_yet v) refl brings_nothing refl (end_first two (gap_short p s g 2 (omega arith))))
+          (reads_text p starting (Open NoLine end_code) two (tail s) (gap_clear p s g) (λ v l. end_first v (gap_short p s g (length v) (omega arith)))));
+      ready = ready_alone p s g;
     }
 
 -- nibbles without F F F F 0 0 alone
-leads-text : (p : Profile) (u : List ℕ) → NoGroup (onto [] u) → Leads p u
-leads-text p u h =
-    record { mark = NoMark; text = onto [] u; reads = reads-text p starting NoMark [] u h (λ v l. no-mark-yet v); ready = ready-fresh p h }
+leads_text : (p : Profile) (u : List ℕ) → NoGroup (onto [] u) → Leads p u
+leads_text p u h =
+    record { mark = NoMark; text = onto [] u; reads = reads_text p starting NoMark [] u h (λ v l. no_mark_yet v); ready = ready_fresh p h }
 
 -- a line that has lost a nibble or more at its front
-leads-cut : (p : Profile) (s : Sent) → Writable p s → (k : ℕ) → Leads p (drop (suc k) (written s))
-leads-cut p s g k = go (leb (suc k) (length front)) refl
+leads_cut : (p : Profile) (s : Sent) → Writable p s → (k : ℕ) → Leads p (drop (suc k) (written s))
+leads_cut p s g k = go (leb (suc k) (length front)) refl
   where
     front : List ℕ
-    front = startMark s ++ content s
+    front = start_mark s ++ content s
 
-    whole : written s ≡ front ++ (endMark ++ tail s)
-    whole = sym (append_assoc (startMark s) (content s) (endMark ++ tail s))
+    whole : written s ≡ front ++ (end_mark ++ tail s)
+    whole = sym (append_assoc (start_mark s) (content s) (end_mark ++ tail s))
 
     go : (b : Bool) → leb (suc k) (length front) ≡ b → Leads p (drop (suc k) (written s))
     go true e =
-        let c = cleanByte (Line s.kind) in
-        let clear = few-no-group (lineText c s) (few-line p s g c (read_small c Clean (Line s.kind) (clean-reading (Line s.kind)))) in
-        subst (Leads p) (sym (ap (drop (suc k)) whole ∙ drop-append-le (suc k) front (endMark ++ tail s) (leb-true (suc k) (length front) e)))
-        (leads-end p s g (drop (suc k) front) (no-group-cut c (content s) clear k))
+        let c = clean_byte (Line s.kind) in
+        let clear = few_no_group (line_text c s) (few_line p s g c (read_small c Clean (Line s.kind) (clean_reading (Line s.kind)))) in
+        subst (Leads p) (sym (ap (drop (suc k)) whole ∙ drop-append-le (suc k) front (end_mark ++ tail s) (leb-true (suc k) (length front) e)))
+        (leads_end p s g (drop (suc k) front) (no_group_cut c (content s) clear k))
     go false e =
         let l = leb-false (suc k) (length front) e in
         let j : ℕ = k - length front in
         let here : suc k ≡ length front + suc j = omega arith in
-        subst (Leads p) (sym (ap (drop (suc k)) whole ∙ ap (λ (n : ℕ). drop n (front ++ (endMark ++ tail s))) here ∙ drop-append-add front (endMark ++ tail s) (suc j)))
-        (leads-text p (drop (suc j) (endMark ++ tail s)) (no-group-cut endCode (tail s) (gap-clear p s g) j))
+        subst (Leads p) (sym (ap (drop (suc k)) whole ∙ ap (λ (n : ℕ). drop n (front ++ (end_mark ++ tail s))) here ∙ drop-append-add front (end_mark ++ tail s) (suc j)))
+        (leads_text p (drop (suc j) (end_mark ++ tail s)) (no_group_cut end_code (tail s) (gap_clear p s g) j))
 
 -- Where the first whole line starts.
 
@@ -206,30 +206,30 @@ record Cuts (p : Profile) (ss : List Sent) (i o : ℕ) (L : List Sent) (f : ℕ)
   whole : drop (i - o) (stream ss) ≡ piece ++ stream L
   place : PlacedAt L (i + length piece) f
 
-from-here : (i o : ℕ) (ss : List Sent) → i ≤ o → (lines_from i o ss ≡ ss) × (startFrom i o ss ≡ o)
-from-here i o [] h = (refl, refl)
-from-here i o (s ∷ ss) h =
-    (ap (λ (b : Bool). cond b (s ∷ ss) (lines_from i (o + length (written s)) ss)) (le-leb i o h), ap (λ (b : Bool). cond b o (startFrom i (o + length (written s)) ss)) (le-leb i o h))
+from_here : (i o : ℕ) (ss : List Sent) → i ≤ o → (lines_from i o ss ≡ ss) × (start_from i o ss ≡ o)
+from_here i o [] h = (refl, refl)
+from_here i o (s ∷ ss) h =
+    (ap (λ (b : Bool). cond b (s ∷ ss) (lines_from i (o + length (written s)) ss)) (le-leb i o h), ap (λ (b : Bool). cond b o (start_from i (o + length (written s)) ss)) (le-leb i o h))
 
-cuts : (p : Profile) {ss : List Sent} → AllWritable p ss → (i o : ℕ) → o ≤ i → Cuts p ss i o (lines_from i o ss) (startFrom i o ss)
-cuts p no_lines i o h = record { piece = []; leads = leads-none p; whole = drop-nil (i - o); place = tt }
-cuts p (and-line {s = s} {ss = ss} g hs) i o h = go (leb i o) (leb (o + length (written s)) i) refl refl (cuts p hs i (o + length (written s)))
+cuts : (p : Profile) {ss : List Sent} → AllWritable p ss → (i o : ℕ) → o ≤ i → Cuts p ss i o (lines_from i o ss) (start_from i o ss)
+cuts p no_lines_lem i o h = record { piece = []; leads = leads_none p; whole = drop-nil (i - o); place = tt }
+cuts p (and_line {s = s} {ss = ss} g hs) i o h = go (leb i o) (leb (o + length (written s)) i) refl refl (cuts p hs i (o + length (written s)))
   where
     next : ℕ
     next = o + length (written s)
 
-    go : (a b : Bool) → leb i o ≡ a → leb next i ≡ b → (next ≤ i → Cuts p ss i next (lines_from i next ss) (startFrom i next ss))
-        → Cuts p (s ∷ ss) i o (cond (leb i o) (s ∷ ss) (lines_from i next ss)) (cond (leb i o) o (startFrom i next ss))
+    go : (a b : Bool) → leb i o ≡ a → leb next i ≡ b → (next ≤ i → Cuts p ss i next (lines_from i next ss) (start_from i next ss))
+        → Cuts p (s ∷ ss) i o (cond (leb i o) (s ∷ ss) (lines_from i next ss)) (cond (leb i o) o (start_from i next ss))
     go true b ea eb more =
         let e : i ≡ o = (let l = leb-true i o ea in omega arith) in
         let z : i - o ≡ 0 = omega arith in
-        subst (λ (a : Bool). Cuts p (s ∷ ss) i o (cond a (s ∷ ss) (lines_from i next ss)) (cond a o (startFrom i next ss))) (sym ea)
-        (record { piece = []; leads = leads-none p; whole = ap (λ (n : ℕ). drop n (stream (s ∷ ss))) z; place = omega arith })
+        subst (λ (a : Bool). Cuts p (s ∷ ss) i o (cond a (s ∷ ss) (lines_from i next ss)) (cond a o (start_from i next ss))) (sym ea)
+        (record { piece = []; leads = leads_none p; whole = ap (λ (n : ℕ). drop n (stream (s ∷ ss))) z; place = omega arith })
     go false true ea eb more =
         let l = leb-true next i eb in
         let m = more l in
         let z : i - o ≡ length (written s) + (i - next) = omega arith in
-        subst (λ (a : Bool). Cuts p (s ∷ ss) i o (cond a (s ∷ ss) (lines_from i next ss)) (cond a o (startFrom i next ss))) (sym ea)
+        subst (λ (a : Bool). Cuts p (s ∷ ss) i o (cond a (s ∷ ss) (lines_from i next ss)) (cond a o (start_from i next ss))) (sym ea)
         (record {
           piece = m.piece;
           leads = m.leads;
@@ -241,13 +241,13 @@ cuts p (and-line {s = s} {ss = ss} g hs) i o h = go (leb i o) (leb (o + length (
         let r = leb-false next i eb in
         let k : ℕ = i - suc o in
         let z : i - o ≡ suc k = omega arith in
-        let here = from-here i next ss (omega arith) in
+        let here = from_here i next ss (omega arith) in
         let u : List ℕ = drop (suc k) (written s) in
         let long : i + length u ≡ next = omega (arith, length-drop (suc k) (written s)) in
-        subst (λ (a : Bool). Cuts p (s ∷ ss) i o (cond a (s ∷ ss) (lines_from i next ss)) (cond a o (startFrom i next ss))) (sym ea)
+        subst (λ (a : Bool). Cuts p (s ∷ ss) i o (cond a (s ∷ ss) (lines_from i next ss)) (cond a o (start_from i next ss))) (sym ea)
         (record {
           piece = u;
-          leads = leads-cut p s g k;
+          leads = leads_cut p s g k;
           whole =
               ap (λ (n : ℕ). drop n (written s ++ stream ss)) z
               ∙ drop-append-le (suc k) (written s) (stream ss) (omega arith)
@@ -258,68 +258,68 @@ cuts p (and-line {s = s} {ss = ss} g hs) i o h = go (leb i o) (leb (o + length (
 -- What comes out.
 
 -- past the first piece, which brings none
-past-piece : (p : Profile) {A : Type 0} (brings : Outcome → List A) → brings nothing ≡ [] → (u v : List ℕ) (y : State) → Reads p starting fresh u starting y → (n : ℕ)
+past_piece : (p : Profile) {A : Type 0} (brings : Outcome → List A) → brings nothing ≡ [] → (u v : List ℕ) (y : State) → Reads p starting fresh u starting y → (n : ℕ)
     → collected brings (outcomes p fresh (take n (u ++ v))) ≡ collected brings (outcomes p y (take (n - length u) v))
-past-piece p brings h u v y r n =
-    ap (collected brings) (outcomes-take p fresh n (u ++ v) ∙ ap (take n) (outcomes-append p fresh u v))
-    ∙ take_past brings (outcomes p fresh u) (outcomes p (run p fresh u) v) n (ap (collected brings) (starting-quiet r) ∙ collected-nothings brings h u)
-    ∙ ap₂ (λ (k : ℕ) (x : State). collected brings (take (n - k) (outcomes p x v))) (outcomes-length p fresh u) (reads-run r)
-    ∙ ap (collected brings) (sym (outcomes-take p y (n - length u) v))
+past_piece p brings h u v y r n =
+    ap (collected brings) (outcomes_take p fresh n (u ++ v) ∙ ap (take n) (outcomes_append p fresh u v))
+    ∙ take_past brings (outcomes p fresh u) (outcomes p (run p fresh u) v) n (ap (collected brings) (starting_quiet r) ∙ collected_nothings brings h u)
+    ∙ ap₂ (λ (k : ℕ) (x : State). collected brings (take (n - k) (outcomes p x v))) (outcomes_length p fresh u) (reads_run r)
+    ∙ ap (collected brings) (sym (outcomes_take p y (n - length u) v))
 
 -- lines
 lines_cut : (p : Profile) {L : List Sent} → AllWritable p L → (y : State) (i f n : ℕ) (u : List ℕ) → PlacedAt L (i + length u) f
-    → lines p y (take (n - length u) (stream L)) ≡ map asSent (endedBy (i + n) f L)
-lines_cut p no_lines y i f n u e = ap (lines p y) (take-nil (n - length u))
-lines_cut p (and-line {s = s} {ss = ss} g h) y i f n u e =
+    → lines p y (take (n - length u) (stream L)) ≡ map as_sent (ended_by (i + n) f L)
+lines_cut p no_lines_lem y i f n u e = ap (lines p y) (take-nil (n - length u))
+lines_cut p (and_line {s = s} {ss = ss} g h) y i f n u e =
     let z : n - length u ≡ i + n - f = omega (arith, e) in
-    ap (λ (k : ℕ). lines p y (take k (stream (s ∷ ss)))) z ∙ lines-up-to p (and-line g h) y (i + n) f
+    ap (λ (k : ℕ). lines p y (take k (stream (s ∷ ss)))) z ∙ lines_up_to p (and_line g h) y (i + n) f
 
 -- gaps: none comes out of the first whole line, nor of its start mark
-no-gap-first : {o : Outcome} → Brings starting o lining → gapIn o ≡ []
-no-gap-first brings-first = refl
-no-gap-first brings-eight = refl
+no_gap_first : {o : Outcome} → Brings starting o lining → gap_in o ≡ []
+no_gap_first brings_first = refl
+no_gap_first brings_eight = refl
 
-first-none : (p : Profile) (s : Sent) → Writable p s → (m : Mark) (t : List ℕ) → Ready p starting m t → collected gapIn (outcomes p (stateWith m t) (written s)) ≡ []
-first-none p s g m t r =
-    ap (collected gapIn) ((back p s g (stateWith m t)).told ∙ ap (λ (os : List Outcome). os ++ restTold s Clean Clean) (marked p m t (cleanByte (Line s.kind)) r.clear).told)
-    ∙ ap₂ ◌++◌ (no-gap-first (r.brings s.kind)) (rest-none s)
+first_none : (p : Profile) (s : Sent) → Writable p s → (m : Mark) (t : List ℕ) → Ready p starting m t → collected gap_in (outcomes p (state_with m t) (written s)) ≡ []
+first_none p s g m t r =
+    ap (collected gap_in) ((back p s g (state_with m t)).told ∙ ap (λ (os : List Outcome). os ++ rest_told s Clean Clean) (marked p m t (clean_byte (Line s.kind)) r.clear).told)
+    ∙ ap₂ ◌++◌ (no_gap_first (r.brings s.kind)) (rest_none s)
 
 gaps_cut : (p : Profile) {L : List Sent} → AllWritable p L → (m : Mark) (t : List ℕ) → Ready p starting m t → (i f n : ℕ) (u : List ℕ) → PlacedAt L (i + length u) f
-    → gaps p (stateWith m t) (take (n - length u) (stream L)) ≡ map gapAsSent (closedBy (i + n) f L)
-gaps_cut p no_lines m t r i f n u e = ap (gaps p (stateWith m t)) (take-nil (n - length u))
-gaps_cut p (and-line {s = s} {ss = ss} g h) m t r i f n u e =
-    let y = stateWith m t in
+    → gaps p (state_with m t) (take (n - length u) (stream L)) ≡ map gap_as_sent (closed_by (i + n) f L)
+gaps_cut p no_lines_lem m t r i f n u e = ap (gaps p (state_with m t)) (take-nil (n - length u))
+gaps_cut p (and_line {s = s} {ss = ss} g h) m t r i f n u e =
+    let y = state_with m t in
     let k : ℕ = n - length u in
     let z : k - length (written s) ≡ i + n - (f + length (written s)) = omega (arith, e) in
-    ap (collected gapIn) (outcomes-take p y k (stream (s ∷ ss)) ∙ ap (take k) (outcomes-append p y (written s) (stream ss)))
-    ∙ take_past gapIn (outcomes p y (written s)) (outcomes p (run p y (written s)) (stream ss)) k (first-none p s g m t r)
-    ∙ ap₂ (λ (l : ℕ) (x : State). collected gapIn (take (k - l) (outcomes p x (stream ss)))) (outcomes-length p y (written s)) (back p s g y).state
-    ∙ ap (λ (l : ℕ). collected gapIn (take l (outcomes p (after s) (stream ss)))) z
-    ∙ gaps-up-to p s g h (i + n) f
+    ap (collected gap_in) (outcomes_take p y k (stream (s ∷ ss)) ∙ ap (take k) (outcomes_append p y (written s) (stream ss)))
+    ∙ take_past gap_in (outcomes p y (written s)) (outcomes p (run p y (written s)) (stream ss)) k (first_none p s g m t r)
+    ∙ ap₂ (λ (l : ℕ) (x : State). collected gap_in (take (k - l) (outcomes p x (stream ss)))) (outcomes_length p y (written s)) (back p s g y).state
+    ∙ ap (λ (l : ℕ). collected gap_in (take l (outcomes p (after s) (stream ss)))) z
+    ∙ gaps_up_to p s g h (i + n) f
 
 -- the law: of every clean stream, cut anywhere at both ends
-pub cut-stream : (p : Profile) {ss : List Sent} → AllWritable p ss → (i n : ℕ) → CutStream p ss i n
-cut-stream p {ss} h i n =
+pub cut_stream : (p : Profile) {ss : List Sent} → AllWritable p ss → (i n : ℕ) → CutStream p ss i n
+cut_stream p {ss} h i n =
     let c = cuts p h i 0 (omega arith) in
     let d = c.leads in
     let L = lines_from i 0 ss in
-    let f = startFrom i 0 ss in
-    let y = stateWith d.mark d.text in
-    let good = writable-from p i 0 h in
+    let f = start_from i 0 ss in
+    let y = state_with d.mark d.text in
+    let good = writable_from p i 0 h in
     let z : i ≡ i - 0 = omega arith in
-    let is : cutOut ss i n ≡ take n (c.piece ++ stream L) = ap (λ (k : ℕ). take n (drop k (stream ss))) z ∙ ap (take n) c.whole in
-    let all = reads_then d.reads (reads-stream p good starting d.mark d.text d.ready) in
-    let r = reads-front all.reads n in
-    let end : r.end ≡ run p fresh (cutOut ss i n) = sym (reads-run r.reads) ∙ ap (run p fresh) (sym is) in
+    let is : cut_out ss i n ≡ take n (c.piece ++ stream L) = ap (λ (k : ℕ). take n (drop k (stream ss))) z ∙ ap (take n) c.whole in
+    let all = reads_then d.reads (reads_stream p good starting d.mark d.text d.ready) in
+    let r = reads_front all.reads n in
+    let end : r.end ≡ run p fresh (cut_out ss i n) = sym (reads_run r.reads) ∙ ap (run p fresh) (sym is) in
     record {
-      lines-whole = ap (lines p fresh) is ∙ past-piece p lineIn refl c.piece (stream L) y d.reads n ∙ lines_cut p good y i f n c.piece c.place;
-      gaps-closed =
+      lines_whole = ap (lines p fresh) is ∙ past_piece p line_in refl c.piece (stream L) y d.reads n ∙ lines_cut p good y i f n c.piece c.place;
+      gaps_closed =
           ap (gaps p fresh) is
-          ∙ past-piece p gapIn refl c.piece (stream L) y d.reads n
+          ∙ past_piece p gap_in refl c.piece (stream L) y d.reads n
           ∙ gaps_cut p good d.mark d.text d.ready i f n c.piece c.place;
-      answers-orderly = subst (λ (w : List ℕ). Orderly (said (outcomes p fresh w))) (sym is) (tidy-from r.reads);
-      finish-answers =
-          subst (λ (x : State). LastAnswer (said (outcomes p fresh (cutOut ss i n))) (finish p x).outcome) end
-          (subst (λ (w : List ℕ). LastAnswer (said (outcomes p fresh w)) (finish p r.end).outcome) (sym is) (last-answer r.phase r.reads));
-      text-short = subst (TextShort p) end (last-short r.reads);
+      answers_orderly = subst (λ (w : List ℕ). Orderly (said (outcomes p fresh w))) (sym is) (tidy_from r.reads);
+      finish_answers =
+          subst (λ (x : State). LastAnswer (said (outcomes p fresh (cut_out ss i n))) (finish p x).outcome) end
+          (subst (λ (w : List ℕ). LastAnswer (said (outcomes p fresh w)) (finish p r.end).outcome) (sym is) (last_answer_lem r.phase r.reads));
+      text_short = subst (TextShort p) end (last_short r.reads);
     }

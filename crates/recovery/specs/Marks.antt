@@ -16,13 +16,13 @@ found none = false
 found (some t) = true
 
 -- whether a mark is completed
-abbrev pub isMark : Completed → Bool
-isMark not_yet = false
-isMark (mark x y before) = true
+abbrev pub is_mark : Completed → Bool
+is_mark not_yet = false
+is_mark (mark x y before) = true
 
 -- whether the newest of these nibbles completes a mark
 abbrev pub completes : List ℕ → Bool
-completes t = isMark (detect t)
+completes t = is_mark (detect t)
 
 -- a text whose newest nibbles are F F F F 0 0 and two more
 pub record MarkEnds (t : List ℕ) : Type 0 where
@@ -33,8 +33,8 @@ pub record MarkEnds (t : List ℕ) : Type 0 where
 
 -- the text is all nibbles taken; or those since some F F F F 0 0, two at least
 pub data Since (t : List ℕ) : List ℕ → Type 0 where
-  all-taken : Since t t
-  since-group : (older : List ℕ) → 2 ≤ length t → Since t (t ++ (group ++ older))
+  all_taken : Since t t
+  since_group : (older : List ℕ) → 2 ≤ length t → Since t (t ++ (group ++ older))
 
 -- an outcome counts as an answer, but not nothing
 abbrev pub answer_in : Outcome → ℕ
@@ -44,15 +44,15 @@ answer_in (gap g) = 1
 answer_in (refused n) = 1
 
 -- the answers among outcomes
-abbrev pub answersIn : List Outcome → ℕ
-answersIn [] = 0
-answersIn (o ∷ os) = answer_in o + answersIn os
+abbrev pub answers_in : List Outcome → ℕ
+answers_in [] = 0
+answers_in (o ∷ os) = answer_in o + answers_in os
 
 -- a test as a number: 1 where it passes, else 0
 abbrev pub counted : Bool → ℕ
 counted b = cond b 1 0
 
 -- the marks that nibbles complete, after those of a text
-abbrev pub marksIn : List ℕ → List ℕ → ℕ
-marksIn t [] = 0
-marksIn t (n ∷ w) = counted (completes (n ∷ t)) + marksIn (n ∷ t) w
+abbrev pub marks_in : List ℕ → List ℕ → ℕ
+marks_in t [] = 0
+marks_in t (n ∷ w) = counted (completes (n ∷ t)) + marks_in (n ∷ t) w

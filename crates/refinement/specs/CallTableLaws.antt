@@ -5,50 +5,50 @@ use Rattle.std.proofs.Common.{subst}
 use Rattle.std.proofs.Math.Bool.{true, false}
 use Rattle.std.proofs.Math.Dec.{leb}
 use borrow.Author.Tests.{leb-true, leb-false, le-leb, lt-leb}
-use Rattle.refusal.specs.Refusal.{notANibble, badState, noRoom}
-use Rattle.profile.specs.Profile.{bodyLength}
+use Rattle.refusal.specs.Refusal.{not_a_nibble, bad_state, no_room}
+use Rattle.profile.specs.Profile.{body_length}
 use Rattle.reader.specs.declared.Reader.{Reader}
 use Rattle.reader_head.specs.Head.{passes}
-use Rattle.reader.specs.Reader.{Took, refusing, taking, feedOf, finishOf}
+use Rattle.reader.specs.Reader.{Took, refusing, taking, feed_of, finish_of}
 use Rattle.reader_laws.specs.Passing.{finished}
-use Rattle.refinement.specs.CallTable.{FeedTable, bad-state, not-a-nibble, no_room, taken, FinishTable, finish-bad, finish-good}
+use Rattle.refinement.specs.CallTable.{FeedTable, bad_state_lem, not_a_nibble_lem, no_room_lem, taken, FinishTable, finish_bad, finish_good}
 
 module _ (r : Reader) (n room : ℕ) where
-  feed-table : FeedTable r n room (feedOf r n room)
-  unfolding feedOf
-  feed-table = go (passes r.head) (leb n 15) (leb (bodyLength r.head.profile) room) refl refl refl
+  feed_table_lem : FeedTable r n room (feed_of r n room)
+  unfolding feed_of
+  feed_table_lem = go (passes r.head) (leb n 15) (leb (body_length r.head.profile) room) refl refl refl
     where
-      go : (a b c : Bool) → passes r.head ≡ a → leb n 15 ≡ b → leb (bodyLength r.head.profile) room ≡ c
-          → FeedTable r n room (cond a (cond b (cond c (taking r n) (refusing r noRoom)) (refusing r notANibble)) (refusing r badState))
-      go false b c e f g = bad-state e
-      go true false c e f g = not-a-nibble e (leb-false n 15 f)
-      go true true false e f g = no_room e (leb-true n 15 f) (leb-false (bodyLength r.head.profile) room g)
-      go true true true e f g = taken e (leb-true n 15 f) (leb-true (bodyLength r.head.profile) room g)
+      go : (a b c : Bool) → passes r.head ≡ a → leb n 15 ≡ b → leb (body_length r.head.profile) room ≡ c
+          → FeedTable r n room (cond a (cond b (cond c (taking r n) (refusing r no_room)) (refusing r not_a_nibble)) (refusing r bad_state))
+      go false b c e f g = bad_state_lem e
+      go true false c e f g = not_a_nibble_lem e (leb-false n 15 f)
+      go true true false e f g = no_room_lem e (leb-true n 15 f) (leb-false (body_length r.head.profile) room g)
+      go true true true e f g = taken e (leb-true n 15 f) (leb-true (body_length r.head.profile) room g)
 
-  feed-only : (t : Took) → FeedTable r n room t → feedOf r n room ≡ t
-  unfolding feedOf
-  feed-only t (bad-state e) = simp e
-  feed-only t (not-a-nibble e l) = simp (e, lt-leb _ _ l)
-  feed-only t (no_room e l m) = simp (e, le-leb n 15 l, lt-leb _ _ m)
-  feed-only t (taken e l m) = simp (e, le-leb n 15 l, le-leb _ _ m)
+  feed_only : (t : Took) → FeedTable r n room t → feed_of r n room ≡ t
+  unfolding feed_of
+  feed_only t (bad_state_lem e) = simp e
+  feed_only t (not_a_nibble_lem e l) = simp (e, lt-leb _ _ l)
+  feed_only t (no_room_lem e l m) = simp (e, le-leb n 15 l, lt-leb _ _ m)
+  feed_only t (taken e l m) = simp (e, le-leb n 15 l, le-leb _ _ m)
 
   -- a feeding call does exactly what the table says
-  pub feeds-by-table : (t : Took) → (feedOf r n room ≡ t) ↔ FeedTable r n room t
-  feeds-by-table t = (λ e. subst (FeedTable r n room) e feed-table, feed-only t)
+  pub feeds_by_table : (t : Took) → (feed_of r n room ≡ t) ↔ FeedTable r n room t
+  feeds_by_table t = (λ e. subst (FeedTable r n room) e feed_table_lem, feed_only t)
 
-finish-table : (r : Reader) → FinishTable r (finishOf r)
-unfolding finishOf
-finish-table r = go (passes r.head) refl
+finish_table_lem : (r : Reader) → FinishTable r (finish_of r)
+unfolding finish_of
+finish_table_lem r = go (passes r.head) refl
   where
-    go : (a : Bool) → passes r.head ≡ a → FinishTable r (cond a (finished r) (refusing r badState))
-    go false e = finish-bad e
-    go true e = finish-good e
+    go : (a : Bool) → passes r.head ≡ a → FinishTable r (cond a (finished r) (refusing r bad_state))
+    go false e = finish_bad e
+    go true e = finish_good e
 
-finish-only : (r : Reader) (t : Took) → FinishTable r t → finishOf r ≡ t
-unfolding finishOf
-finish-only r t (finish-bad e) = simp e
-finish-only r t (finish-good e) = simp e
+finish_only : (r : Reader) (t : Took) → FinishTable r t → finish_of r ≡ t
+unfolding finish_of
+finish_only r t (finish_bad e) = simp e
+finish_only r t (finish_good e) = simp e
 
 -- and so does finish
-pub finishes-by-table : (r : Reader) (t : Took) → (finishOf r ≡ t) ↔ FinishTable r t
-finishes-by-table r t = (λ e. subst (FinishTable r) e (finish-table r), finish-only r t)
+pub finishes_by_table : (r : Reader) (t : Took) → (finish_of r ≡ t) ↔ FinishTable r t
+finishes_by_table r t = (λ e. subst (FinishTable r) e (finish_table_lem r), finish_only r t)

@@ -4,8 +4,8 @@ use Rattle.recovery.specs.Calls.{feed, done}
 use Rattle.refinement.specs.Runs.{RunCall, run, one}
 
 -- whether finish is among the calls
-abbrev pub runsFinish : List RunCall → Bool
-runsFinish [] = false
-runsFinish (run w buffer ∷ cs) = runsFinish cs
-runsFinish (one (feed n buffer) ∷ cs) = runsFinish cs
-runsFinish (one done ∷ cs) = true
+abbrev pub runs_finish : List RunCall → Bool
+runs_finish [] = false
+runs_finish (run w buffer ∷ cs) = runs_finish cs
+runs_finish (one (feed n buffer) ∷ cs) = runs_finish cs
+runs_finish (one done ∷ cs) = true

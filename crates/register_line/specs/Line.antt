@@ -9,75 +9,75 @@ use Rattle.two_wire.specs.Messages.{message}
 use Rattle.typed_setting.specs.declared.Setting.{Setting}
 use Rattle.typed_setting.specs.declared.Setting.TheVariants.{Single, Double, Beyond, NoGain, Unknown}
 use Rattle.typed_setting.specs.Setting.{setting_of}
-use Rattle.two_wire_text.specs.Hex.{hexText, isMessage}
-use Rattle.two_wire_text.specs.Explained.{messageText, messageSensor}
+use Rattle.two_wire_text.specs.Hex.{hex_text, is_message}
+use Rattle.two_wire_text.specs.Explained.{message_text, message_sensor}
 use Rattle.register_line.specs.declared.Reply.{Reply}
-use Rattle.register_line.specs.Bare.{bareLength, bare}
+use Rattle.register_line.specs.Bare.{bare_length, bare}
 
 -- Why a line is refused: its number, and what it may be.
 
 -- a line by its number
-unfoldable pub lineHead : ℕ → List ℕ
-lineHead n = ascii "line " ++ (decimal n ++ ascii ": ")
+unfoldable pub line_head : ℕ → List ℕ
+line_head n = ascii "line " ++ (decimal n ++ ascii ": ")
 
 -- a value above its limit, or none: the name, and the limit
-unfoldable pub beyondText : ℕ → ℕ → ℕ → List ℕ → List ℕ
-beyondText n at limit line = lineHead n ++ (take at line ++ (ascii " takes 0 to " ++ (decimal limit ++ (newline ∷ []))))
+unfoldable pub beyond_text : ℕ → ℕ → ℕ → List ℕ → List ℕ
+beyond_text n at limit line = line_head n ++ (take at line ++ (ascii " takes 0 to " ++ (decimal limit ++ (newline ∷ []))))
 
 -- a gain code that there is not
-unfoldable pub noGainText : ℕ → List ℕ
-noGainText n = lineHead n ++ ascii "gain takes 0, 1, 3 or 7\n"
+unfoldable pub no_gain_text : ℕ → List ℕ
+no_gain_text n = line_head n ++ ascii "gain takes 0, 1, 3 or 7\n"
 
 -- no setting and no message
-abbrev pub unknownWords : Profile → List ℕ
-unknownWords VV5404 = ascii "no setting of the VV5404, and no message\n"
-unknownWords VV5300 = ascii "no setting of the VV5300, and no message\n"
+abbrev pub unknown_words : Profile → List ℕ
+unknown_words VV5404 = ascii "no setting of the VV5404, and no message\n"
+unknown_words VV5300 = ascii "no setting of the VV5300, and no message\n"
 
 -- a line that is neither
-unfoldable pub unknownText : Profile → ℕ → List ℕ
-unknownText p n = lineHead n ++ unknownWords p
+unfoldable pub unknown_text : Profile → ℕ → List ℕ
+unknown_text p n = line_head n ++ unknown_words p
 
 -- a line that is too long
-unfoldable pub tooLongText : ℕ → ℕ → List ℕ
-tooLongText n room = lineHead n ++ (decimal room ++ ascii " characters or more\n")
+unfoldable pub too_long_text : ℕ → ℕ → List ℕ
+too_long_text n room = line_head n ++ (decimal room ++ ascii " characters or more\n")
 
 -- Lines.
 
 -- the text for a line, by the setting that it is, or as a message
-unfoldable pub textBy : Setting → Profile → Sensor → ℕ → List ℕ → List ℕ
-textBy (Single i v) p s n line = hexText (message i v)
-textBy (Double i v j w) p s n line = hexText (message i v) ++ hexText (message j w)
-textBy (Beyond at limit) p s n line = beyondText n at limit line
-textBy NoGain p s n line = noGainText n
-textBy Unknown p s n line = cond (isMessage line) (messageText s line) (unknownText p n)
+unfoldable pub text_by : Setting → Profile → Sensor → ℕ → List ℕ → List ℕ
+text_by (Single i v) p s n line = hex_text (message i v)
+text_by (Double i v j w) p s n line = hex_text (message i v) ++ hex_text (message j w)
+text_by (Beyond at limit) p s n line = beyond_text n at limit line
+text_by NoGain p s n line = no_gain_text n
+text_by Unknown p s n line = cond (is_message line) (message_text s line) (unknown_text p n)
 
 -- a line that is neither a setting with a value it may have nor a message is refused
-unfoldable pub refusedBy : Setting → List ℕ → Bool
-refusedBy (Single i v) line = false
-refusedBy (Double i v j w) line = false
-refusedBy (Beyond at limit) line = true
-refusedBy NoGain line = true
-refusedBy Unknown line = not (isMessage line)
+unfoldable pub refused_by : Setting → List ℕ → Bool
+refused_by (Single i v) line = false
+refused_by (Double i v j w) line = false
+refused_by (Beyond at limit) line = true
+refused_by NoGain line = true
+refused_by Unknown line = not (is_message line)
 
 -- the state after a line: a setting leaves it
-unfoldable pub sensorBy : Setting → Sensor → List ℕ → Sensor
-sensorBy (Single i v) s line = s
-sensorBy (Double i v j w) s line = s
-sensorBy (Beyond at limit) s line = s
-sensorBy NoGain s line = s
-sensorBy Unknown s line = cond (isMessage line) (messageSensor s line) s
+unfoldable pub sensor_by : Setting → Sensor → List ℕ → Sensor
+sensor_by (Single i v) s line = s
+sensor_by (Double i v j w) s line = s
+sensor_by (Beyond at limit) s line = s
+sensor_by NoGain s line = s
+sensor_by Unknown s line = cond (is_message line) (message_sensor s line) s
 
 -- a line that is empty without its comment has no text
 unfoldable pub text_of : Profile → Sensor → ℕ → List ℕ → List ℕ
-text_of p s n line = cond (eqb (bareLength line) 0) [] (textBy (setting_of p (bare line)) p s n (bare line))
+text_of p s n line = cond (eqb (bare_length line) 0) [] (text_by (setting_of p (bare line)) p s n (bare line))
 
 -- a line is refused
-unfoldable pub refusedOf : Profile → List ℕ → Bool
-refusedOf p line = cond (eqb (bareLength line) 0) false (refusedBy (setting_of p (bare line)) (bare line))
+unfoldable pub refused_of : Profile → List ℕ → Bool
+refused_of p line = cond (eqb (bare_length line) 0) false (refused_by (setting_of p (bare line)) (bare line))
 
 -- the sensor after a line
-unfoldable pub sensorOf : Profile → Sensor → List ℕ → Sensor
-sensorOf p s line = cond (eqb (bareLength line) 0) s (sensorBy (setting_of p (bare line)) s (bare line))
+unfoldable pub sensor_of : Profile → Sensor → List ℕ → Sensor
+sensor_of p s line = cond (eqb (bare_length line) 0) s (sensor_by (setting_of p (bare line)) s (bare line))
 
 -- Calls.
 
@@ -89,8 +89,8 @@ pub record Replies (s : Sensor) (refused : Bool) (text before after : List ℕ) 
 
 -- for the setting that a line is, and for a line
 abbrev pub RepliesBy : Setting → Profile → Sensor → ℕ → List ℕ → List ℕ → List ℕ → Reply → Type 0
-RepliesBy asked p s n line = Replies (sensorBy asked s line) (refusedBy asked line) (textBy asked p s n line)
+RepliesBy asked p s n line = Replies (sensor_by asked s line) (refused_by asked line) (text_by asked p s n line)
 
 -- what a call with a line gives
 abbrev pub RepliesTo : Profile → Sensor → ℕ → List ℕ → List ℕ → List ℕ → Reply → Type 0
-RepliesTo p s n line = Replies (sensorOf p s line) (refusedOf p line) (text_of p s n line)
+RepliesTo p s n line = Replies (sensor_of p s line) (refused_of p line) (text_of p s n line)

@@ -11,9 +11,9 @@ ghost use Rattle.std.specs.Prelude.{◌≡◌, cond, take};
 ghost use Rattle.text.specs.Put.{Puts};
 ghost use Rattle.typed_setting.specs.declared.Setting.TheVariants.{Unknown};
 ghost use Rattle.typed_setting.specs.Setting.{setting_of};
-ghost use Rattle.named_value.specs.Number.{isBlank};
-ghost use Rattle.register_line.specs.Bare.{bareLength};
-ghost use Rattle.register_line.specs.Line.{lineHead, beyondText, noGainText, unknownText, tooLongText, RepliesTo, RepliesBy};
+ghost use Rattle.named_value.specs.Number.{is_blank};
+ghost use Rattle.register_line.specs.Bare.{bare_length};
+ghost use Rattle.register_line.specs.Line.{line_head, beyond_text, no_gain_text, unknown_text, too_long_text, RepliesTo, RepliesBy};
 
 use profile::Profile;
 use text::{put, put_decimal};
@@ -110,7 +110,7 @@ fn explain(profile: Profile, sensor: Sensor, number: u64, line: &[u8], out: &mut
 
 // How many characters of a line stand before its comment and the blanks there.
 fn bare_length(line: &[u8]) -> usize
-    ensures { result ≡ bareLength line.now }
+    ensures { result ≡ bare_length line.now }
 {
     let mut end: usize = 0;
     let mut i: usize = 0;
@@ -127,7 +127,7 @@ fn bare_length(line: &[u8]) -> usize
 
 // Where a line ends after a character that ends at a place: there, unless it is a blank.
 fn end_after(c: u8, end: usize, place: usize) -> usize
-    ensures { result ≡ cond (isBlank c) end place }
+    ensures { result ≡ cond (is_blank c) end place }
 {
     if named_value::is_blank(c) {
         return end;
@@ -138,7 +138,7 @@ fn end_after(c: u8, end: usize, place: usize) -> usize
 // Why a line is refused: its number, and what it may be.
 
 fn put_line(number: u64, out: &mut [u8]) -> usize
-    ensures { Puts out.old 0 (lineHead number) result out.new }
+    ensures { Puts out.old 0 (line_head number) result out.new }
 {
     let a = put(b"line ", out, 0);
     let b = put_decimal(number, out, a);
@@ -146,7 +146,7 @@ fn put_line(number: u64, out: &mut [u8]) -> usize
 }
 
 fn put_beyond(number: u64, line: &[u8], at: usize, limit: u16, out: &mut [u8]) -> usize
-    ensures { Puts out.old 0 (beyondText number at limit line.now) result out.new }
+    ensures { Puts out.old 0 (beyond_text number at limit line.now) result out.new }
 {
     let a = put_line(number, out);
     let b = put_name(line, at, out, a);
@@ -166,14 +166,14 @@ fn put_name(line: &[u8], end: usize, out: &mut [u8], at: usize) -> usize
 }
 
 fn put_no_gain(number: u64, out: &mut [u8]) -> usize
-    ensures { Puts out.old 0 (noGainText number) result out.new }
+    ensures { Puts out.old 0 (no_gain_text number) result out.new }
 {
     let a = put_line(number, out);
     put(b"gain takes 0, 1, 3 or 7\n", out, a)
 }
 
 fn put_unknown(profile: Profile, number: u64, out: &mut [u8]) -> usize
-    ensures { Puts out.old 0 (unknownText profile number) result out.new }
+    ensures { Puts out.old 0 (unknown_text profile number) result out.new }
 {
     let a = put_line(number, out);
     match profile {
@@ -184,7 +184,7 @@ fn put_unknown(profile: Profile, number: u64, out: &mut [u8]) -> usize
 
 // A line that fills the room for it: its number, and that room.
 pub fn put_too_long(number: u64, room: usize, out: &mut [u8]) -> usize
-    ensures { Puts out.old 0 (tooLongText number room) result out.new }
+    ensures { Puts out.old 0 (too_long_text number room) result out.new }
 {
     let a = put_line(number, out);
     let b = put_decimal(room as u64, out, a);

@@ -6,7 +6,7 @@
 // that fills the buffer that keeps it is refused, and told with its number: `line 3: 4096 characters or more`.
 // Cost: constant for a character, linear in the line at its end.
 ghost use Rattle.std.specs.Prelude.{◌≡◌};
-ghost use Rattle.register_script.specs.Script.{start, place_of, lineAfter, RepliesLine, Appends, KeepsBlank, KeepsCharacter, Feeds};
+ghost use Rattle.register_script.specs.Script.{start, place_of, line_after, RepliesLine, Appends, KeepsBlank, KeepsCharacter, Feeds};
 
 use profile::Profile;
 use register_line::Reply;
@@ -78,7 +78,7 @@ impl Script {
 
 // The number of the next line; the greatest is held.
 fn following(number: u64) -> u64
-    ensures { result ≡ lineAfter number }
+    ensures { result ≡ line_after number }
 {
     if number < u64::MAX {
         return number + 1;

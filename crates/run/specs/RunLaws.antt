@@ -2,64 +2,64 @@
 use Rattle.std.specs.Prelude.{◌≡◌, refl, Bool, true, false, cond, List, [], ◌∷◌, ℕ, suc, ◌+◌, ◌≤◌, ◌<◌, leb, length, take, drop, get_or}
 use Rattle.std.proofs.Common.{sym, ap, ◌∙◌, zero-add, add-zero, add-one, arith, le-leb, drop_of_length-le, drop-cons}
 use Rattle.std.proofs.lemmas.Bool.{lt-leb}
-use Rattle.refusal.specs.Refusal.{notANibble, badState, noRoom}
-use Rattle.profile.specs.Profile.{bodyLength}
-use Rattle.stream.specs.Answers.{nothing, refused, answerFor, isAnswer}
+use Rattle.refusal.specs.Refusal.{not_a_nibble, bad_state, no_room}
+use Rattle.profile.specs.Profile.{body_length}
+use Rattle.stream.specs.Answers.{nothing, refused, answer_for, is_answer}
 use Rattle.reader.specs.declared.Reader.{Reader}
 use Rattle.reader_head.specs.Head.{passes}
 use Rattle.reader.specs.Reader.{Took, taking}
-use Rattle.run.specs.Run.{Ran, ran, onward, stops, stopPlace, run_of}
-use Rattle.run.specs.Stopping.{takingAll, stopping}
+use Rattle.run.specs.Run.{Ran, ran, onward, stops, stop_place, run_of}
+use Rattle.run.specs.Stopping.{taking_all, stopping}
 
 -- By the place of its stop.
 
 onward_stops : (w : List ℕ) (r : Reader) (i : ℕ)
-    → onward r w i ≡ stopping (takingAll r (take (stopPlace r w) w)) (drop (stopPlace r w) w) (i + stopPlace r w)
+    → onward r w i ≡ stopping (taking_all r (take (stop_place r w) w)) (drop (stop_place r w) w) (i + stop_place r w)
 unfolding stops
 onward_stops [] r i = ap (ran r nothing) (sym (add-zero i))
-onward_stops (n ∷ w) r i = go (leb n 15) (isAnswer (answerFor (taking r n).outcome)) refl refl (onward_stops w (taking r n).reader (i + 1))
+onward_stops (n ∷ w) r i = go (leb n 15) (is_answer (answer_for (taking r n).outcome)) refl refl (onward_stops w (taking r n).reader (i + 1))
   where
     t : Took
     t = taking r n
 
     p : ℕ
-    p = stopPlace t.reader w
+    p = stop_place t.reader w
 
-    go : (a b : Bool) → leb n 15 ≡ a → isAnswer (answerFor t.outcome) ≡ b
-        → onward t.reader w (i + 1) ≡ stopping (takingAll t.reader (take p w)) (drop p w) (i + 1 + p)
+    go : (a b : Bool) → leb n 15 ≡ a → is_answer (answer_for t.outcome) ≡ b
+        → onward t.reader w (i + 1) ≡ stopping (taking_all t.reader (take p w)) (drop p w) (i + 1 + p)
         → onward r (n ∷ w) i
-        ≡ stopping (takingAll r (take (stopPlace r (n ∷ w)) (n ∷ w))) (drop (stopPlace r (n ∷ w)) (n ∷ w)) (i + stopPlace r (n ∷ w))
+        ≡ stopping (taking_all r (take (stop_place r (n ∷ w)) (n ∷ w))) (drop (stop_place r (n ∷ w)) (n ∷ w)) (i + stop_place r (n ∷ w))
     go false b e f h = simp (e, add-zero i)
     go true true e f h = simp (e, f, add-zero i)
     go true false e f h =
         simp (e, f)
         (h
-        ∙ ap (stopping (takingAll t.reader (take p w)) (drop p w)) (let z : i + 1 + p ≡ i + suc p = omega arith in z))
+        ∙ ap (stopping (taking_all t.reader (take p w)) (drop p w)) (let z : i + 1 + p ≡ i + suc p = omega arith in z))
 
 -- the nibbles before the stop are taken one by one, and then the input there; so the count is the place of the stop, and one more where a
 -- nibble there is taken
-pub up-to-stop : (r : Reader) (w : List ℕ) → onward r w 0 ≡ stopping (takingAll r (take (stopPlace r w) w)) (drop (stopPlace r w) w) (stopPlace r w)
-up-to-stop r w = onward_stops w r 0 ∙ ap (stopping (takingAll r (take (stopPlace r w) w)) (drop (stopPlace r w) w)) (zero-add (stopPlace r w))
+pub up_to_stop : (r : Reader) (w : List ℕ) → onward r w 0 ≡ stopping (taking_all r (take (stop_place r w) w)) (drop (stop_place r w) w) (stop_place r w)
+up_to_stop r w = onward_stops w r 0 ∙ ap (stopping (taking_all r (take (stop_place r w) w)) (drop (stop_place r w) w)) (zero-add (stop_place r w))
 
 -- One nibble at the place i.
 
 module _ (r : Reader) (s : List ℕ) (i : ℕ) where
-  pub onward-end : length s ≤ i → onward r (drop i s) i ≡ ran r nothing i
-  onward-end h = ap (λ l. onward r l i) (drop_of_length-le s h)
+  pub onward_end : length s ≤ i → onward r (drop i s) i ≡ ran r nothing i
+  onward_end h = ap (λ l. onward r l i) (drop_of_length-le s h)
 
   there : i < length s → onward r (drop i s) i ≡ onward r (get_or s i 0 ∷ drop (i + 1) s) i
   there h = ap (λ l. onward r l i) (drop-cons s i 0 h) ∙ ap (λ k. onward r (get_or s i 0 ∷ drop k s) i) (sym (add-one i))
 
-  pub onward-above : i < length s → 15 < get_or s i 0 → onward r (drop i s) i ≡ ran r (refused notANibble) i
-  onward-above h g = there h ∙ simp (lt-leb _ _ g)
+  pub onward_above : i < length s → 15 < get_or s i 0 → onward r (drop i s) i ≡ ran r (refused not_a_nibble) i
+  onward_above h g = there h ∙ simp (lt-leb _ _ g)
 
-  pub onward-answered : i < length s → get_or s i 0 < 16 → isAnswer (answerFor (taking r (get_or s i 0)).outcome) ≡ true
+  pub onward_answered : i < length s → get_or s i 0 < 16 → is_answer (answer_for (taking r (get_or s i 0)).outcome) ≡ true
       → onward r (drop i s) i ≡ ran (taking r (get_or s i 0)).reader (taking r (get_or s i 0)).outcome (i + 1)
-  onward-answered h g f = there h ∙ simp (le-leb (get_or s i 0) 15 (omega arith), f)
+  onward_answered h g f = there h ∙ simp (le-leb (get_or s i 0) 15 (omega arith), f)
 
-  pub onward-on : i < length s → get_or s i 0 < 16 → isAnswer (answerFor (taking r (get_or s i 0)).outcome) ≡ false
+  pub onward_on : i < length s → get_or s i 0 < 16 → is_answer (answer_for (taking r (get_or s i 0)).outcome) ≡ false
       → onward r (drop i s) i ≡ onward (taking r (get_or s i 0)).reader (drop (i + 1) s) (i + 1)
-  onward-on h g f = there h ∙ simp (le-leb (get_or s i 0) 15 (omega arith), f)
+  onward_on h g f = there h ∙ simp (le-leb (get_or s i 0) 15 (omega arith), f)
 
 -- A run that takes nothing leaves the reader as it was.
 
@@ -67,24 +67,24 @@ none_before : (r : Reader) (w : List ℕ) (i : ℕ) → (stopping r w i).taken �
 none_before r [] i e = (e, refl)
 none_before r (n ∷ w) i e = go (leb n 15) e
   where
-    go : (b : Bool) → (cond b (ran (taking r n).reader (taking r n).outcome (i + 1)) (ran r (refused notANibble) i)).taken ≡ 0
-        → (i ≡ 0) × ((cond b (ran (taking r n).reader (taking r n).outcome (i + 1)) (ran r (refused notANibble) i)).reader ≡ r)
+    go : (b : Bool) → (cond b (ran (taking r n).reader (taking r n).outcome (i + 1)) (ran r (refused not_a_nibble) i)).taken ≡ 0
+        → (i ≡ 0) × ((cond b (ran (taking r n).reader (taking r n).outcome (i + 1)) (ran r (refused not_a_nibble) i)).reader ≡ r)
     go true e = absurd (omega arith)
     go false e = (e, refl)
 
-pub none-taken : (r : Reader) (w : List ℕ) (room : ℕ) → (run_of r w room).taken ≡ 0 → (run_of r w room).reader ≡ r
+pub none_taken : (r : Reader) (w : List ℕ) (room : ℕ) → (run_of r w room).taken ≡ 0 → (run_of r w room).reader ≡ r
 unfolding run_of
-none-taken r w room = go (passes r.head) (leb (bodyLength r.head.profile) room)
+none_taken r w room = go (passes r.head) (leb (body_length r.head.profile) room)
   where
     up : (onward r w 0).taken ≡ 0 → (onward r w 0).reader ≡ r
     up e =
-        let p = stopPlace r w in
-        let q = up-to-stop r w in
-        let k = none_before (takingAll r (take p w)) (drop p w) p (sym (ap (λ (t : Ran). t.taken) q) ∙ e) in
-        ap (λ (t : Ran). t.reader) q ∙ k.1 ∙ ap (λ j. takingAll r (take j w)) k.0
+        let p = stop_place r w in
+        let q = up_to_stop r w in
+        let k = none_before (taking_all r (take p w)) (drop p w) p (sym (ap (λ (t : Ran). t.taken) q) ∙ e) in
+        ap (λ (t : Ran). t.reader) q ∙ k.1 ∙ ap (λ j. taking_all r (take j w)) k.0
 
-    go : (a b : Bool) → (cond a (cond b (onward r w 0) (ran r (refused noRoom) 0)) (ran r (refused badState) 0)).taken ≡ 0
-        → (cond a (cond b (onward r w 0) (ran r (refused noRoom) 0)) (ran r (refused badState) 0)).reader ≡ r
+    go : (a b : Bool) → (cond a (cond b (onward r w 0) (ran r (refused no_room) 0)) (ran r (refused bad_state) 0)).taken ≡ 0
+        → (cond a (cond b (onward r w 0) (ran r (refused no_room) 0)) (ran r (refused bad_state) 0)).reader ≡ r
     go true true e = up e
     go true false e = refl
     go false b e = refl

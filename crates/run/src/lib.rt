@@ -7,13 +7,13 @@
 // Where no mark can end in the next two nibbles they are taken in one turn (crate run_ahead); every other nibble is taken as feeding takes it. Cost:
 // linear in the nibbles taken.
 ghost use Rattle.std.specs.Prelude.{◌≡◌, ◌≤◌, ◌<◌, length};
-ghost use Rattle.profile.specs.Profile.{bodyLength, longest};
-ghost use Rattle.stream.specs.Answers.{answerFor, refused};
-ghost use Rattle.reader.specs.Reader.{readerOf, taking};
+ghost use Rattle.profile.specs.Profile.{body_length, longest};
+ghost use Rattle.stream.specs.Answers.{answer_for, refused};
+ghost use Rattle.reader.specs.Reader.{reader_of, taking};
 ghost use Rattle.reader.specs.Gives.{TakeGives};
-ghost use Rattle.run.specs.Run.{run_of, lentRunOf};
+ghost use Rattle.run.specs.Run.{run_of, lent_run_of};
 ghost use Rattle.run.specs.Gives.{RunGives, LentRunGives};
-ghost use Rattle.run.specs.Parts.{ranFrom, Ends};
+ghost use Rattle.run.specs.Parts.{ran_from, Ends};
 
 use profile::Profile;
 use reader::{Reader, Stepped};
@@ -57,7 +57,7 @@ pub fn run(reader: Reader, nibbles: &[u8], buffer: &mut [u8]) -> RunFed
 // The same of a reader whose body is lent, so that calls in a row copy no body. Refused 11 also where the lent body is not as long as the
 // longest.
 pub fn run_lent(h: Head, body: &mut [u8], nibbles: &[u8], buffer: &mut [u8]) -> RunStepped
-    ensures { LentRunGives h.profile (lentRunOf h body.old nibbles.now (length buffer.old)) result body.new buffer.old buffer.new }
+    ensures { LentRunGives h.profile (lent_run_of h body.old nibbles.now (length buffer.old)) result body.new buffer.old buffer.new }
 {
     if body.len() != Profile::LONGEST {
         return refuse(h, refusal::BAD_STATE, 0);
@@ -74,7 +74,7 @@ pub fn run_lent(h: Head, body: &mut [u8], nibbles: &[u8], buffer: &mut [u8]) -> 
 
 // A run that is refused, or stopped by an input above 15, with what it took.
 fn refuse(h: Head, number: u8, taken: usize) -> RunStepped
-    ensures { (result.head ≡ h) × (result.answer ≡ answerFor (refused number)) × (result.taken ≡ taken) }
+    ensures { (result.head ≡ h) × (result.answer ≡ answer_for (refused number)) × (result.taken ≡ taken) }
 {
     let answer = Answer::Refused(number);
     RunStepped {
@@ -86,8 +86,8 @@ fn refuse(h: Head, number: u8, taken: usize) -> RunStepped
 
 // Takes nibbles up to the run's stop.
 fn up_to_stop(start: Head, body: &mut [u8], nibbles: &[u8], buffer: &mut [u8]) -> RunStepped
-    requires { (bodyLength start.profile ≤ length buffer.old) × (length body.old ≡ longest) }
-    ensures { Ends (ranFrom start body.old nibbles.now) result.head body.new result.taken result.answer buffer.old buffer.new }
+    requires { (body_length start.profile ≤ length buffer.old) × (length body.old ≡ longest) }
+    ensures { Ends (ran_from start body.old nibbles.now) result.head body.new result.taken result.answer buffer.old buffer.new }
 {
     let first = run_ahead::ahead(start, body, nibbles, 0);
     let mut h = first.head;
@@ -122,8 +122,8 @@ fn up_to_stop(start: Head, body: &mut [u8], nibbles: &[u8], buffer: &mut [u8]) -
 
 // Takes one nibble, where nothing is refused.
 fn take(h: Head, body: &mut [u8], nibble: u8, buffer: &mut [u8]) -> Stepped
-    requires { (nibble < 16) × (bodyLength h.profile ≤ length buffer.old) × (length body.old ≡ longest) }
-    ensures { TakeGives (taking (readerOf h body.old) nibble) result body.new buffer.old buffer.new }
+    requires { (nibble < 16) × (body_length h.profile ≤ length buffer.old) × (length body.old ≡ longest) }
+    ensures { TakeGives (taking (reader_of h body.old) nibble) result body.new buffer.old buffer.new }
 {
     reader::take(h, body, nibble, buffer)
 }

@@ -17,8 +17,8 @@ pub record Far (stray : Bool) (s : List ℕ) (k n : ℕ) : Type 0 where
   pub same : (stray ≡ true) ⊎ ((x : ℕ) → k ≤ x → x < k + n → 15 ≤ get_or s x 0)
 
 -- the eight nibbles from a place on, as a window
-abbrev pub windowFrom : List ℕ → ℕ → ℕ
-windowFrom s k =
+abbrev pub window_from : List ℕ → ℕ → ℕ
+window_from s k =
     268435456 * get_or s k 0 + 16777216 * get_or s (k + 1) 0 + 1048576 * get_or s (k + 2) 0 + 65536 * get_or s (k + 3) 0
     + 4096 * get_or s (k + 4) 0 + 256 * get_or s (k + 5) 0 + 16 * get_or s (k + 6) 0 + get_or s (k + 7) 0
 
@@ -26,19 +26,19 @@ windowFrom s k =
 pub record FarOn (w : ℕ) (stray : Bool) (s : List ℕ) (from end n : ℕ) : Type 0 where
   pub behind : 8 ≤ from
   pub up_to : from + 2 * n ≤ end
-  pub shown : w ≡ windowFrom s (from - 8)
+  pub shown : w ≡ window_from s (from - 8)
   pub far : Far stray s (from - 8) (2 * n)
 
 -- the byte of the two nibbles at a place
-abbrev pub byteFrom : List ℕ → ℕ → ℕ
-byteFrom s i = 16 * get_or s i 0 + get_or s (i + 1) 0
+abbrev pub byte_from : List ℕ → ℕ → ℕ
+byte_from s i = 16 * get_or s i 0 + get_or s (i + 1) 0
 
 -- a body with n bytes from the place i on, put there from its place j on
-abbrev pub packedInto : List ℕ → ℕ → List ℕ → ℕ → ℕ → List ℕ
-packedInto B j s i zero = B
-packedInto B j s i (suc n) = set (packedInto B j s i n) (j + n) (byteFrom s (i + 2 * n))
+abbrev pub packed_into : List ℕ → ℕ → List ℕ → ℕ → ℕ → List ℕ
+packed_into B j s i zero = B
+packed_into B j s i (suc n) = set (packed_into B j s i n) (j + n) (byte_from s (i + 2 * n))
 
 -- the count of a text's nibbles with so many pairs more
-abbrev pub laterCount : ℕ → ℕ → ℕ
-laterCount zero c = c
-laterCount (suc n) c = bump (bump (laterCount n c))
+abbrev pub later_count : ℕ → ℕ → ℕ
+later_count zero c = c
+later_count (suc n) c = bump (bump (later_count n c))

@@ -13,9 +13,9 @@
 // Beside pairs alone, a long body takes about a third of the time, and what stands past it as well. Cost: linear in the nibbles taken.
 ghost use Rattle.std.specs.Prelude.{◌≡◌, List, ◌⊎◌, true, false, ℕ, ◌≤◌, ◌<◌, ◌+◌, ◌*◌, ◌/◌, ◌%◌, length, get_or};
 ghost use Rattle.profile.specs.Profile.{longest};
-ghost use Rattle.run_ahead.specs.Ahead.{pastBody, isNear, ahead_of, AheadGives};
-ghost use Rattle.run_ahead.specs.Parts.{LeadsTo, Reaches, UpToPast, isPair, bytePlace, slideByte, strayAfter, strayKept, byteKept};
-ghost use Rattle.run_ahead.specs.Blocks.{NibblesFrom, Apart, Far, FarOn, windowFrom, packedInto, laterCount};
+ghost use Rattle.run_ahead.specs.Ahead.{past_body, is_near, ahead_of, AheadGives};
+ghost use Rattle.run_ahead.specs.Parts.{LeadsTo, Reaches, UpToPast, is_pair, byte_place, slide_byte, stray_after, stray_kept, byte_kept};
+ghost use Rattle.run_ahead.specs.Blocks.{NibblesFrom, Apart, Far, FarOn, window_from, packed_into, later_count};
 
 use mark_text::Kept;
 use period::Nibbles;
@@ -115,7 +115,7 @@ fn before_body(h: Head, s: &[u8], from: usize) -> Reached
 // The bytes of a text's body, in pairs; and after a few, and again after each block that can't be taken, in blocks.
 fn in_body(h: Head, body: &mut [u8], s: &[u8], from: usize) -> Reached
     requires { (from ≤ length s.now) × (h.count % 2 ≡ 0) × (length body.old ≡ longest) × (14 ≤ h.count) }
-    ensures { Reaches pastBody s.now h body.old from result body.new }
+    ensures { Reaches past_body s.now h body.old from result body.new }
 {
     if PAST <= h.count {
         return Reached { head: h, at: from };
@@ -167,7 +167,7 @@ fn in_body(h: Head, body: &mut [u8], s: &[u8], from: usize) -> Reached
 
 // What stands past a text's body, in the same way.
 fn past_body(h: Head, s: &[u8], from: usize) -> Reached
-    requires { (from ≤ length s.now) × (pastBody ≤ h.count) }
+    requires { (from ≤ length s.now) × (past_body ≤ h.count) }
     ensures { (body : List ℕ) → LeadsTo s.now h body from result.head body result.at }
 {
     let profile = h.profile;
@@ -213,7 +213,7 @@ fn past_body(h: Head, s: &[u8], from: usize) -> Reached
 // The count of a text's nibbles with so many pairs more, held at its stop.
 fn later_count(count: u32, pairs: usize) -> u32
     requires { 2 * pairs < 18446744073709551616 }
-    ensures { result ≡ laterCount pairs count }
+    ensures { result ≡ later_count pairs count }
 {
     if COUNT_STOP <= count {
         return count;
@@ -347,7 +347,7 @@ fn at_most(a: u8, b: u8) -> u8
 // Puts so many bytes of the run, from a place on, into a body, from its place j on, in blocks.
 fn pack(s: &[u8], i: usize, body: &mut [u8], j: usize, n: usize)
     requires { (i + 2 * n ≤ length s.now) × (j + n ≤ length body.old) × NibblesFrom s.now i (2 * n) × (n % 16 ≡ 0) }
-    ensures { body.new ≡ packedInto body.old j s.now i n }
+    ensures { body.new ≡ packed_into body.old j s.now i n }
 {
     let mut k: usize = 0;
     while k < n {
@@ -359,7 +359,7 @@ fn pack(s: &[u8], i: usize, body: &mut [u8], j: usize, n: usize)
 // One block: first into an array of its own, since a body might be the run itself, for all that the compiler knows.
 fn pack_block(s: &[u8], i: usize, body: &mut [u8], j: usize)
     requires { (i + 32 ≤ length s.now) × (j + 16 ≤ length body.old) × NibblesFrom s.now i 32 }
-    ensures { body.new ≡ packedInto body.old j s.now i 16 }
+    ensures { body.new ≡ packed_into body.old j s.now i 16 }
 {
     let mut to = [0u8; 16];
     let mut k: usize = 0;
@@ -377,7 +377,7 @@ fn pack_block(s: &[u8], i: usize, body: &mut [u8], j: usize)
 // The eight nibbles from a place on, as a window.
 fn window_from(s: &[u8], i: usize) -> u32
     requires { (i + 8 ≤ length s.now) × NibblesFrom s.now i 8 }
-    ensures { result ≡ windowFrom s.now i }
+    ensures { result ≡ window_from s.now i }
 {
     let w = slide_byte(0, s, i);
     let w = slide_byte(w, s, i + 2);
@@ -388,7 +388,7 @@ fn window_from(s: &[u8], i: usize) -> u32
 // Whether two nibbles stand at a place, before the end, in which no mark can end.
 fn is_pair(window: u32, s: &[u8], i: usize, end: usize) -> bool
     requires { (end ≤ length s.now) × (i ≤ end) }
-    ensures { result ≡ isPair window s.now i end }
+    ensures { result ≡ is_pair window s.now i end }
 {
     if end - i < 2 {
         return false;
@@ -407,7 +407,7 @@ fn is_pair(window: u32, s: &[u8], i: usize, end: usize) -> bool
 
 // Whether a mark may end at one of the next two nibbles.
 fn is_near(window: u32) -> bool
-    ensures { result ≡ isNear window }
+    ensures { result ≡ is_near window }
 {
     if window / 4096 % 4096 == 4095 {
         return window / 16 % 16 == 0;
@@ -429,21 +429,21 @@ fn sooner(end: usize, from: usize, most: usize) -> usize
 // A window with the two nibbles at a place, and its oldest two gone.
 fn slide_byte(window: u32, s: &[u8], i: usize) -> u32
     requires { (i + 2 ≤ length s.now) × (get_or s.now i 0 < 16) × (get_or s.now (i + 1) 0 < 16) }
-    ensures { result ≡ slideByte window (get_or s.now i 0) (get_or s.now (i + 1) 0) }
+    ensures { result ≡ slide_byte window (get_or s.now i 0) (get_or s.now (i + 1) 0) }
 {
     window % 0x100_0000 * 256 + 16 * s[i] as u32 + s[i + 1] as u32
 }
 
 // The oldest two nibbles of a window.
 fn top_byte(window: u32) -> u8
-    ensures { result ≡ window / bytePlace }
+    ensures { result ≡ window / byte_place }
 {
     (window / 0x100_0000) as u8
 }
 
 // Whether a nibble where a gap has nothing but F was another, with a byte more.
 fn stray_after(stray: bool, byte: u8) -> bool
-    ensures { result ≡ strayAfter stray byte }
+    ensures { result ≡ stray_after stray byte }
 {
     if byte < 255 {
         return true;
@@ -453,7 +453,7 @@ fn stray_after(stray: bool, byte: u8) -> bool
 
 // What is kept with the byte that leaves the window at an even count up to the body.
 fn keep_byte(profile: Profile, count: u32, byte: u8, kept: Kept) -> Kept
-    ensures { result ≡ byteKept profile count byte kept }
+    ensures { result ≡ byte_kept profile count byte kept }
 {
     if count < 10 {
         return kept;
@@ -475,7 +475,7 @@ fn keep_byte(profile: Profile, count: u32, byte: u8, kept: Kept) -> Kept
 
 // The same of the two bytes after the code: in profile 1 a gap's own.
 fn stray_kept(profile: Profile, stray: bool, byte: u8) -> bool
-    ensures { result ≡ strayKept profile stray byte }
+    ensures { result ≡ stray_kept profile stray byte }
 {
     match profile {
         Profile::VV5404 => stray_after(stray, byte),

@@ -2,7 +2,7 @@
 -- The array is copied to a local, which is lent to the callee for a lifetime of the call, and comes back at the last list that the callee says; that
 -- list and the answer are returned.
 --     function key τ       the MIR
---     held-change          it runs from what the types own at entry to Post
+--     held_change          it runs from what the types own at entry to Post
 -- What is asked of whoever uses it: that the callee, from the lent slice, gives an answer and a last list of which Said holds (met, got); and that
 -- what is had at the exit is enough (exits).
 -- Assumes `Logic`.
@@ -40,7 +40,7 @@ use denote.Triple.Call.{calls_from}
 use Rattle.saved_setting.specs.declared.SavedSetting.{SavedSetting}
 use Rattle.saved_setting.specs.declared.Saved.{Saved}
 use Rattle.saved_setting.specs.declared.SavedList.{SavedList}
-use Rattle.saved_held.proofs.Lent.{arr, arr-vals, arr-val, Eights, array-in, array_back, field-maps, field_is}
+use Rattle.saved_held.proofs.Lent.{arr, arr_vals, arr_val, Eights, array_in, array_back, field_maps, field_is}
 use Rattle.saved_setting.specs.contracts.SavedSetting as S
 use Rattle.saved_setting.proofs.SavedSetting.TheLaws as S'
 use Rattle.saved_setting.specs.contracts.Saved as K
@@ -70,17 +70,17 @@ abbrev pub after : Saved → List SavedSetting → SavedList
 after r zs = record { answer = r; list = zs }
 
 -- its machine value: in the struct's own laws the array's elements are tuples
-abbrev pub after-val : Saved → List SavedSetting → Val
-after-val r zs = vstruct (of_list (EL.val K.the_type K'.the_laws r ∷ arr-val zs ∷ []))
+abbrev pub after_val : Saved → List SavedSetting → Val
+after_val r zs = vstruct (of_list (EL.val K.the_type K'.the_laws r ∷ arr_val zs ∷ []))
 
 pub after_is : (r : Saved) (zs : List SavedSetting) → Is K.the_row r (EL.vals K.the_type K'.the_laws r) → Eights zs
-    → Is R.the_row (after r zs) (after-val r zs ∷ [])
+    → Is R.the_row (after r zs) (after_val r zs ∷ [])
 after_is r zs ris zis =
-    subst (λ (us : List Val). Is R.the_row (after r zs) (vstruct (of_list (EL.val K.the_type K'.the_laws r ∷ array_val us ∷ [])) ∷ [])) (field-maps zs)
+    subst (λ (us : List Val). Is R.the_row (after r zs) (vstruct (of_list (EL.val K.the_type K'.the_laws r ∷ array_val us ∷ [])) ∷ [])) (field_maps zs)
     (LL.owes R.the_type R'.the_laws (after r zs) (ris, (field_is zs zis, tt)))
 
-answer-is : (r : Saved) {w : List Val} → Is K.the_row r w → Is K.the_row r (EL.vals K.the_type K'.the_laws r)
-answer-is r {w} is = subst (Is K.the_row r) (EL.tells K.the_type K'.the_laws r w is) is
+answer_is : (r : Saved) {w : List Val} → Is K.the_row r w → Is K.the_row r (EL.vals K.the_type K'.the_laws r)
+answer_is r {w} is = subst (Is K.the_row r) (EL.tells K.the_type K'.the_laws r w is) is
 
 -- The slice that is lent, at l and under the name δ; and what is had after the call, for an answer and a last list.
 
@@ -105,34 +105,34 @@ module _ {M : Type 1} {𝓤 : Ura M} (𝓛 : Logic 𝓤) (ys : List SavedSetting
       (got : (l ν : ℕ) (δ : GName) (w : Val) → ent 𝓤 (Q l ν δ w) (H.⇛ (ex 𝓤 (λ (r : Saved). ex 𝓤 (Came Said ν δ w r)))))
       (Post : Val → SProp 𝓤)
       (exits : (r : Saved) (zs : List SavedSetting) → Said r zs → Is K.the_row r (EL.vals K.the_type K'.the_laws r) → Eights zs
-      → ent 𝓤 (⋆ 𝓛 (‵ ftrue ∷ ‵ (fsep (arr.own ys (arr-vals ys)) Args) ∷ [])) (Post (after-val r zs))) where
+      → ent 𝓤 (⋆ 𝓛 (‵ ftrue ∷ ‵ (fsep (arr.own ys (arr_vals ys)) Args) ∷ [])) (Post (after_val r zs))) where
     long : length ys ≡ 8
     long = is.1.0.1
 
     room : Room S.the_row (length ys)
     room = subst (Room S.the_row) (sym long) (lit< tt, lit< tt)
 
-    typed-array : (zs : List SavedSetting) → Eights zs → Holds (has_ty (ty_array S'.mir 8) (arr-val zs)) × WT (arr-val zs)
-    typed-array zs zis = ((Array-Lawful 𝓛 S.the_row (LL.lawful S.the_type S'.the_laws 𝓛) 8).typed zs _ zis).0
+    typed_array : (zs : List SavedSetting) → Eights zs → Holds (has_ty (ty_array S'.mir 8) (arr_val zs)) × WT (arr_val zs)
+    typed_array zs zis = ((Array-Lawful 𝓛 S.the_row (LL.lawful S.the_type S'.the_laws 𝓛) 8).typed zs _ zis).0
 
-    typed-after : (r : Saved) (zs : List SavedSetting) → Is R.the_row (after r zs) (after-val r zs ∷ [])
-        → Holds (has_ty R'.mir (after-val r zs)) × WT (after-val r zs)
-    typed-after r zs ris = ((LL.lawful R.the_type R'.the_laws 𝓛).typed (after r zs) _ ris).0
+    typed_after : (r : Saved) (zs : List SavedSetting) → Is R.the_row (after r zs) (after_val r zs ∷ [])
+        → Holds (has_ty R'.mir (after_val r zs)) × WT (after_val r zs)
+    typed_after r zs ris = ((LL.lawful R.the_type R'.the_laws 𝓛).typed (after r zs) _ ris).0
 
-    pub held-change : ent 𝓤 (⋆ 𝓛 (‵ ftrue ∷ ‵ (fsep (arr.own ys (arr-vals ys)) Args) ∷ []))
-        (WpFn 𝓤 H C Λ (function key τ) (arr-val ys ∷ av ∷ []) Post)
-    held-change =
-        qed 𝓛 (‵ ftrue ∷ ‵ (fsep (arr.own ys (arr-vals ys)) Args) ∷ []) ∵ enter ! C Λ (function key τ) (arr-val ys ∷ av ∷ []) _ $
+    pub held_change : ent 𝓤 (⋆ 𝓛 (‵ ftrue ∷ ‵ (fsep (arr.own ys (arr_vals ys)) Args) ∷ []))
+        (WpFn 𝓤 H C Λ (function key τ) (arr_val ys ∷ av ∷ []) Post)
+    held_change =
+        qed 𝓛 (‵ ftrue ∷ ‵ (fsep (arr.own ys (arr_vals ys)) Args) ∷ []) ∵ enter ! C Λ (function key τ) (arr_val ys ∷ av ∷ []) _ $
         alloc1 ! (λ l0. alloc1 ! (λ l1. alloc1 ! (λ l2. alloc1 ! (λ l3. alloc1 ! (λ l4. alloc1 ! (λ l5. alloc1 ! (λ l6. alloc1 ! (λ l7. alloc0 ! $
-        params1 ! $ pass1 ! (init ! 12 refl (typed-array ys is)) $ pass1 ! (init ! 10 refl arg_typed) $ pass0 ! $
-        assigns ! (of_opd ! (load ! (from ! (stop !)) (look ! 12 refl))) (from ! (stop !)) (init ! 8 refl (typed-array ys is)) $
+        params1 ! $ pass1 ! (init ! 12 refl (typed_array ys is)) $ pass1 ! (init ! 10 refl arg_typed) $ pass0 ! $
+        assigns ! (of_opd ! (load ! (from ! (stop !)) (look ! 12 refl))) (from ! (stop !)) (init ! 8 refl (typed_array ys is)) $
         assigns ! (addr ! (from ! (stop !))) (from ! (stop !)) (init ! 4 refl (tt, tt)) $
         assigns ! (agg ! (and_then ! (load ! (from ! (stop !)) (look ! 4 refl)) (and_then ! (lit ! tt) (no_more !)))) (from ! (stop !))
         (init ! 2 refl (tt, (tt, (record { fits = lit< tt }, tt)))) $
         rewrite ! 2 (λ (m : ℕ). ‵ (fat full_share (slice_ty (ty_ref erased mut (pointee (S.the_row).written))) l6 0 (slice_val (l3, 0) m)))
         (sym long) refl $
         -- the array is lent for a lifetime ν of the call
-        move ! (8 ∷ []) $ array-in ! ys l3 is $ lft_new ! tt (λ ν. move ! (1 ∷ []) $
+        move ! (8 ∷ []) $ array_in ! ys l3 is $ lft_new ! tt (λ ν. move ! (1 ∷ []) $
         use1 𝓛 (later (some (λ (δ : GName). ‵ (Slice l3 ν δ) ⊛ ‵ (flent (ν ∷ []) (Lent S.the_row (length ys) l3 0 δ)))))
         (lends_slice 𝓛 S.the_row (named 0) (ν ∷ []) ys l3 0 room) $ await ! tt $ pick ! (λ δ. split ! $
         -- the callee is called with it, and gives an answer and the last list
@@ -150,10 +150,10 @@ module _ {M : Type 1} {𝓤 : Ura M} (𝓛 : Logic 𝓤) (ys : List SavedSetting
         split ! $ lft_end ! tt $ move ! (0 ∷ 4 ∷ 2 ∷ []) $
         use3 𝓛 (later (‵ ((Arr (Memory.mem S.the_row) (length ys)).own_at zs l3 0))) (slice_back 𝓛 S.the_row (ν ∷ []) δ zs (length ys) l3 0) $
         await ! tt $ array_back ! zs l3 (length ys) long (λ zis.
-        assigns ! (of_opd ! (load ! (from ! (stop !)) (look ! 0 refl))) (from ! (stop !)) (init ! 3 refl (typed-array zs zis)) $
+        assigns ! (of_opd ! (load ! (from ! (stop !)) (look ! 0 refl))) (from ! (stop !)) (init ! 3 refl (typed_array zs zis)) $
         assigns ! (agg ! (and_then ! (load ! (from ! (stop !)) (look ! 9 refl)) (and_then ! (load ! (from ! (stop !)) (look ! 3 refl))
-        (no_more !)))) (from ! (stop !)) (init ! 16 refl (typed-after r zs (after_is r zs (answer-is r ris) zis))) $
+        (no_more !)))) (from ! (stop !)) (init ! 16 refl (typed_after r zs (after_is r zs (answer_is r ris) zis))) $
         returns ! (look ! 16 refl) $ forget ! 16 refl $ forget ! 14 refl $ forget ! 12 refl $ forget ! 0 refl $ forget ! 9 refl $ forget ! 7 refl $
         forget ! 5 refl $ forget ! 3 refl $ move ! (16 ∷ 17 ∷ []) $ free1 ! $ move ! (14 ∷ 15 ∷ []) $ free1 ! $ move ! (12 ∷ 13 ∷ []) $ free1 ! $
         move ! (0 ∷ 11 ∷ []) $ free1 ! $ move ! (8 ∷ 9 ∷ []) $ free1 ! $ move ! (6 ∷ 7 ∷ []) $ free1 ! $ move ! (4 ∷ 5 ∷ []) $ free1 ! $
-        move ! (2 ∷ 3 ∷ []) $ free1 ! $ free0 ! $ keep ! (2 ∷ 3 ∷ []) $ by ! (exits r zs said (answer-is r ris) zis)))))))))))))))))
+        move ! (2 ∷ 3 ∷ []) $ free1 ! $ free0 ! $ keep ! (2 ∷ 3 ∷ []) $ by ! (exits r zs said (answer_is r ris) zis)))))))))))))))))

@@ -3,14 +3,14 @@
 // In, out and refused as in crate `saved_lent`, whose functions are lent the list here: a caller that lends one needs a proof by hand. The list
 // after a call is part of what it gives.
 ghost use Rattle.std.specs.Prelude.{◌≡◌};
-ghost use Rattle.saved_setting.specs.SavedSettings.{heldReply, savedWanted, foundIn, savedAgain, Leaves};
+ghost use Rattle.saved_setting.specs.SavedSettings.{held_reply, saved_wanted, found_in, saved_again, Leaves};
 
 use saved_lent::{find, go_back, save};
 use saved_setting::{Held, PLACES, SavedList, SavedSetting, Wanted};
 
 // `save` for a list by value.
 pub fn save_held(held: [SavedSetting; PLACES], wanted: Wanted) -> SavedList
-    ensures { Leaves (savedWanted held wanted) result.answer result.list }
+    ensures { Leaves (saved_wanted held wanted) result.answer result.list }
 {
     let mut list = held;
     let answer = save(&mut list, wanted);
@@ -22,14 +22,14 @@ pub fn save_held(held: [SavedSetting; PLACES], wanted: Wanted) -> SavedList
 
 // `find` for a list by value. A list is in order exactly where version 0 is answered 30, not 37.
 pub fn find_held(held: [SavedSetting; PLACES], version: u16) -> Held
-    ensures { heldReply result ≡ foundIn held version }
+    ensures { held_reply result ≡ found_in held version }
 {
     find(&held, version)
 }
 
 // `go_back` for a list by value.
 pub fn back_held(held: [SavedSetting; PLACES], version: u16) -> SavedList
-    ensures { Leaves (savedAgain held version) result.answer result.list }
+    ensures { Leaves (saved_again held version) result.answer result.list }
 {
     let mut list = held;
     let answer = go_back(&mut list, version);

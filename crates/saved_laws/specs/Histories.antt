@@ -2,39 +2,39 @@
 use Rattle.std.specs.Prelude.{◌≡◌, cond, List, [], ◌∷◌, ℕ, ◌+◌}
 use Rattle.saved_setting.specs.declared.SavedSetting.{SavedSetting}
 use Rattle.saved_setting.specs.declared.Wanted.{Wanted}
-use Rattle.saved_setting.specs.SavedSettings.{Reply, yields, refused, isUnused, clipped, ListReply, savedWanted, foundIn, savedAgain}
+use Rattle.saved_setting.specs.SavedSettings.{Reply, yields, refused, is_unused, clipped, ListReply, saved_wanted, found_in, saved_again}
 
 -- the used places, which come first
-unfoldable pub usedOf : List SavedSetting → List SavedSetting
-usedOf [] = []
-usedOf (s ∷ list) = cond (isUnused s) [] (s ∷ usedOf list)
+unfoldable pub used_of : List SavedSetting → List SavedSetting
+used_of [] = []
+used_of (s ∷ list) = cond (is_unused s) [] (s ∷ used_of list)
 
 -- the calls that change a list
 pub data SettingCall : Type 0 where
   saving : Wanted → SettingCall
-  goingBack : ℕ → SettingCall
+  going_back : ℕ → SettingCall
 
 -- what a call says, and the list that it leaves
-abbrev pub calledOn : List SavedSetting → SettingCall → ListReply
-calledOn list (saving w) = savedWanted list w
-calledOn list (goingBack v) = savedAgain list v
+abbrev pub called_on : List SavedSetting → SettingCall → ListReply
+called_on list (saving w) = saved_wanted list w
+called_on list (going_back v) = saved_again list v
 
 -- the setting that a call is to save: what is wanted, clipped; or what is found, as it stands
 abbrev pub ToSave : List SavedSetting → SettingCall → SavedSetting → Type 0
 ToSave list (saving w) s = clipped w ≡ s
-ToSave list (goingBack v) s = foundIn list v ≡ yields s
+ToSave list (going_back v) s = found_in list v ≡ yields s
 
 -- the list after some calls, and how many of them saved
-abbrev pub afterCalls : List SavedSetting → List SettingCall → List SavedSetting
-afterCalls list [] = list
-afterCalls list (c ∷ calls) = afterCalls (calledOn list c).list calls
+abbrev pub after_calls : List SavedSetting → List SettingCall → List SavedSetting
+after_calls list [] = list
+after_calls list (c ∷ calls) = after_calls (called_on list c).list calls
 
 -- how many settings a reply has saved
-abbrev pub savesOf : Reply ℕ → ℕ
-savesOf (yields v) = 1
-savesOf (refused n) = 0
+abbrev pub saves_of : Reply ℕ → ℕ
+saves_of (yields v) = 1
+saves_of (refused n) = 0
 
 -- how many settings calls save
-abbrev pub laterSaves : List SavedSetting → List SettingCall → ℕ
-laterSaves list [] = 0
-laterSaves list (c ∷ calls) = savesOf (calledOn list c).reply + laterSaves (calledOn list c).list calls
+abbrev pub later_saves : List SavedSetting → List SettingCall → ℕ
+later_saves list [] = 0
+later_saves list (c ∷ calls) = saves_of (called_on list c).reply + later_saves (called_on list c).list calls

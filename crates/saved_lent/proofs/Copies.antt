@@ -1,10 +1,10 @@
 -- What the walks of `save`, `find` and `go_back` share: eight settings in memory, side by side, and the steps by which a walk reads and writes them.
 --     cell q s b p         the share q of the setting s at the place p
 --     Goods e              each of the eight has the struct's relation: its fields fit
---     eight-out, eight-in  a row of eight settings becomes eight cells, the last first, and back. A setting owns only facts, so what it owns is not
+--     eight_out, eight_in  a row of eight settings becomes eight cells, the last first, and back. A setting owns only facts, so what it owns is not
 -- carried
 --     place_of             the pointer of element k, as MIR computes it
---     goes_on              a test that fails, before a branch whose other arm is empty
+--     goes_on_lem              a test that fails, before a branch whose other arm is empty
 -- Assumes `Logic`.
 use mathlib.Core.Path.{◌≡◌, refl, sym, subst}
 use Prim.Native.Nat.{ℕ, ◌*◌, ◌^◌}
@@ -65,9 +65,9 @@ cells 𝓤 q e b o Γ = ‵ (cell q e.h b (place 8 o 7)) ∷ ‵ (cell q e.g b (
     ∷ Γ
 
 module _ {M : Type 1} {𝓤 : Ura M} {𝓛 : Logic 𝓤} {K : Type 0} {Γ : List (Item 𝓤)} {G : Goal 𝓤 𝓛.H} where
-  pub eight-out : K → (q : Share) (e : EightPlaces) (b o : ℕ) → (Goods e → Seq K 𝓛 (cells 𝓤 q e b o Γ) G)
+  pub eight_out : K → (q : Share) (e : EightPlaces) (b o : ℕ) → (Goods e → Seq K 𝓛 (cells 𝓤 q e b o Γ) G)
       → Seq K 𝓛 (‵ (row S.the_row q (places_of e) b o) ∷ Γ) G
-  eight-out t q e b o k =
+  eight_out t q e b o k =
       fsplit t $ one_out t q e.a b (place 8 o 0) (λ ga. move t (1 ∷ []) $ fsplit t $ one_out t q e.b b (place 8 o 1) (λ gb. move t (1 ∷ []) $
       fsplit t $ one_out t q e.c b (place 8 o 2) (λ gc. move t (1 ∷ []) $
       fsplit t $ one_out t q e.d b (place 8 o 3) (λ gd. move t (1 ∷ []) $ fsplit t $ one_out t q e.e b (place 8 o 4) (λ ge. move t (1 ∷ []) $
@@ -75,8 +75,8 @@ module _ {M : Type 1} {𝓤 : Ura M} {𝓛 : Logic 𝓤} {K : Type 0} {Γ : List
       fsplit t $ one_out t q e.g b (place 8 o 6) (λ gg. move t (1 ∷ []) $ fsplit t $ one_out t q e.h b (place 8 o 7) (λ gh. move t (1 ∷ []) $
       drop t $ k (ga, (gb, (gc, (gd, (ge, (gf, (gg, (gh, tt))))))))))))))))
 
-  pub eight-in : K → (q : Share) (e : EightPlaces) (b o : ℕ) → Goods e → Step K 𝓛 (‵ (row S.the_row q (places_of e) b o) ∷ Γ) G (cells 𝓤 q e b o Γ) G
-  eight-in t q e b o g = step (λ r. one_in t q e.h b (place 8 o 7) g.1.1.1.1.1.1.1.0 $ nothing t $ move t (1 ∷ 0 ∷ []) $ fjoin t $
+  pub eight_in : K → (q : Share) (e : EightPlaces) (b o : ℕ) → Goods e → Step K 𝓛 (‵ (row S.the_row q (places_of e) b o) ∷ Γ) G (cells 𝓤 q e b o Γ) G
+  eight_in t q e b o g = step (λ r. one_in t q e.h b (place 8 o 7) g.1.1.1.1.1.1.1.0 $ nothing t $ move t (1 ∷ 0 ∷ []) $ fjoin t $
       move t (1 ∷ []) $ one_in t q e.g b (place 8 o 6) g.1.1.1.1.1.1.0 $ fjoin t $ move t (1 ∷ []) $
       one_in t q e.f b (place 8 o 5) g.1.1.1.1.1.0 $ fjoin t $
       move t (1 ∷ []) $ one_in t q e.e b (place 8 o 4) g.1.1.1.1.0 $ fjoin t $ move t (1 ∷ []) $
@@ -92,9 +92,9 @@ module _ {M : Type 1} {𝓤 : Ura M} {𝓛 : Logic 𝓤} {K : Type 0} {Γ : List
   place_of t k small {x} {b} {o} p = subst (λ (n : ℕ). Rv K 𝓛 Γ E (op2 offset x (int w64 (k * 8))) (vptr b n)) (sym (place_is 8 o k))
       (bin t p (lit t small) tt)
 
-  pub goes_on : K → {C : Calls 𝓤 H} {Λ : Loops 𝓤 H} {q : Post 𝓤 H} {c : Operand} {a rest : Body} → Opd K 𝓛 Γ E c (vbool false)
+  pub goes_on_lem : K → {C : Calls 𝓤 H} {Λ : Loops 𝓤 H} {q : Post 𝓤 H} {c : Operand} {a rest : Body} → Opd K 𝓛 Γ E c (vbool false)
       → Step K 𝓛 Γ (runs C Λ E rest q) Γ (runs C Λ E (seq (cond c a skip) rest) q)
-  goes_on t p = step (λ s. first t $ branches t p (λ z. absurd z) (λ _. skips t $ record { prf = s.prf }))
+  goes_on_lem t p = step (λ s. first t $ branches t p (λ z. absurd z) (λ _. skips t $ record { prf = s.prf }))
 
 -- A list is eight settings, or it has another length.
 
@@ -113,6 +113,6 @@ by_length y n (a ∷ b ∷ c ∷ d ∷ e ∷ f ∷ g ∷ h ∷ i ∷ t) = n _ (�
 
 -- Truth values.
 
-pub not-not : (t : Bool) → T (not (not t)) → T t
-not-not true z = tt
-not-not false z = absurd z
+pub not_not : (t : Bool) → T (not (not t)) → T t
+not_not true z = tt
+not_not false z = absurd z

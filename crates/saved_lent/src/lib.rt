@@ -5,14 +5,14 @@
 // divisor or a frame rate other than 25 or 30, 30 version not held (0 never is), 31 no version number left.
 // Each function copies the eight places, leaves the work to its namesake of crate `saved_places`, and stores what that gives.
 ghost use Rattle.std.specs.Prelude.{◌≡◌};
-ghost use Rattle.saved_setting.specs.SavedSettings.{heldReply, savedWanted, foundIn, savedAgain, Leaves};
+ghost use Rattle.saved_setting.specs.SavedSettings.{held_reply, saved_wanted, found_in, saved_again, Leaves};
 
 use saved_places::{back_in, find_in, save_in};
 use saved_setting::{EightPlaces, Held, PLACES, Saved, SavedSetting, Wanted};
 
 // Saves a setting, fine and coarse exposure clipped: in the first unused place, or, where eight stand, in the place of the oldest.
 pub fn save(list: &mut [SavedSetting], wanted: Wanted) -> Saved
-    ensures { Leaves (savedWanted list.old wanted) result list.new }
+    ensures { Leaves (saved_wanted list.old wanted) result list.new }
 {
     if list.len() != PLACES {
         return Saved::Refused(refusal::NOT_SAVED_SETTINGS);
@@ -43,7 +43,7 @@ pub fn save(list: &mut [SavedSetting], wanted: Wanted) -> Saved
 
 // The setting under a version.
 pub fn find(list: &[SavedSetting], version: u16) -> Held
-    ensures { heldReply result ≡ foundIn list.now version }
+    ensures { held_reply result ≡ found_in list.now version }
 {
     if list.len() != PLACES {
         return Held::Refused(refusal::NOT_SAVED_SETTINGS);
@@ -65,7 +65,7 @@ pub fn find(list: &[SavedSetting], version: u16) -> Held
 
 // Saves a copy of the setting under a version, as it was saved then, under a new version.
 pub fn go_back(list: &mut [SavedSetting], version: u16) -> Saved
-    ensures { Leaves (savedAgain list.old version) result list.new }
+    ensures { Leaves (saved_again list.old version) result list.new }
 {
     if list.len() != PLACES {
         return Saved::Refused(refusal::NOT_SAVED_SETTINGS);

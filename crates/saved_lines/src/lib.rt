@@ -5,7 +5,7 @@
 // In: a list, a setting, or a name and a number, and a place of a lent buffer. Out: its text there, as far as there is room, and the place after it.
 // Nothing is refused. Crate `saved_text` reads such a text. Cost: linear in the text.
 ghost use Rattle.text.specs.Put.{Puts};
-ghost use Rattle.saved_lines.specs.SavedLines.{field, settingLine, placeLine, settingsText};
+ghost use Rattle.saved_lines.specs.SavedLines.{field, setting_line, place_line, settings_text};
 
 use saved_setting::SavedSetting;
 use text::{put, put_decimal};
@@ -15,7 +15,7 @@ const PLACES: usize = 8;
 
 // The text of a list.
 pub fn put_settings(list: [SavedSetting; 8], out: &mut [u8], at: usize) -> usize
-    ensures { Puts out.old at (settingsText list) result out.new }
+    ensures { Puts out.old at (settings_text list) result out.new }
 {
     let mut next = at;
     let mut i: usize = 0;
@@ -27,7 +27,7 @@ pub fn put_settings(list: [SavedSetting; 8], out: &mut [u8], at: usize) -> usize
 }
 
 fn put_place(setting: SavedSetting, out: &mut [u8], at: usize) -> usize
-    ensures { Puts out.old at (placeLine setting) result out.new }
+    ensures { Puts out.old at (place_line setting) result out.new }
 {
     let version = setting.version;
     if version == 0 {
@@ -38,7 +38,7 @@ fn put_place(setting: SavedSetting, out: &mut [u8], at: usize) -> usize
 
 // The line of a setting.
 pub fn put_setting(setting: SavedSetting, out: &mut [u8], at: usize) -> usize
-    ensures { Puts out.old at (settingLine setting) result out.new }
+    ensures { Puts out.old at (setting_line setting) result out.new }
 {
     let a = put_field(b"version ", setting.version, out, at);
     let b = put_field(b": fine ", setting.fine, out, a);

@@ -5,13 +5,13 @@
 // number left. Crate `saved_lent` has the same over a lent list. Cost: constant.
 ghost use Rattle.std.specs.Prelude.{◌≡◌};
 ghost use Rattle.saved_setting.specs.declared.Saved.TheVariants.{Refused};
-ghost use Rattle.saved_setting.specs.SavedSettings.{heldReply, savedNext, savedWanted, foundIn, savedAgain, places_of, Leaves};
+ghost use Rattle.saved_setting.specs.SavedSettings.{held_reply, saved_next, saved_wanted, found_in, saved_again, places_of, Leaves};
 
 use saved_setting::{EightPlaces, Held, Saved, SavedPlaces, SavedSetting, Wanted};
 
 // Saves what is wanted, clipped: in the first unused place, or in the place of the oldest, which is dropped.
 pub fn save_in(places: EightPlaces, wanted: Wanted) -> SavedPlaces
-    ensures { Leaves (savedWanted (places_of places) wanted) result.answer (places_of result.places) }
+    ensures { Leaves (saved_wanted (places_of places) wanted) result.answer (places_of result.places) }
 {
     if saved_search::in_order(places) {
         if saved_setting::is_allowed(wanted) {
@@ -24,7 +24,7 @@ pub fn save_in(places: EightPlaces, wanted: Wanted) -> SavedPlaces
 
 // The setting under a version.
 pub fn find_in(places: EightPlaces, version: u16) -> Held
-    ensures { heldReply result ≡ foundIn (places_of places) version }
+    ensures { held_reply result ≡ found_in (places_of places) version }
 {
     if saved_search::in_order(places) {
         if version == 0 {
@@ -37,7 +37,7 @@ pub fn find_in(places: EightPlaces, version: u16) -> Held
 
 // Saves a copy of the setting under a version, as it was saved then.
 pub fn back_in(places: EightPlaces, version: u16) -> SavedPlaces
-    ensures { Leaves (savedAgain (places_of places) version) result.answer (places_of result.places) }
+    ensures { Leaves (saved_again (places_of places) version) result.answer (places_of result.places) }
 {
     let found = find_in(places, version);
     match found {
@@ -51,7 +51,7 @@ const LAST_VERSION: u16 = 65535;
 
 // Saves a setting as it is, under the next version.
 fn save_next(places: EightPlaces, setting: SavedSetting) -> SavedPlaces
-    ensures { Leaves (savedNext (places_of places) setting) result.answer (places_of result.places) }
+    ensures { Leaves (saved_next (places_of places) setting) result.answer (places_of result.places) }
 {
     let newest = saved_search::newest_version(places);
     if newest == LAST_VERSION {

@@ -3,13 +3,13 @@
 // In: the eight places, in any order of versions. Out: whether they are in order, the newest version, the setting under a version, the places with a
 // setting more. Nothing is refused, but that a version is not held: 30. Cost: constant.
 ghost use Rattle.std.specs.Prelude.{◌≡◌, ◌&&◌, [], ◌∷◌};
-ghost use Rattle.saved_setting.specs.SavedSettings.{heldReply, mayFollow, versionsInOrder, laterVersion, newestVersion, heldHere, lookUp, savedInto, places_of};
+ghost use Rattle.saved_setting.specs.SavedSettings.{held_reply, may_follow, versions_in_order, later_version, newest_version, held_here, look_up, saved_into, places_of};
 
 use saved_setting::{EightPlaces, Held, SavedSetting};
 
 // Whether the used places come first, oldest first, with versions in unbroken sequence.
 pub fn in_order(places: EightPlaces) -> bool
-    ensures { result ≡ versionsInOrder (places_of places) }
+    ensures { result ≡ versions_in_order (places_of places) }
 {
     let rest = goes_on(places.g, places.h, true);
     let rest = goes_on(places.f, places.g, rest);
@@ -22,7 +22,7 @@ pub fn in_order(places: EightPlaces) -> bool
 
 // The version of the last used place; 0 where none is used.
 pub fn newest_version(places: EightPlaces) -> u16
-    ensures { result ≡ newestVersion (places_of places) }
+    ensures { result ≡ newest_version (places_of places) }
 {
     let later = later_version(places.h.version, 0);
     let later = later_version(places.g.version, later);
@@ -36,7 +36,7 @@ pub fn newest_version(places: EightPlaces) -> u16
 
 // The first setting that has the version.
 pub fn look_up(places: EightPlaces, version: u16) -> Held
-    ensures { heldReply result ≡ lookUp version (places_of places) }
+    ensures { held_reply result ≡ look_up version (places_of places) }
 {
     let rest = Held::Refused(refusal::VERSION_NOT_HELD);
     let rest = held_here(places.h, version, rest);
@@ -51,7 +51,7 @@ pub fn look_up(places: EightPlaces, version: u16) -> Held
 
 // A setting in the first unused place; where all are used, at the end, and the oldest is dropped.
 pub fn save_into(places: EightPlaces, setting: SavedSetting) -> EightPlaces
-    ensures { places_of result ≡ savedInto setting (places_of places) }
+    ensures { places_of result ≡ saved_into setting (places_of places) }
 {
     let p = places;
     if p.a.version == 0 {
@@ -83,7 +83,7 @@ pub fn save_into(places: EightPlaces, setting: SavedSetting) -> EightPlaces
 
 // Whether a place may stand after another, an unused one, or the next version after a used one, and the rest after it is in order.
 fn goes_on(before: SavedSetting, after: SavedSetting, rest: bool) -> bool
-    ensures { result ≡ (mayFollow before after && rest) }
+    ensures { result ≡ (may_follow before after && rest) }
 {
     if after.version == 0 {
         return rest;
@@ -99,7 +99,7 @@ fn goes_on(before: SavedSetting, after: SavedSetting, rest: bool) -> bool
 
 // The later one of two versions, the second of which stands after the first.
 fn later_version(version: u16, after: u16) -> u16
-    ensures { result ≡ laterVersion version after }
+    ensures { result ≡ later_version version after }
 {
     if after == 0 {
         return version;
@@ -109,7 +109,7 @@ fn later_version(version: u16, after: u16) -> u16
 
 // A setting, where it has the version; or what else there is.
 fn held_here(setting: SavedSetting, version: u16, rest: Held) -> Held
-    ensures { heldReply result ≡ heldHere setting version (heldReply rest) }
+    ensures { held_reply result ≡ held_here setting version (held_reply rest) }
 {
     if setting.version == version {
         return Held::Setting(setting);

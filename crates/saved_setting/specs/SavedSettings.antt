@@ -1,7 +1,7 @@
 -- Saved settings (02, A11): a list of eight places; saving, finding and going back.
 use Rattle.std.specs.Prelude.{◌≡◌, Bool, true, false, ◌&&◌, cond, List, [], ◌∷◌, ℕ, ◌+◌, eqb, leb, length, drop}
-use Rattle.refusal.specs.Refusal.{notSavedSettings, badSetting, versionNotHeld, noVersionLeft}
-use Rattle.exposure.specs.Exposure.{rate25, rate30, fineLimit, coarseLimit, divisorLimit, isGain}
+use Rattle.refusal.specs.Refusal.{not_saved_settings, bad_setting, version_not_held, no_version_left}
+use Rattle.exposure.specs.Exposure.{rate25, rate30, fine_limit, coarse_limit, divisor_limit, is_gain}
 use Rattle.saved_setting.specs.declared.SavedSetting.{SavedSetting}
 use Rattle.saved_setting.specs.declared.Wanted.{Wanted}
 use Rattle.saved_setting.specs.declared.Saved.{Saved}
@@ -18,20 +18,20 @@ pub data Reply (A : Type 0) : Type 0 where
   refused : ℕ → Reply A
 
 -- the paper's number and values of each case of the program's answers: of saving and going back, the new version
-abbrev pub savedReply : Saved → Reply ℕ
-savedReply (saved.Version v) = yields v
-savedReply (saved.Refused n) = refused n
+abbrev pub saved_reply : Saved → Reply ℕ
+saved_reply (saved.Version v) = yields v
+saved_reply (saved.Refused n) = refused n
 
 -- of finding, the setting: its version, fine, coarse, gain and clock divisor
-abbrev pub heldReply : Held → Reply SavedSetting
-heldReply (held.Setting s) = yields s
-heldReply (held.Refused n) = refused n
+abbrev pub held_reply : Held → Reply SavedSetting
+held_reply (held.Setting s) = yields s
+held_reply (held.Refused n) = refused n
 
 -- One setting.
 
 -- gain code, divisor and frame rate
-unfoldable pub isAllowed : Wanted → Bool
-isAllowed w = cond (isGain w.gain) (cond (leb w.divisor divisorLimit) (cond (eqb w.rate rate25) true (eqb w.rate rate30)) false) false
+unfoldable pub is_allowed : Wanted → Bool
+is_allowed w = cond (is_gain w.gain) (cond (leb w.divisor divisor_limit) (cond (eqb w.rate rate25) true (eqb w.rate rate30)) false) false
 
 -- a number clipped at a limit
 unfoldable pub lesser : ℕ → ℕ → ℕ
@@ -40,7 +40,7 @@ lesser n limit = cond (leb n limit) n limit
 -- what is saved of a wanted setting, its version still to be given
 unfoldable pub clipped : Wanted → SavedSetting
 clipped w =
-    record { version = 0; fine = lesser w.fine (fineLimit w.rate); coarse = lesser w.coarse coarseLimit; gain = w.gain; divisor = w.divisor }
+    record { version = 0; fine = lesser w.fine (fine_limit w.rate); coarse = lesser w.coarse coarse_limit; gain = w.gain; divisor = w.divisor }
 
 -- the same setting under another version
 unfoldable pub renumbered : SavedSetting → ℕ → SavedSetting
@@ -49,66 +49,66 @@ renumbered s v = record { version = v; fine = s.fine; coarse = s.coarse; gain = 
 -- The list: used places come first, oldest first, with versions in unbroken sequence.
 
 -- version 0 marks an unused place
-abbrev pub isUnused : SavedSetting → Bool
-isUnused s = eqb s.version 0
+abbrev pub is_unused : SavedSetting → Bool
+is_unused s = eqb s.version 0
 
 -- an unused place after any other; after a used one also the next version
-unfoldable pub mayFollow : SavedSetting → SavedSetting → Bool
-mayFollow before after = cond (isUnused after) true (cond (isUnused before) false (eqb (before.version + 1) after.version))
+unfoldable pub may_follow : SavedSetting → SavedSetting → Bool
+may_follow before after = cond (is_unused after) true (cond (is_unused before) false (eqb (before.version + 1) after.version))
 
 -- versions one after another, unused places last
-unfoldable pub versionsInOrder : List SavedSetting → Bool
-versionsInOrder [] = true
-versionsInOrder (s ∷ []) = true
-versionsInOrder (s ∷ t ∷ list) = mayFollow s t && versionsInOrder (t ∷ list)
+unfoldable pub versions_in_order : List SavedSetting → Bool
+versions_in_order [] = true
+versions_in_order (s ∷ []) = true
+versions_in_order (s ∷ t ∷ list) = may_follow s t && versions_in_order (t ∷ list)
 
 -- how many settings a list holds (02, A11)
-abbrev pub settingPlaces : ℕ
-settingPlaces = 8
+abbrev pub setting_places : ℕ
+setting_places = 8
 
 -- a list of saved settings; any other is 37
-abbrev pub isSavedList : List SavedSetting → Bool
-isSavedList list = eqb (length list) settingPlaces && versionsInOrder list
+abbrev pub is_saved_list : List SavedSetting → Bool
+is_saved_list list = eqb (length list) setting_places && versions_in_order list
 
 -- Versions.
 
 -- the greatest version
-abbrev pub lastVersion : ℕ
-lastVersion = 65535
+abbrev pub last_version : ℕ
+last_version = 65535
 
 -- the version of the last used place; 0 where none is used
-unfoldable pub laterVersion : ℕ → ℕ → ℕ
-laterVersion v after = cond (eqb after 0) v after
+unfoldable pub later_version : ℕ → ℕ → ℕ
+later_version v after = cond (eqb after 0) v after
 
 -- the newest version of a list, 0 of an empty one
-unfoldable pub newestVersion : List SavedSetting → ℕ
-newestVersion [] = 0
-newestVersion (s ∷ list) = laterVersion s.version (newestVersion list)
+unfoldable pub newest_version : List SavedSetting → ℕ
+newest_version [] = 0
+newest_version (s ∷ list) = later_version s.version (newest_version list)
 
 -- the setting that has a version
-unfoldable pub heldHere : SavedSetting → ℕ → Reply SavedSetting → Reply SavedSetting
-heldHere s v rest = cond (eqb s.version v) (yields s) rest
+unfoldable pub held_here : SavedSetting → ℕ → Reply SavedSetting → Reply SavedSetting
+held_here s v rest = cond (eqb s.version v) (yields s) rest
 
 -- the setting of a version
-unfoldable pub lookUp : ℕ → List SavedSetting → Reply SavedSetting
-lookUp v [] = refused versionNotHeld
-lookUp v (s ∷ list) = heldHere s v (lookUp v list)
+unfoldable pub look_up : ℕ → List SavedSetting → Reply SavedSetting
+look_up v [] = refused version_not_held
+look_up v (s ∷ list) = held_here s v (look_up v list)
 
 -- A setting is put into the list: where all places are used the oldest is dropped.
 
 -- no place is unused
-unfoldable pub allUsed : List SavedSetting → Bool
-allUsed [] = true
-allUsed (s ∷ list) = cond (isUnused s) false (allUsed list)
+unfoldable pub all_used : List SavedSetting → Bool
+all_used [] = true
+all_used (s ∷ list) = cond (is_unused s) false (all_used list)
 
 -- at the first unused place, or behind them all
 unfoldable pub put_in : SavedSetting → List SavedSetting → List SavedSetting
 put_in s [] = s ∷ []
-put_in s (t ∷ list) = cond (isUnused t) (s ∷ list) (t ∷ put_in s list)
+put_in s (t ∷ list) = cond (is_unused t) (s ∷ list) (t ∷ put_in s list)
 
 -- a list with a setting saved: in the first unused place, or the oldest is dropped
-unfoldable pub savedInto : SavedSetting → List SavedSetting → List SavedSetting
-savedInto s list = put_in s (cond (allUsed list) (drop 1 list) list)
+unfoldable pub saved_into : SavedSetting → List SavedSetting → List SavedSetting
+saved_into s list = put_in s (cond (all_used list) (drop 1 list) list)
 
 -- What the calls say, and the list that they leave.
 
@@ -118,32 +118,32 @@ pub record ListReply : Type 0 where
   pub list : List SavedSetting
 
 -- a refusal: the list stays
-abbrev pub keepingList : ℕ → List SavedSetting → ListReply
-keepingList n list = record { reply = refused n; list = list }
+abbrev pub keeping_list : ℕ → List SavedSetting → ListReply
+keeping_list n list = record { reply = refused n; list = list }
 
 -- a setting is saved as it is, under one more than the newest version held
-unfoldable pub savedNext : List SavedSetting → SavedSetting → ListReply
-savedNext list s =
-    cond (eqb (newestVersion list) lastVersion) (keepingList noVersionLeft list)
-    (record { reply = yields (newestVersion list + 1); list = savedInto (renumbered s (newestVersion list + 1)) list })
+unfoldable pub saved_next : List SavedSetting → SavedSetting → ListReply
+saved_next list s =
+    cond (eqb (newest_version list) last_version) (keeping_list no_version_left list)
+    (record { reply = yields (newest_version list + 1); list = saved_into (renumbered s (newest_version list + 1)) list })
 
 -- save: 37, 29, 31, or the new version
-unfoldable pub savedWanted : List SavedSetting → Wanted → ListReply
-savedWanted list w =
-    cond (isSavedList list) (cond (isAllowed w) (savedNext list (clipped w)) (keepingList badSetting list)) (keepingList notSavedSettings list)
+unfoldable pub saved_wanted : List SavedSetting → Wanted → ListReply
+saved_wanted list w =
+    cond (is_saved_list list) (cond (is_allowed w) (saved_next list (clipped w)) (keeping_list bad_setting list)) (keeping_list not_saved_settings list)
 
 -- find: 37, 30, or the setting
-unfoldable pub foundIn : List SavedSetting → ℕ → Reply SavedSetting
-foundIn list v = cond (isSavedList list) (cond (eqb v 0) (refused versionNotHeld) (lookUp v list)) (refused notSavedSettings)
+unfoldable pub found_in : List SavedSetting → ℕ → Reply SavedSetting
+found_in list v = cond (is_saved_list list) (cond (eqb v 0) (refused version_not_held) (look_up v list)) (refused not_saved_settings)
 
 -- going back: what is found is saved as it stands
-abbrev pub savedFound : List SavedSetting → Reply SavedSetting → ListReply
-savedFound list (yields s) = savedNext list s
-savedFound list (refused n) = keepingList n list
+abbrev pub saved_found : List SavedSetting → Reply SavedSetting → ListReply
+saved_found list (yields s) = saved_next list s
+saved_found list (refused n) = keeping_list n list
 
 -- go back: 37, 30, 31, or the new version
-unfoldable pub savedAgain : List SavedSetting → ℕ → ListReply
-savedAgain list v = savedFound list (foundIn list v)
+unfoldable pub saved_again : List SavedSetting → ℕ → ListReply
+saved_again list v = saved_found list (found_in list v)
 
 -- Contracts.
 
@@ -153,5 +153,5 @@ places_of p = p.a ∷ p.b ∷ p.c ∷ p.d ∷ p.e ∷ p.f ∷ p.g ∷ p.h ∷ []
 
 -- a call that answers, and leaves the list, as said
 pub record Leaves (said : ListReply) (answer : Saved) (after : List SavedSetting) : Type 0 where
-  pub answers : savedReply answer ≡ said.reply
+  pub answers : saved_reply answer ≡ said.reply
   pub leaves : after ≡ said.list

@@ -3,7 +3,7 @@
 // In: a setting that is wanted, or one that is saved. Out: whether it may be saved, what is saved of it, the same under another version. Nothing is
 // refused: crate `saved_places` answers what is asked of eight places, `saved_lent` of a lent list. Cost: constant.
 ghost use Rattle.std.specs.Prelude.{◌≡◌};
-ghost use Rattle.saved_setting.specs.SavedSettings.{isAllowed, lesser, clipped, renumbered};
+ghost use Rattle.saved_setting.specs.SavedSettings.{is_allowed, lesser, clipped, renumbered};
 
 // The places of a list.
 pub const PLACES: usize = 8;
@@ -71,7 +71,7 @@ pub struct SavedPlaces {
 
 // Whether a setting may be saved: its gain code, divisor and frame rate.
 pub fn is_allowed(wanted: Wanted) -> bool
-    ensures { result ≡ isAllowed wanted }
+    ensures { result ≡ is_allowed wanted }
 {
     if exposure::is_gain(wanted.gain as u32) {
         if wanted.divisor <= exposure::DIVISOR_LIMIT {

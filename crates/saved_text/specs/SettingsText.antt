@@ -2,8 +2,8 @@
 use Rattle.std.specs.Prelude.{Bool, true, false, ◌&&◌, cond, List, [], ◌∷◌, ℕ, ◌+◌, ◌-◌, ◌*◌, ◌%◌, eqb, ltb, leb, drop, set, replicate}
 use Rattle.text.specs.Text.{newline}
 use Rattle.saved_setting.specs.declared.SavedSetting.{SavedSetting}
-use Rattle.saved_setting.specs.SavedSettings.{isSavedList}
-use Rattle.saved_lines.specs.SavedLines.{unused, settingsText}
+use Rattle.saved_setting.specs.SavedSettings.{is_saved_list}
+use Rattle.saved_lines.specs.SavedLines.{unused, settings_text}
 use Rattle.saved_text.specs.declared.FieldName.{FieldName}
 use Rattle.saved_text.specs.declared.FieldName.TheVariants.{Version, Fine, Coarse, Gain, Divisor}
 use Rattle.saved_text.specs.declared.Fields.{Fields}
@@ -21,8 +21,8 @@ abbrev pub TextGathered : Type 0
 TextGathered = LinesGathered
 
 -- at a line's start
-abbrev pub noFields : Fields
-noFields = record { version = 0; fine = 0; coarse = 0; gain = 0; divisor = 0; name = Version }
+abbrev pub no_fields : Fields
+no_fields = record { version = 0; fine = 0; coarse = 0; gain = 0; divisor = 0; name = Version }
 
 -- the number of a name
 abbrev pub number_of : FieldName → Fields → ℕ
@@ -41,93 +41,93 @@ with_number Gain f n = record { version = f.version; fine = f.fine; coarse = f.c
 with_number Divisor f n = record { version = f.version; fine = f.fine; coarse = f.coarse; gain = f.gain; divisor = n; name = Divisor }
 
 -- a number with a digit more; it starts again from 0 after 65,535
-abbrev pub withOneMore : ℕ → ℕ → ℕ
-withOneMore n c = (10 * n + (c - 0x30)) % 65536
+abbrev pub with_one_more : ℕ → ℕ → ℕ
+with_one_more n c = (10 * n + (c - 0x30)) % 65536
 
 -- a digit more of the number that is being read
-abbrev pub withDigit : Fields → ℕ → Fields
-withDigit f c = with_number f.name f (withOneMore (number_of f.name f) c)
+abbrev pub with_digit : Fields → ℕ → Fields
+with_digit f c = with_number f.name f (with_one_more (number_of f.name f) c)
 
 -- the numbers of a line in the order of its text; the divisor is the last
-abbrev pub nextName : FieldName → FieldName
-nextName Version = Fine
-nextName Fine = Coarse
-nextName Coarse = Gain
-nextName Gain = Divisor
-nextName Divisor = Divisor
+abbrev pub next_name : FieldName → FieldName
+next_name Version = Fine
+next_name Fine = Coarse
+next_name Coarse = Gain
+next_name Gain = Divisor
+next_name Divisor = Divisor
 
 -- the next number is read
-abbrev pub withField : Fields → Fields
-withField f = record { version = f.version; fine = f.fine; coarse = f.coarse; gain = f.gain; divisor = f.divisor; name = nextName f.name }
+abbrev pub with_field : Fields → Fields
+with_field f = record { version = f.version; fine = f.fine; coarse = f.coarse; gain = f.gain; divisor = f.divisor; name = next_name f.name }
 
 -- a digit makes the number that is being read longer, a colon or a comma ends it
-unfoldable pub fieldsAfter : Fields → ℕ → Fields
-fieldsAfter f c =
-    cond (leb 0x30 c) (cond (leb c 0x39) (withDigit f c) (cond (eqb c 0x3A) (withField f) f)) (cond (eqb c 0x2C) (withField f) f)
+unfoldable pub fields_after : Fields → ℕ → Fields
+fields_after f c =
+    cond (leb 0x30 c) (cond (leb c 0x39) (with_digit f c) (cond (eqb c 0x3A) (with_field f) f)) (cond (eqb c 0x2C) (with_field f) f)
 
 -- the setting of a line's five numbers
-abbrev pub settingOfFields : Fields → SavedSetting
-settingOfFields f = record { version = f.version; fine = f.fine; coarse = f.coarse; gain = f.gain % 256; divisor = f.divisor % 256 }
+abbrev pub setting_of_fields : Fields → SavedSetting
+setting_of_fields f = record { version = f.version; fine = f.fine; coarse = f.coarse; gain = f.gain % 256; divisor = f.divisor % 256 }
 
 -- a line's setting in its place; lines past the eighth have none
-abbrev pub withSettingLine : LinesGathered → LinesGathered
-withSettingLine g =
+abbrev pub with_setting_line : LinesGathered → LinesGathered
+with_setting_line g =
     cond (ltb g.count 8)
-    (record { list = set g.list g.count (settingOfFields g.fields); count = g.count + 1; fields = noFields })
-    (record { list = g.list; count = g.count; fields = noFields })
+    (record { list = set g.list g.count (setting_of_fields g.fields); count = g.count + 1; fields = no_fields })
+    (record { list = g.list; count = g.count; fields = no_fields })
 
 -- after one character more
-unfoldable pub gatheredAfter : LinesGathered → ℕ → LinesGathered
-gatheredAfter g c =
-    cond (eqb c newline) (withSettingLine g) (record { list = g.list; count = g.count; fields = fieldsAfter g.fields c })
+unfoldable pub gathered_after : LinesGathered → ℕ → LinesGathered
+gathered_after g c =
+    cond (eqb c newline) (with_setting_line g) (record { list = g.list; count = g.count; fields = fields_after g.fields c })
 
 -- after a text
-abbrev pub gatheredOver : LinesGathered → List ℕ → LinesGathered
-gatheredOver g [] = g
-gatheredOver g (c ∷ text) = gatheredOver (gatheredAfter g c) text
+abbrev pub gathered_over : LinesGathered → List ℕ → LinesGathered
+gathered_over g [] = g
+gathered_over g (c ∷ text) = gathered_over (gathered_after g c) text
 
 -- before a text
-abbrev pub nothingGathered : LinesGathered
-nothingGathered = record { list = replicate 8 unused; count = 0; fields = noFields }
+abbrev pub nothing_gathered : LinesGathered
+nothing_gathered = record { list = replicate 8 unused; count = 0; fields = no_fields }
 
 -- the list of a text's numbers; its end ends its last line
-unfoldable pub numbersOf : List ℕ → List SavedSetting
-numbersOf text = (withSettingLine (gatheredOver nothingGathered text)).list
+unfoldable pub numbers_of : List ℕ → List SavedSetting
+numbers_of text = (with_setting_line (gathered_over nothing_gathered text)).list
 
 -- Read.
 
 -- what some editors put before a newline
-abbrev pub carriageReturn : ℕ
-carriageReturn = 0x0D
+abbrev pub carriage_return : ℕ
+carriage_return = 0x0D
 
 -- how many characters of another text a character is: a carriage return none
-unfoldable pub coverOf : ℕ → ℕ
-coverOf c = cond (eqb c carriageReturn) 0 1
+unfoldable pub cover_of : ℕ → ℕ
+cover_of c = cond (eqb c carriage_return) 0 1
 
 -- a text that starts with a character
-abbrev pub startsBy : ℕ → List ℕ → Bool
-startsBy c [] = false
-startsBy c (d ∷ text) = eqb d c
+abbrev pub starts_by : ℕ → List ℕ → Bool
+starts_by c [] = false
+starts_by c (d ∷ text) = eqb d c
 
 -- it may stand where the other goes on so
-unfoldable pub mayStand : ℕ → List ℕ → Bool
-mayStand c whole = cond (eqb c carriageReturn) true (startsBy c whole)
+unfoldable pub may_stand : ℕ → List ℕ → Bool
+may_stand c whole = cond (eqb c carriage_return) true (starts_by c whole)
 
 -- what may be left of the other at the text's end: nothing, or its last newline
-abbrev pub atMostNewline : List ℕ → Bool
-atMostNewline [] = true
-atMostNewline (c ∷ []) = eqb c newline
-atMostNewline (c ∷ d ∷ whole) = false
+abbrev pub at_most_newline : List ℕ → Bool
+at_most_newline [] = true
+at_most_newline (c ∷ []) = eqb c newline
+at_most_newline (c ∷ d ∷ whole) = false
 
 -- a text is another: its carriage returns don't count, and the other's last newline may be missing
-abbrev pub isLike : List ℕ → List ℕ → Bool
-isLike [] whole = atMostNewline whole
-isLike (c ∷ text) whole = mayStand c whole && isLike text (drop (coverOf c) whole)
+abbrev pub is_like : List ℕ → List ℕ → Bool
+is_like [] whole = at_most_newline whole
+is_like (c ∷ text) whole = may_stand c whole && is_like text (drop (cover_of c) whole)
 
 -- a text is a list's: that of the list of its numbers, and that list is ordered as it should be
-unfoldable pub isSettingsText : List ℕ → Bool
-isSettingsText text = isLike text (settingsText (numbersOf text)) && isSavedList (numbersOf text)
+unfoldable pub is_settings_text : List ℕ → Bool
+is_settings_text text = is_like text (settings_text (numbers_of text)) && is_saved_list (numbers_of text)
 
 -- the list that a text holds, and whether it is such a text
 abbrev pub restored : List ℕ → Restored
-restored text = record { list = numbersOf text; valid = isSettingsText text }
+restored text = record { list = numbers_of text; valid = is_settings_text text }

@@ -4,9 +4,9 @@
 // refused with 37 NOT_SAVED_SETTINGS: the numbers of its lines are gathered, and their list's text is compared with it. So a number that is too
 // large or has a digit too many, a ninth line, a line for an unused place and a wrong word are refused by one test. Cost: linear in the text.
 ghost use Rattle.std.specs.Prelude.{◌≡◌, ◌≤◌, drop};
-ghost use Rattle.saved_setting.specs.SavedSettings.{isSavedList};
-ghost use Rattle.saved_lines.specs.SavedLines.{settingsText};
-ghost use Rattle.saved_text.specs.SettingsText.{withOneMore, withDigit, nextName, withField, fieldsAfter, settingOfFields, noFields, withSettingLine, nothingGathered, gatheredAfter, numbersOf, coverOf, mayStand, atMostNewline, isLike, restored};
+ghost use Rattle.saved_setting.specs.SavedSettings.{is_saved_list};
+ghost use Rattle.saved_lines.specs.SavedLines.{settings_text};
+ghost use Rattle.saved_text.specs.SettingsText.{with_one_more, with_digit, next_name, with_field, fields_after, setting_of_fields, no_fields, with_setting_line, nothing_gathered, gathered_after, numbers_of, cover_of, may_stand, at_most_newline, is_like, restored};
 
 use saved_held::find_held;
 use saved_lines::put_settings;
@@ -68,7 +68,7 @@ pub fn read(text: &[u8]) -> Restored
 
 // Whether a list is ordered as it should be. None holds version 0, and one that is not ordered so is refused first.
 fn is_saved_list(list: [SavedSetting; 8]) -> bool
-    ensures { result ≡ isSavedList list }
+    ensures { result ≡ is_saved_list list }
 {
     let held = find_held(list, 0);
     match held {
@@ -79,7 +79,7 @@ fn is_saved_list(list: [SavedSetting; 8]) -> bool
 
 // Whether a text is a list's.
 fn is_settings_text(text: &[u8], list: [SavedSetting; 8]) -> bool
-    ensures { result ≡ isLike text.now (settingsText list) }
+    ensures { result ≡ is_like text.now (settings_text list) }
 {
     let mut whole = [0u8; LONGEST];
     let n = put_settings(list, &mut whole, 0);
@@ -88,7 +88,7 @@ fn is_settings_text(text: &[u8], list: [SavedSetting; 8]) -> bool
 
 // The list of a text's numbers.
 fn gather(text: &[u8]) -> [SavedSetting; 8]
-    ensures { result ≡ numbersOf text.now }
+    ensures { result ≡ numbers_of text.now }
 {
     let mut gathered = nothing_gathered();
     let mut i: usize = 0;
@@ -101,7 +101,7 @@ fn gather(text: &[u8]) -> [SavedSetting; 8]
 }
 
 fn gather_next(gathered: LinesGathered, c: u8) -> LinesGathered
-    ensures { result ≡ gatheredAfter gathered c }
+    ensures { result ≡ gathered_after gathered c }
 {
     if c == b'\n' {
         return end_line(gathered);
@@ -116,7 +116,7 @@ fn gather_next(gathered: LinesGathered, c: u8) -> LinesGathered
 }
 
 fn nothing_gathered() -> LinesGathered
-    ensures { result ≡ nothingGathered }
+    ensures { result ≡ nothing_gathered }
 {
     let unused = SavedSetting {
         version: 0,
@@ -134,7 +134,7 @@ fn nothing_gathered() -> LinesGathered
 
 // With the open line's setting in its place; lines past the eighth have none.
 fn end_line(gathered: LinesGathered) -> LinesGathered
-    ensures { result ≡ withSettingLine gathered }
+    ensures { result ≡ with_setting_line gathered }
 {
     let mut list = gathered.list;
     let count = gathered.count;
@@ -154,7 +154,7 @@ fn end_line(gathered: LinesGathered) -> LinesGathered
 }
 
 fn no_fields() -> Fields
-    ensures { result ≡ noFields }
+    ensures { result ≡ no_fields }
 {
     Fields {
         version: 0,
@@ -167,7 +167,7 @@ fn no_fields() -> Fields
 }
 
 fn setting_of(fields: Fields) -> SavedSetting
-    ensures { result ≡ settingOfFields fields }
+    ensures { result ≡ setting_of_fields fields }
 {
     SavedSetting {
         version: fields.version,
@@ -180,7 +180,7 @@ fn setting_of(fields: Fields) -> SavedSetting
 
 // The numbers after a character more: a digit makes the one that is being read longer, a colon or a comma ends it.
 fn read_field(fields: Fields, c: u8) -> Fields
-    ensures { result ≡ fieldsAfter fields c }
+    ensures { result ≡ fields_after fields c }
 {
     if b'0' <= c {
         if c <= b'9' {
@@ -199,7 +199,7 @@ fn read_field(fields: Fields, c: u8) -> Fields
 
 fn with_digit(fields: Fields, c: u8) -> Fields
     requires { 0x30 ≤ c }
-    ensures { result ≡ withDigit fields c }
+    ensures { result ≡ with_digit fields c }
 {
     let name = fields.name;
     match name {
@@ -264,14 +264,14 @@ fn with_digit(fields: Fields, c: u8) -> Fields
 // A number with a digit more; it starts again from 0 after 65,535.
 fn with_one_more(n: u16, c: u8) -> u16
     requires { 0x30 ≤ c }
-    ensures { result ≡ withOneMore n c }
+    ensures { result ≡ with_one_more n c }
 {
     let number = (10 * n as u32 + (c - b'0') as u32) % 65536;
     number as u16
 }
 
 fn with_field(fields: Fields) -> Fields
-    ensures { result ≡ withField fields }
+    ensures { result ≡ with_field fields }
 {
     let name = fields.name;
     let next = next_name(name);
@@ -287,7 +287,7 @@ fn with_field(fields: Fields) -> Fields
 
 // The number after one in a line; the divisor is the last.
 fn next_name(name: FieldName) -> FieldName
-    ensures { result ≡ nextName name }
+    ensures { result ≡ next_name name }
 {
     match name {
         FieldName::Version => FieldName::Fine,
@@ -300,7 +300,7 @@ fn next_name(name: FieldName) -> FieldName
 
 // Whether a text is another: its carriage returns don't count, and the other's last newline may be missing.
 fn is_like(text: &[u8], whole: &[u8]) -> bool
-    ensures { result ≡ isLike text.now whole.now }
+    ensures { result ≡ is_like text.now whole.now }
 {
     let mut at: usize = 0;
     let mut i: usize = 0;
@@ -318,7 +318,7 @@ fn is_like(text: &[u8], whole: &[u8]) -> bool
 
 // Whether nothing is left of the other text from a place on, or its last newline.
 fn at_most_newline(whole: &[u8], at: usize) -> bool
-    ensures { result ≡ atMostNewline (drop at whole.now) }
+    ensures { result ≡ at_most_newline (drop at whole.now) }
 {
     if whole.len() <= at {
         return true;
@@ -331,7 +331,7 @@ fn at_most_newline(whole: &[u8], at: usize) -> bool
 
 // How many characters of the other text a character is.
 fn covers(c: u8) -> usize
-    ensures { (result ≡ coverOf c) × (result ≤ 1) }
+    ensures { (result ≡ cover_of c) × (result ≤ 1) }
 {
     if c == b'\r' {
         return 0;
@@ -341,7 +341,7 @@ fn covers(c: u8) -> usize
 
 // Whether a character may stand where the other text is at a place.
 fn stands(c: u8, whole: &[u8], at: usize) -> bool
-    ensures { result ≡ mayStand c (drop at whole.now) }
+    ensures { result ≡ may_stand c (drop at whole.now) }
 {
     if c == b'\r' {
         return true;

@@ -2,7 +2,7 @@
 //
 // In: a setting that was wanted, a refusal, or a saved setting. Out: its text, put into a lent buffer as far as there is room. Cost: constant.
 ghost use Rattle.text.specs.Put.{Puts};
-ghost use Rattle.settings_replies.specs.SettingsWords.{fineNote, coarseNote, notes, settingsRefusal, refusedRequest, writes_of};
+ghost use Rattle.settings_replies.specs.SettingsWords.{fine_note, coarse_note, notes, settings_refusal, refused_request, writes_of};
 
 use saved_lines::put_field;
 use saved_setting::{SavedSetting, Wanted};
@@ -18,7 +18,7 @@ pub fn put_notes(wanted: Wanted, out: &mut [u8], at: usize) -> usize
 }
 
 fn put_fine_note(wanted: Wanted, out: &mut [u8], at: usize) -> usize
-    ensures { Puts out.old at (fineNote wanted) result out.new }
+    ensures { Puts out.old at (fine_note wanted) result out.new }
 {
     let fine = wanted.fine;
     let rate = wanted.rate;
@@ -34,7 +34,7 @@ fn put_fine_note(wanted: Wanted, out: &mut [u8], at: usize) -> usize
 }
 
 fn put_coarse_note(wanted: Wanted, out: &mut [u8], at: usize) -> usize
-    ensures { Puts out.old at (coarseNote wanted) result out.new }
+    ensures { Puts out.old at (coarse_note wanted) result out.new }
 {
     let coarse = wanted.coarse;
     if exposure::COARSE_LIMIT < coarse {
@@ -48,14 +48,14 @@ fn put_coarse_note(wanted: Wanted, out: &mut [u8], at: usize) -> usize
 
 // A refusal, with its number and in words.
 pub fn put_refusal(number: u8, out: &mut [u8], at: usize) -> usize
-    ensures { Puts out.old at (refusedRequest number) result out.new }
+    ensures { Puts out.old at (refused_request number) result out.new }
 {
     let next = put_field(b"REFUSED ", number as u16, out, at);
     put_words(number, out, next)
 }
 
 fn put_words(number: u8, out: &mut [u8], at: usize) -> usize
-    ensures { Puts out.old at (settingsRefusal number) result out.new }
+    ensures { Puts out.old at (settings_refusal number) result out.new }
 {
     if number == refusal::BAD_SETTING {
         return put(

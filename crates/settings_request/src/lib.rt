@@ -4,9 +4,9 @@
 // front of a lent buffer as far as there is room; whether the list is another; and whether the request is refused. A text that is no list's is
 // refused with 37, and nothing is put for it; for the others see crate saved_lent. What was clipped on saving is said. Cost: linear in the text.
 ghost use Rattle.text.specs.Put.{Puts};
-ghost use Rattle.saved_setting.specs.SavedSettings.{foundIn};
+ghost use Rattle.saved_setting.specs.SavedSettings.{found_in};
 ghost use Rattle.settings_request.specs.declared.Request.TheVariants.{Save, Find, Back, ListAll, Messages};
-ghost use Rattle.settings_request.specs.SettingsRequest.{refusingRequest, heldLine, listedText, requestEffect, Responds, service, Serves};
+ghost use Rattle.settings_request.specs.SettingsRequest.{refusing_request, held_line, listed_text, request_effect, Responds, service, Serves};
 
 use saved_held::{back_held, find_held, save_held};
 use saved_lines::{put_setting, put_settings};
@@ -70,7 +70,7 @@ pub fn serve(request: Request, text: &[u8], file: &mut [u8], out: &mut [u8]) -> 
 
 // What a request does to a list.
 fn respond(request: Request, list: [SavedSetting; 8], out: &mut [u8]) -> Response
-    ensures { Responds (requestEffect request list) out.old out.new result }
+    ensures { Responds (request_effect request list) out.old out.new result }
 {
     match request {
         Request::Save(wanted) => respond_save(wanted, list, out),
@@ -82,7 +82,7 @@ fn respond(request: Request, list: [SavedSetting; 8], out: &mut [u8]) -> Respons
 }
 
 fn respond_save(wanted: Wanted, list: [SavedSetting; 8], out: &mut [u8]) -> Response
-    ensures { Responds (requestEffect (Save wanted) list) out.old out.new result }
+    ensures { Responds (request_effect (Save wanted) list) out.old out.new result }
 {
     let kept = save_held(list, wanted);
     let after = kept.list;
@@ -103,7 +103,7 @@ fn respond_save(wanted: Wanted, list: [SavedSetting; 8], out: &mut [u8]) -> Resp
 }
 
 fn respond_back(version: u16, list: [SavedSetting; 8], out: &mut [u8]) -> Response
-    ensures { Responds (requestEffect (Back version) list) out.old out.new result }
+    ensures { Responds (request_effect (Back version) list) out.old out.new result }
 {
     let kept = back_held(list, version);
     let after = kept.list;
@@ -123,7 +123,7 @@ fn respond_back(version: u16, list: [SavedSetting; 8], out: &mut [u8]) -> Respon
 }
 
 fn respond_find(version: u16, list: [SavedSetting; 8], out: &mut [u8]) -> Response
-    ensures { Responds (requestEffect (Find version) list) out.old out.new result }
+    ensures { Responds (request_effect (Find version) list) out.old out.new result }
 {
     let held = find_held(list, version);
     match held {
@@ -141,7 +141,7 @@ fn respond_find(version: u16, list: [SavedSetting; 8], out: &mut [u8]) -> Respon
 }
 
 fn respond_messages(version: u16, list: [SavedSetting; 8], out: &mut [u8]) -> Response
-    ensures { Responds (requestEffect (Messages version) list) out.old out.new result }
+    ensures { Responds (request_effect (Messages version) list) out.old out.new result }
 {
     let held = find_held(list, version);
     match held {
@@ -159,7 +159,7 @@ fn respond_messages(version: u16, list: [SavedSetting; 8], out: &mut [u8]) -> Re
 }
 
 fn respond_list(list: [SavedSetting; 8], out: &mut [u8]) -> Response
-    ensures { Responds (requestEffect ListAll list) out.old out.new result }
+    ensures { Responds (request_effect ListAll list) out.old out.new result }
 {
     let said = put_list(list, out);
     Response {
@@ -171,7 +171,7 @@ fn respond_list(list: [SavedSetting; 8], out: &mut [u8]) -> Response
 }
 
 fn put_list(list: [SavedSetting; 8], out: &mut [u8]) -> usize
-    ensures { Puts out.old 0 (listedText list) result out.new }
+    ensures { Puts out.old 0 (listed_text list) result out.new }
 {
     let oldest = list[0];
     let version = oldest.version;
@@ -183,7 +183,7 @@ fn put_list(list: [SavedSetting; 8], out: &mut [u8]) -> usize
 
 // The line of the setting under a version, or why there is none.
 fn put_held(version: u16, list: [SavedSetting; 8], out: &mut [u8]) -> usize
-    ensures { Puts out.old 0 (heldLine (foundIn list version)) result out.new }
+    ensures { Puts out.old 0 (held_line (found_in list version)) result out.new }
 {
     let held = find_held(list, version);
     match held {
@@ -193,7 +193,7 @@ fn put_held(version: u16, list: [SavedSetting; 8], out: &mut [u8]) -> usize
 }
 
 fn refuse(number: u8, list: [SavedSetting; 8], out: &mut [u8]) -> Response
-    ensures { Responds (refusingRequest list number) out.old out.new result }
+    ensures { Responds (refusing_request list number) out.old out.new result }
 {
     let said = put_refusal(number, out, 0);
     Response {

@@ -16,32 +16,32 @@ unfoldable pub up_to : ℕ → ℕ → ℕ
 up_to limit n = cond (leb n limit) n limit
 
 -- fine, coarse, gain, divisor and rate; gain, divisor or rate that is no number up to 255 counts as 255, which no setting may have
-abbrev pub wantedIn : NumberWords → Wanted
-wantedIn w =
+abbrev pub wanted_in : NumberWords → Wanted
+wanted_in w =
     record { fine = up_to 65535 w.first; coarse = up_to 65535 w.second; gain = up_to 255 w.third; divisor = up_to 255 w.fourth; rate = up_to 255 w.fifth }
 
 -- five words, of which fine and coarse are numbers
-unfoldable pub areFive : NumberWords → Bool
-areFive w = eqb w.count 5 && (is_number w.first && is_number w.second)
+unfoldable pub are_five : NumberWords → Bool
+are_five w = eqb w.count 5 && (is_number w.first && is_number w.second)
 
 -- one number is typed
-unfoldable pub isOne : NumberWords → Bool
-isOne w = eqb w.count 1 && is_number w.first
+unfoldable pub is_one : NumberWords → Bool
+is_one w = eqb w.count 1 && is_number w.first
 
 -- what is asked for, and whether the words are understood
 abbrev pub version : NumberWords → ℕ
 version w = up_to 65535 w.first
 
 -- a request of the other verbs
-unfoldable pub otherAsked : List ℕ → NumberWords → TypedRequest
-otherAsked verb w =
-    cond (same verb (ascii "messages")) (record { request = Messages (version w); understood = isOne w })
+unfoldable pub other_asked : List ℕ → NumberWords → TypedRequest
+other_asked verb w =
+    cond (same verb (ascii "messages")) (record { request = Messages (version w); understood = is_one w })
     (cond (same verb (ascii "list")) (record { request = ListAll; understood = eqb w.count 0 })
     (record { request = ListAll; understood = false }))
 
 -- the request of a verb and its numbers
-unfoldable pub askedIn : List ℕ → NumberWords → TypedRequest
-askedIn verb w =
-    cond (same verb (ascii "save")) (record { request = Save (wantedIn w); understood = areFive w })
-    (cond (same verb (ascii "find")) (record { request = Find (version w); understood = isOne w })
-    (cond (same verb (ascii "back")) (record { request = Back (version w); understood = isOne w }) (otherAsked verb w)))
+unfoldable pub asked_in : List ℕ → NumberWords → TypedRequest
+asked_in verb w =
+    cond (same verb (ascii "save")) (record { request = Save (wanted_in w); understood = are_five w })
+    (cond (same verb (ascii "find")) (record { request = Find (version w); understood = is_one w })
+    (cond (same verb (ascii "back")) (record { request = Back (version w); understood = is_one w }) (other_asked verb w)))

@@ -5,7 +5,7 @@
 // In: the verb, and how many words follow it, with the numbers that they are; a word that is no number up to 65,535 stands for 65,536 (crate
 // setting). Out: the request, and whether the words are understood. Cost: linear in the verb.
 ghost use Rattle.std.specs.Prelude.{◌≡◌};
-ghost use Rattle.settings_typed.specs.RequestWords.{up_to, wantedIn, areFive, isOne, otherAsked, askedIn};
+ghost use Rattle.settings_typed.specs.RequestWords.{up_to, wanted_in, are_five, is_one, other_asked, asked_in};
 
 use command_word::is;
 use saved_setting::Wanted;
@@ -34,7 +34,7 @@ pub struct TypedRequest {
 
 // The request of a verb and its numbers.
 pub fn read(verb: &[u8], words: NumberWords) -> TypedRequest
-    ensures { result ≡ askedIn verb.now words }
+    ensures { result ≡ asked_in verb.now words }
 {
     if is(verb, b"save") {
         let request = Request::Save(wanted(words));
@@ -62,7 +62,7 @@ pub fn read(verb: &[u8], words: NumberWords) -> TypedRequest
 
 // The request of a verb that saves and finds nothing.
 fn read_other(verb: &[u8], words: NumberWords) -> TypedRequest
-    ensures { result ≡ otherAsked verb.now words }
+    ensures { result ≡ other_asked verb.now words }
 {
     if is(verb, b"messages") {
         let request = Request::Messages(short(words.first));
@@ -85,7 +85,7 @@ fn read_other(verb: &[u8], words: NumberWords) -> TypedRequest
 }
 
 fn wanted(words: NumberWords) -> Wanted
-    ensures { result ≡ wantedIn words }
+    ensures { result ≡ wanted_in words }
 {
     Wanted {
         fine: short(words.first),
@@ -116,7 +116,7 @@ fn byte(n: u32) -> u8
 
 // Whether five words follow the verb, the first two of them numbers.
 fn are_five(words: NumberWords) -> bool
-    ensures { result ≡ areFive words }
+    ensures { result ≡ are_five words }
 {
     if words.count != 5 {
         return false;
@@ -129,7 +129,7 @@ fn are_five(words: NumberWords) -> bool
 
 // Whether one number follows the verb.
 fn is_one(words: NumberWords) -> bool
-    ensures { result ≡ isOne words }
+    ensures { result ≡ is_one words }
 {
     if words.count != 1 {
         return false;

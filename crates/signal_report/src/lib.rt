@@ -3,7 +3,7 @@
 // In: the signal's counts, a lent buffer and a place in it. Out: the lines there, and the place after them. A count that is 0 has no line. Nothing is
 // refused: where the buffer ends before the lines do, the rest is left out. Cost: linear in the lines.
 ghost use Rattle.text.specs.Put.{Puts};
-ghost use Rattle.signal_report.specs.SignalReport.{countLine, numberedLine, refusedCount, refusedCodes, brokenLines, refusedEnds, refusedLines, bitLine, low_bits, high_bits, repairedLines, rangeWords, linesNoun, periodLine, periodLines, signalLines};
+ghost use Rattle.signal_report.specs.SignalReport.{count_line, numbered_line, refused_count, refused_codes, broken_lines, refused_ends, refused_lines, bit_line, low_bits, high_bits, repaired_lines, range_words, lines_noun, period_line, period_lines, signal_lines};
 
 use signal_tally::Signal;
 use spacing::Spacing;
@@ -11,7 +11,7 @@ use text::{put, put_decimal};
 
 // Puts the lines on a signal at a place.
 pub fn put_signal(signal: Signal, out: &mut [u8], at: usize) -> usize
-    ensures { Puts out.old at (signalLines signal) result out.new }
+    ensures { Puts out.old at (signal_lines signal) result out.new }
 {
     let at = put_refused(signal, out, at);
     let at = put_repaired(signal, out, at);
@@ -21,7 +21,7 @@ pub fn put_signal(signal: Signal, out: &mut [u8], at: usize) -> usize
 
 // Puts a line with a count, where that is not 0: the words before it, the count, the words after it.
 pub fn put_count(before: &[u8], count: u64, after: &[u8], out: &mut [u8], at: usize) -> usize
-    ensures { Puts out.old at (countLine before.now count after.now) result out.new }
+    ensures { Puts out.old at (count_line before.now count after.now) result out.new }
 {
     if count == 0 {
         return at;
@@ -33,7 +33,7 @@ pub fn put_count(before: &[u8], count: u64, after: &[u8], out: &mut [u8], at: us
 
 // Refused marks, by number: by their codes, lines, and ends of lines.
 fn put_refused(signal: Signal, out: &mut [u8], at: usize) -> usize
-    ensures { Puts out.old at (refusedLines signal.refused) result out.new }
+    ensures { Puts out.old at (refused_lines signal.refused) result out.new }
 {
     let at = put_refused_codes(signal, out, at);
     let at = put_broken_lines(signal, out, at);
@@ -41,7 +41,7 @@ fn put_refused(signal: Signal, out: &mut [u8], at: usize) -> usize
 }
 
 fn put_refused_codes(signal: Signal, out: &mut [u8], at: usize) -> usize
-    ensures { Puts out.old at (refusedCodes signal.refused) result out.new }
+    ensures { Puts out.old at (refused_codes signal.refused) result out.new }
 {
     let refused = signal.refused;
     let at = put_refused_count(1, refused[1], b", damaged code\n", out, at);
@@ -49,7 +49,7 @@ fn put_refused_codes(signal: Signal, out: &mut [u8], at: usize) -> usize
 }
 
 fn put_broken_lines(signal: Signal, out: &mut [u8], at: usize) -> usize
-    ensures { Puts out.old at (brokenLines signal.refused) result out.new }
+    ensures { Puts out.old at (broken_lines signal.refused) result out.new }
 {
     let refused = signal.refused;
     let at = put_refused_count(3, refused[3], b", unfinished line\n", out, at);
@@ -60,7 +60,7 @@ fn put_broken_lines(signal: Signal, out: &mut [u8], at: usize) -> usize
 }
 
 fn put_refused_ends(signal: Signal, out: &mut [u8], at: usize) -> usize
-    ensures { Puts out.old at (refusedEnds signal.refused) result out.new }
+    ensures { Puts out.old at (refused_ends signal.refused) result out.new }
 {
     let refused = signal.refused;
     let at = put_refused_count(8, refused[8], b", end of line without a line\n", out, at);
@@ -68,7 +68,7 @@ fn put_refused_ends(signal: Signal, out: &mut [u8], at: usize) -> usize
 }
 
 fn put_refused_count(number: u64, count: u64, after: &[u8], out: &mut [u8], at: usize) -> usize
-    ensures { Puts out.old at (refusedCount number count after.now) result out.new }
+    ensures { Puts out.old at (refused_count number count after.now) result out.new }
 {
     put_numbered(b"refused: ", number, count, after, out, at)
 }
@@ -82,7 +82,7 @@ fn put_numbered(
     out: &mut [u8],
     at: usize,
 ) -> usize
-    ensures { Puts out.old at (numberedLine before.now number count after.now) result out.new }
+    ensures { Puts out.old at (numbered_line before.now number count after.now) result out.new }
 {
     if count == 0 {
         return at;
@@ -96,7 +96,7 @@ fn put_numbered(
 
 // Repaired codes, by bit: the depot's tally of bad wires.
 fn put_repaired(signal: Signal, out: &mut [u8], at: usize) -> usize
-    ensures { Puts out.old at (repairedLines signal.repaired) result out.new }
+    ensures { Puts out.old at (repaired_lines signal.repaired) result out.new }
 {
     let at = put_low_bits(signal, out, at);
     put_high_bits(signal, out, at)
@@ -123,14 +123,14 @@ fn put_high_bits(signal: Signal, out: &mut [u8], at: usize) -> usize
 }
 
 fn put_bit(bit: u64, count: u64, out: &mut [u8], at: usize) -> usize
-    ensures { Puts out.old at (bitLine bit count) result out.new }
+    ensures { Puts out.old at (bit_line bit count) result out.new }
 {
     put_numbered(b"repaired: bit ", bit, count, b"\n", out, at)
 }
 
 // The periods of the lines: a drifting clock shows in the last line.
 fn put_periods(spacing: Spacing, out: &mut [u8], at: usize) -> usize
-    ensures { Puts out.old at (periodLines spacing) result out.new }
+    ensures { Puts out.old at (period_lines spacing) result out.new }
 {
     let at = put_period(spacing.thirty, b" at 30 frames a second\n", out, at);
     let at = put_period(spacing.twentyfive, b" at 25 frames a second\n", out, at);
@@ -145,7 +145,7 @@ fn put_periods(spacing: Spacing, out: &mut [u8], at: usize) -> usize
 
 // The lines at a period that has a name.
 fn put_period(count: u64, rate: &[u8], out: &mut [u8], at: usize) -> usize
-    ensures { Puts out.old at (periodLine count rate.now) result out.new }
+    ensures { Puts out.old at (period_line count rate.now) result out.new }
 {
     if count == 0 {
         return at;
@@ -158,7 +158,7 @@ fn put_period(count: u64, rate: &[u8], out: &mut [u8], at: usize) -> usize
 
 // What is counted: one line, or lines.
 fn put_noun(count: u64, out: &mut [u8], at: usize) -> usize
-    ensures { Puts out.old at (linesNoun count) result out.new }
+    ensures { Puts out.old at (lines_noun count) result out.new }
 {
     if count == 1 {
         return put(b" line", out, at);
@@ -168,7 +168,7 @@ fn put_noun(count: u64, out: &mut [u8], at: usize) -> usize
 
 // The least and the greatest of the other periods.
 fn put_range(spacing: Spacing, out: &mut [u8], at: usize) -> usize
-    ensures { Puts out.old at (rangeWords spacing) result out.new }
+    ensures { Puts out.old at (range_words spacing) result out.new }
 {
     let at = put_decimal(spacing.least as u64, out, at);
     let at = put(b" to ", out, at);

@@ -1,19 +1,19 @@
 -- A capture's answers at once: their lines, their refusals, the repairs of their codes and their periods.
 use Rattle.std.specs.Prelude.{◌≡◌, Bool, true, false, cond, List, [], ◌∷◌, ◌++◌, ℕ, ◌<◌, min, max, eqb, get_or}
 use Rattle.std.proofs.Math.Option.{Option, none, some}
-use Rattle.refusal.specs.Refusal.{endWithoutLine}
+use Rattle.refusal.specs.Refusal.{end_without_line}
 use Rattle.counts.specs.Counts.{counting}
 use Rattle.line_code.specs.declared.Repair.{Repair}
 use Rattle.line_code.specs.declared.Repair.TheVariants.{Clean, Bit}
 use Rattle.period.specs.declared.Nibbles.{Nibbles}
-use Rattle.period.specs.Period.{rateOf}
+use Rattle.period.specs.Period.{rate_of}
 use Rattle.stream.specs.declared.Answer.{Answer}
 use Rattle.stream.specs.declared.Answer.TheVariants.{Nothing, Line, Gap, Refused}
-use Rattle.stream.specs.Answers.{isLineAnswer}
+use Rattle.stream.specs.Answers.{is_line_answer}
 use Rattle.signal_tally.specs.declared.First.{First}
 use Rattle.signal_tally.specs.declared.First.TheVariants.{Unseen, InsideLine, Other}
 use Rattle.signal_tally.specs.declared.Signal.{Signal}
-use Rattle.signal_tally.specs.Signal.{refusals, codeWidth, freshSignal, take_of, isCut, closeOf}
+use Rattle.signal_tally.specs.Signal.{refusals, code_width, fresh_signal, take_of, is_cut, close_of}
 
 -- the signal after some answers; and of a whole capture, by its answers and finish's
 abbrev pub signalled : Signal → List Answer → Signal
@@ -21,27 +21,27 @@ signalled s [] = s
 signalled s (a ∷ w) = signalled (take_of s a) w
 
 -- the signal of a whole capture
-abbrev pub captureSignal : List Answer → Answer → Signal
-captureSignal w last = closeOf (signalled freshSignal w) last
+abbrev pub capture_signal : List Answer → Answer → Signal
+capture_signal w last = close_of (signalled fresh_signal w) last
 
 -- the answers of a whole capture, but for finish's where the end cut off a line or a gap
-abbrev pub answersOf : List Answer → Answer → List Answer
-answersOf w last = w ++ cond (isCut last) [] (last ∷ [])
+abbrev pub answers_of : List Answer → Answer → List Answer
+answers_of w last = w ++ cond (is_cut last) [] (last ∷ [])
 
 -- the same without a first mark that is an end of line
-abbrev pub fromStart : List Answer → List Answer
-fromStart [] = []
-fromStart (Nothing ∷ w) = fromStart w
-fromStart (Line f ∷ w) = Line f ∷ w
-fromStart (Gap g ∷ w) = Gap g ∷ w
-fromStart (Refused n ∷ w) = cond (eqb n endWithoutLine) w (Refused n ∷ w)
+abbrev pub from_start : List Answer → List Answer
+from_start [] = []
+from_start (Nothing ∷ w) = from_start w
+from_start (Line f ∷ w) = Line f ∷ w
+from_start (Gap g ∷ w) = Gap g ∷ w
+from_start (Refused n ∷ w) = cond (eqb n end_without_line) w (Refused n ∷ w)
 
 -- a refused mark with this number
-abbrev pub isRefusal : ℕ → Answer → Bool
-isRefusal n Nothing = false
-isRefusal n (Line f) = false
-isRefusal n (Gap g) = false
-isRefusal n (Refused m) = eqb m n
+abbrev pub is_refusal : ℕ → Answer → Bool
+is_refusal n Nothing = false
+is_refusal n (Line f) = false
+is_refusal n (Gap g) = false
+is_refusal n (Refused m) = eqb m n
 
 -- what was repaired of each line's two codes
 abbrev pub repairs : List Answer → List Repair
@@ -52,9 +52,9 @@ repairs (Gap g ∷ w) = repairs w
 repairs (Refused n ∷ w) = repairs w
 
 -- a repair of this bit
-abbrev pub isBitNumbered : ℕ → Repair → Bool
-isBitNumbered i Clean = false
-isBitNumbered i (Bit j) = eqb j i
+abbrev pub is_bit_numbered : ℕ → Repair → Bool
+is_bit_numbered i Clean = false
+is_bit_numbered i (Bit j) = eqb j i
 
 -- the periods that gaps carry: 0 is none
 abbrev pub carried : Nibbles → List Nibbles
@@ -69,38 +69,38 @@ periods (Gap g ∷ w) = carried g.period ++ periods w
 periods (Refused n ∷ w) = periods w
 
 -- a period that is named so many frames a second; one that is not named
-abbrev pub isRate : ℕ → Option ℕ → Bool
-isRate r none = false
-isRate r (some q) = eqb q r
+abbrev pub is_rate : ℕ → Option ℕ → Bool
+is_rate r none = false
+is_rate r (some q) = eqb q r
 
 -- a period of this many frames a second
 abbrev pub is_at : ℕ → Nibbles → Bool
-is_at r n = isRate r (rateOf n)
+is_at r n = is_rate r (rate_of n)
 
 -- a rate without a name
-abbrev pub isUnnamed : Option ℕ → Bool
-isUnnamed none = true
-isUnnamed (some q) = false
+abbrev pub is_unnamed : Option ℕ → Bool
+is_unnamed none = true
+is_unnamed (some q) = false
 
 -- a period without a name
-abbrev pub isOther : Nibbles → Bool
-isOther n = isUnnamed (rateOf n)
+abbrev pub is_other : Nibbles → Bool
+is_other n = is_unnamed (rate_of n)
 
 -- those that are not named, in nibbles
-abbrev pub otherPeriods : List Nibbles → List ℕ
-otherPeriods [] = []
-otherPeriods (n ∷ ns) = cond (isOther n) (n.0 ∷ otherPeriods ns) (otherPeriods ns)
+abbrev pub other_periods : List Nibbles → List ℕ
+other_periods [] = []
+other_periods (n ∷ ns) = cond (is_other n) (n.0 ∷ other_periods ns) (other_periods ns)
 
 -- the least and the greatest of some numbers, 0 where there are none
-abbrev pub leastOf : List ℕ → ℕ
-leastOf [] = 0
-leastOf (n ∷ []) = n
-leastOf (n ∷ m ∷ ns) = min n (leastOf (m ∷ ns))
+abbrev pub least_of : List ℕ → ℕ
+least_of [] = 0
+least_of (n ∷ []) = n
+least_of (n ∷ m ∷ ns) = min n (least_of (m ∷ ns))
 
 -- the greatest of numbers
-abbrev pub greatestOf : List ℕ → ℕ
-greatestOf [] = 0
-greatestOf (n ∷ ns) = max n (greatestOf ns)
+abbrev pub greatest_of : List ℕ → ℕ
+greatest_of [] = 0
+greatest_of (n ∷ ns) = max n (greatest_of ns)
 
 -- the first mark's answer says whether the capture began inside a line: it is an end of line without a line
 abbrev pub first_of : List Answer → First
@@ -108,16 +108,16 @@ first_of [] = Unseen
 first_of (Nothing ∷ w) = first_of w
 first_of (Line f ∷ w) = Other
 first_of (Gap g ∷ w) = Other
-first_of (Refused n ∷ w) = cond (eqb n endWithoutLine) InsideLine Other
+first_of (Refused n ∷ w) = cond (eqb n end_without_line) InsideLine Other
 
 -- The counts of a capture, and the least and the greatest of its other periods, by its answers and finish's, all at once.
 pub record CountsAnswers (w : List Answer) (last : Answer) : Type 0 where
-  pub first : (captureSignal w last).first ≡ first_of (w ++ (last ∷ []))
-  pub lines : (captureSignal w last).lines ≡ counting isLineAnswer 0 (answersOf w last)
-  pub refused : (n : ℕ) → n < refusals → get_or (captureSignal w last).refused n 0 ≡ counting (isRefusal n) 0 (fromStart (answersOf w last))
-  pub repaired : (i : ℕ) → i < codeWidth → get_or (captureSignal w last).repaired i 0 ≡ counting (isBitNumbered i) 0 (repairs (answersOf w last))
-  pub thirty : (captureSignal w last).spacing.thirty ≡ counting (is_at 30) 0 (periods (answersOf w last))
-  pub twentyfive : (captureSignal w last).spacing.twentyfive ≡ counting (is_at 25) 0 (periods (answersOf w last))
-  pub others : (captureSignal w last).spacing.others ≡ counting isOther 0 (periods (answersOf w last))
-  pub least : (captureSignal w last).spacing.least ≡ leastOf (otherPeriods (periods (answersOf w last)))
-  pub greatest : (captureSignal w last).spacing.greatest ≡ greatestOf (otherPeriods (periods (answersOf w last)))
+  pub first : (capture_signal w last).first ≡ first_of (w ++ (last ∷ []))
+  pub lines : (capture_signal w last).lines ≡ counting is_line_answer 0 (answers_of w last)
+  pub refused : (n : ℕ) → n < refusals → get_or (capture_signal w last).refused n 0 ≡ counting (is_refusal n) 0 (from_start (answers_of w last))
+  pub repaired : (i : ℕ) → i < code_width → get_or (capture_signal w last).repaired i 0 ≡ counting (is_bit_numbered i) 0 (repairs (answers_of w last))
+  pub thirty : (capture_signal w last).spacing.thirty ≡ counting (is_at 30) 0 (periods (answers_of w last))
+  pub twentyfive : (capture_signal w last).spacing.twentyfive ≡ counting (is_at 25) 0 (periods (answers_of w last))
+  pub others : (capture_signal w last).spacing.others ≡ counting is_other 0 (periods (answers_of w last))
+  pub least : (capture_signal w last).spacing.least ≡ least_of (other_periods (periods (answers_of w last)))
+  pub greatest : (capture_signal w last).spacing.greatest ≡ greatest_of (other_periods (periods (answers_of w last)))

@@ -4,8 +4,8 @@
 // that is an end of line (8), a line that the end cut off (3) and a gap that it cut short (9) are not counted as refused. Nothing is refused by
 // these calls; an answer that is no mark's changes nothing. Cost: constant.
 ghost use Rattle.std.specs.Prelude.{◌≡◌};
-ghost use Rattle.counts.specs.Counts.{oneMoreAt};
-ghost use Rattle.signal_tally.specs.Signal.{freshSignal, seen, isStart, withFirst, withRepair, lineSeen, gapSeen, refusalSeen, take_of, isCut, closeOf};
+ghost use Rattle.counts.specs.Counts.{one_more_at};
+ghost use Rattle.signal_tally.specs.Signal.{fresh_signal, seen, is_start, with_first, with_repair, line_seen, gap_seen, refusal_seen, take_of, is_cut, close_of};
 
 use counts::one_more;
 use line_code::Repair;
@@ -40,7 +40,7 @@ pub const BITS: usize = 8;
 impl Signal {
     // Nothing seen.
     pub fn new() -> Signal
-        ensures { result ≡ freshSignal }
+        ensures { result ≡ fresh_signal }
     {
         let first = First::Unseen;
         let spacing = Spacing::new();
@@ -72,7 +72,7 @@ impl Signal {
 
     // Takes finish's answer.
     pub fn close(self, last: Answer) -> Signal
-        ensures { result ≡ closeOf self last }
+        ensures { result ≡ close_of self last }
     {
         if is_cut(last) {
             let first = self.first;
@@ -83,7 +83,7 @@ impl Signal {
 
     // A line: it is counted, and the repair of each of its codes.
     fn line(self, facts: LineFacts) -> Signal
-        ensures { result ≡ lineSeen self facts }
+        ensures { result ≡ line_seen self facts }
     {
         let first = self.first;
         let first = first.seen();
@@ -106,7 +106,7 @@ impl Signal {
 
     // A good gap: the period of its line.
     fn gap(self, facts: GapFacts) -> Signal
-        ensures { result ≡ gapSeen self facts }
+        ensures { result ≡ gap_seen self facts }
     {
         let first = self.first;
         let first = first.seen();
@@ -126,7 +126,7 @@ impl Signal {
 
     // A refused mark.
     fn refusal(self, number: u8) -> Signal
-        ensures { result ≡ refusalSeen self number }
+        ensures { result ≡ refusal_seen self number }
     {
         let first = self.first;
         let first = first.seen();
@@ -145,7 +145,7 @@ impl Signal {
 
     // Whether a refused mark is the first, and tells that the capture began inside a line.
     fn is_start(self, number: u8) -> bool
-        ensures { result ≡ isStart self.first number }
+        ensures { result ≡ is_start self.first number }
     {
         let first = self.first;
         match first {
@@ -156,7 +156,7 @@ impl Signal {
     }
 
     fn with_first(self, first: First) -> Signal
-        ensures { result ≡ withFirst self first }
+        ensures { result ≡ with_first self first }
     {
         let refused = self.refused;
         let repaired = self.repaired;
@@ -186,7 +186,7 @@ impl First {
 
 // Whether finish's answer tells only that the capture's end cut off a line or a gap.
 fn is_cut(last: Answer) -> bool
-    ensures { result ≡ isCut last }
+    ensures { result ≡ is_cut last }
 {
     match last {
         Answer::Nothing => false,
@@ -202,7 +202,7 @@ fn is_cut(last: Answer) -> bool
 }
 
 fn with_refusal(refused: [u64; REFUSALS], number: u8) -> [u64; REFUSALS]
-    ensures { result ≡ oneMoreAt refused number }
+    ensures { result ≡ one_more_at refused number }
 {
     let mut counts = refused;
     counts::add_at(&mut counts, number as usize);
@@ -210,7 +210,7 @@ fn with_refusal(refused: [u64; REFUSALS], number: u8) -> [u64; REFUSALS]
 }
 
 fn with_repair(repaired: [u64; BITS], repair: Repair) -> [u64; BITS]
-    ensures { result ≡ withRepair repaired repair }
+    ensures { result ≡ with_repair repaired repair }
 {
     match repair {
         Repair::Clean => repaired,
@@ -219,7 +219,7 @@ fn with_repair(repaired: [u64; BITS], repair: Repair) -> [u64; BITS]
 }
 
 fn with_bit(repaired: [u64; BITS], bit: u8) -> [u64; BITS]
-    ensures { result ≡ oneMoreAt repaired bit }
+    ensures { result ≡ one_more_at repaired bit }
 {
     let mut counts = repaired;
     counts::add_at(&mut counts, bit as usize);

@@ -4,11 +4,11 @@ use Rattle.std.specs.Prelude.{◌≡◌, refl, Bool, true, false, ◌||◌, List
 use Rattle.std.proofs.Common.{◌∙◌, ap, ap₂, sym, subst, true≢false, append_assoc, not-suc-le-zero, le_of_suc-le-suc, arith, length-append, take_at}
 use Rattle.std.proofs.lemmas.List.{length-map, replicate-append-replicate}
 use Rattle.bits.specs.Every.{and_left, and_right}
-use Rattle.refusal.specs.Refusal.{brokenLine}
+use Rattle.refusal.specs.Refusal.{broken_line}
 use Rattle.counts.specs.CountsLaws.{some}
 use Rattle.line_code.specs.declared.Kind.{Kind}
 use Rattle.line_code.specs.declared.Kind.TheVariants.{BL, BK, VL, SOF, EOF}
-use Rattle.line_code.specs.LineCode.{kindNumber}
+use Rattle.line_code.specs.LineCode.{kind_number}
 use Rattle.line_number.specs.LineNumber.{greatest}
 use Rattle.profile.specs.declared.Profile.TheVariants.{VV5404}
 use Rattle.stream.specs.Written.{Sent}
@@ -18,73 +18,73 @@ use Rattle.frame_judge.specs.declared.Judge.TheVariants.{Waiting, Due}
 use Rattle.frame_judge.specs.declared.Ruling.{Ruling}
 use Rattle.frame_judge.specs.declared.Ruling.TheVariants as ruling
 use Rattle.frame_judge.specs.declared.Judged.{Judged}
-use Rattle.frame_layout.specs.FrameLayout.{lastPlace, standsAt, due_at}
-use Rattle.frame_layout.specs.PlaceLaws.{sof-only-first}
-use Rattle.frame_judge.specs.Frame.{passes, gives, refuses, judgeOf}
-use Rattle.frame_judge.specs.Calls.{Line, line, called, after, rulings, is_complete, isLaidOutAt, laidFrom, IsFrame}
-use Rattle.frame_laws.specs.CompleteFrames.{toComplete}
-use Rattle.frame_laws.specs.FrameLaws.{after-append, rulings-append, frame-complete, Effect, wrongKind, wrongNumber, waits, breaks, strays, starts, restarts, goes, ends, effect, passes-after}
-use Rattle.frame_laws.specs.SentFrames.{judgedLine, allLines, AllFrames, no_frames, and-frame}
-use Rattle.slip_laws.specs.SlipFrames.{allComplete, atSlip, lost}
-use Rattle.slip_laws.specs.LeftHanded.{brokenOne}
+use Rattle.frame_layout.specs.FrameLayout.{last_place, stands_at, due_at}
+use Rattle.frame_layout.specs.PlaceLaws.{sof_only_first}
+use Rattle.frame_judge.specs.Frame.{passes, gives, refuses, judge_of}
+use Rattle.frame_judge.specs.Calls.{Line, line, called, after, rulings, is_complete, is_laid_out_at, laid_from, IsFrame}
+use Rattle.frame_laws.specs.CompleteFrames.{to_complete}
+use Rattle.frame_laws.specs.FrameLaws.{after_append, rulings_append, frame_complete_lem, Effect, wrong_kind, wrong_number, waits, breaks, strays, starts, restarts, goes, ends, effect, passes_after}
+use Rattle.frame_laws.specs.SentFrames.{judged_line, all_lines, AllFrames, no_frames, and_frame}
+use Rattle.slip_laws.specs.SlipFrames.{all_complete, at_slip, lost}
+use Rattle.slip_laws.specs.LeftHanded.{broken_one}
 
 -- the judge in j answers vs to these lines, and is then in k
 record Judging (j : Judge) (ls : List Line) (vs : List Ruling) (k : Judge) : Type 0 where
   told : rulings VV5404 j ls ≡ vs
   leads : after VV5404 j ls ≡ k
 
-judging-then : {j k i : Judge} {ls ms : List Line} {vs ws : List Ruling} → Judging j ls vs k → Judging k ms ws i → Judging j (ls ++ ms) (vs ++ ws) i
-judging-then {j} {k} {i} {ls} {ms} p q =
+judging_then : {j k i : Judge} {ls ms : List Line} {vs ws : List Ruling} → Judging j ls vs k → Judging k ms ws i → Judging j (ls ++ ms) (vs ++ ws) i
+judging_then {j} {k} {i} {ls} {ms} p q =
     record {
-      told = rulings-append VV5404 j ls ms ∙ ap₂ ◌++◌ p.told (ap (λ (x : Judge). rulings VV5404 x ms) p.leads ∙ q.told);
-      leads = after-append VV5404 j ls ms ∙ ap (λ (x : Judge). after VV5404 x ms) p.leads ∙ q.leads;
+      told = rulings_append VV5404 j ls ms ∙ ap₂ ◌++◌ p.told (ap (λ (x : Judge). rulings VV5404 x ms) p.leads ∙ q.told);
+      leads = after_append VV5404 j ls ms ∙ ap (λ (x : Judge). after VV5404 x ms) p.leads ∙ q.leads;
     }
 
-judging-one : {j k : Judge} {l : Line} {v : Ruling} → called VV5404 j l ≡ gives k v → Judging j (l ∷ []) (v ∷ []) k
-judging-one e = record { told = ap (λ (r : Judged). r.ruling ∷ []) e; leads = ap (λ (r : Judged). r.judge) e }
+judging_one : {j k : Judge} {l : Line} {v : Ruling} → called VV5404 j l ≡ gives k v → Judging j (l ∷ []) (v ∷ []) k
+judging_one e = record { told = ap (λ (r : Judged). r.ruling ∷ []) e; leads = ap (λ (r : Judged). r.judge) e }
 
-handed-append : (ss ts : List Sent) → map judgedLine (ss ++ ts) ≡ map judgedLine ss ++ map judgedLine ts
-handed-append [] ts = refl
-handed-append (s ∷ ss) ts = ap (λ (ls : List Line). judgedLine s ∷ ls) (handed-append ss ts)
+handed_append : (ss ts : List Sent) → map judged_line (ss ++ ts) ≡ map judged_line ss ++ map judged_line ts
+handed_append [] ts = refl
+handed_append (s ∷ ss) ts = ap (λ (ls : List Line). judged_line s ∷ ls) (handed_append ss ts)
 
 -- Whole frames.
 
-frames-complete : {fs : List (List Sent)} → AllFrames VV5404 fs → Judging Waiting (map judgedLine (allLines fs)) (allComplete fs) Waiting
-frames-complete no_frames = record { told = refl; leads = refl }
-frames-complete (and-frame b {ss = f} {fs = fs} h more) =
-    let c = frame-complete VV5404 b (map judgedLine f) h in
-    let first : Judging Waiting (map judgedLine f) (toComplete (lastPlace VV5404)) Waiting = record { told = c.0; leads = c.1 } in
-    subst (λ (ls : List Line). Judging Waiting ls (allComplete (f ∷ fs)) Waiting) (sym (handed-append f (allLines fs))) (judging-then first (frames-complete more))
+frames_complete : {fs : List (List Sent)} → AllFrames VV5404 fs → Judging Waiting (map judged_line (all_lines fs)) (all_complete fs) Waiting
+frames_complete no_frames = record { told = refl; leads = refl }
+frames_complete (and_frame b {ss = f} {fs = fs} h more) =
+    let c = frame_complete_lem VV5404 b (map judged_line f) h in
+    let first : Judging Waiting (map judged_line f) (to_complete (last_place VV5404)) Waiting = record { told = c.0; leads = c.1 } in
+    subst (λ (ls : List Line). Judging Waiting ls (all_complete (f ∷ fs)) Waiting) (sym (handed_append f (all_lines fs))) (judging_then first (frames_complete more))
 
 -- The lines before the slip.
 
-take-replicate : (n m : ℕ) (a : Ruling) (t : List Ruling) → n ≤ m → take n (replicate m a ++ t) ≡ replicate n a
-take-replicate zero m a t h = refl
-take-replicate (suc n) zero a t h = absurd (not-suc-le-zero h)
-take-replicate (suc n) (suc m) a t h = ap (λ (vs : List Ruling). a ∷ vs) (take-replicate n m a t (le_of_suc-le-suc h))
+take_replicate : (n m : ℕ) (a : Ruling) (t : List Ruling) → n ≤ m → take n (replicate m a ++ t) ≡ replicate n a
+take_replicate zero m a t h = refl
+take_replicate (suc n) zero a t h = absurd (not-suc-le-zero h)
+take_replicate (suc n) (suc m) a t h = ap (λ (vs : List Ruling). a ∷ vs) (take_replicate n m a t (le_of_suc-le-suc h))
 
-rulings-length : (j : Judge) (ls : List Line) → length (rulings VV5404 j ls) ≡ length ls
-rulings-length j [] = refl
-rulings-length j (l ∷ ls) = ap suc (rulings-length (called VV5404 j l).judge ls)
+rulings_length : (j : Judge) (ls : List Line) → length (rulings VV5404 j ls) ≡ length ls
+rulings_length j [] = refl
+rulings_length j (l ∷ ls) = ap suc (rulings_length (called VV5404 j l).judge ls)
 
-first-going : (b : Borders) (ls : List Line) (l : Line) (ms : List Line) → IsFrame VV5404 b (ls ++ (l ∷ ms))
+first_going : (b : Borders) (ls : List Line) (l : Line) (ms : List Line) → IsFrame VV5404 b (ls ++ (l ∷ ms))
     → rulings VV5404 Waiting ls ≡ replicate (length ls) ruling.Going
-first-going b ls l ms f =
-    sym (take_at (rulings VV5404 Waiting ls) (rulings VV5404 (after VV5404 Waiting ls) (l ∷ ms)) (length ls) (rulings-length Waiting ls))
-    ∙ ap (take (length ls)) (sym (rulings-append VV5404 Waiting ls (l ∷ ms)) ∙ (frame-complete VV5404 b (ls ++ (l ∷ ms)) f).0)
-    ∙ take-replicate (length ls) (lastPlace VV5404) ruling.Going (ruling.Complete ∷ []) (omega (arith, f.0, length-append ls (l ∷ ms)))
+first_going b ls l ms f =
+    sym (take_at (rulings VV5404 Waiting ls) (rulings VV5404 (after VV5404 Waiting ls) (l ∷ ms)) (length ls) (rulings_length Waiting ls))
+    ∙ ap (take (length ls)) (sym (rulings_append VV5404 Waiting ls (l ∷ ms)) ∙ (frame_complete_lem VV5404 b (ls ++ (l ∷ ms)) f).0)
+    ∙ take_replicate (length ls) (last_place VV5404) ruling.Going (ruling.Complete ∷ []) (omega (arith, f.0, length-append ls (l ∷ ms)))
 
 -- after Going the judge is within a frame
-abbrev isDue : Judge → Bool
-isDue Waiting = false
-isDue (Due place b) = true
+abbrev is_due : Judge → Bool
+is_due Waiting = false
+is_due (Due place b) = true
 
-going-due : (j : Judge) (l : Line) → passes VV5404 j ≡ true → (called VV5404 j l).ruling ≡ ruling.Going → isDue (called VV5404 j l).judge ≡ true
-going-due j l h = by (called VV5404 j l) (effect VV5404 j l h)
+going_due : (j : Judge) (l : Line) → passes VV5404 j ≡ true → (called VV5404 j l).ruling ≡ ruling.Going → is_due (called VV5404 j l).judge ≡ true
+going_due j l h = by (called VV5404 j l) (effect VV5404 j l h)
   where
-    by : (r : Judged) → Effect VV5404 j l r → r.ruling ≡ ruling.Going → isDue r.judge ≡ true
-    by _ wrongKind e = cc
-    by _ wrongNumber e = cc
+    by : (r : Judged) → Effect VV5404 j l r → r.ruling ≡ ruling.Going → is_due r.judge ≡ true
+    by _ wrong_kind e = cc
+    by _ wrong_number e = cc
     by _ waits e = cc
     by _ breaks e = cc
     by _ strays e = cc
@@ -93,80 +93,80 @@ going-due j l h = by (called VV5404 j l) (effect VV5404 j l h)
     by _ (goes place b q d g) e = refl
     by _ (ends place b q d g) e = cc
 
-lines-due : (j : Judge) (l : Line) (ls : List Line) → passes VV5404 j ≡ true → rulings VV5404 j (l ∷ ls) ≡ replicate (length (l ∷ ls)) ruling.Going
-    → isDue (after VV5404 j (l ∷ ls)) ≡ true
-lines-due j l [] h e = let a : (called VV5404 j l).ruling ≡ ruling.Going = cc in going-due j l h a
-lines-due j l (m ∷ ls) h e =
+lines_due : (j : Judge) (l : Line) (ls : List Line) → passes VV5404 j ≡ true → rulings VV5404 j (l ∷ ls) ≡ replicate (length (l ∷ ls)) ruling.Going
+    → is_due (after VV5404 j (l ∷ ls)) ≡ true
+lines_due j l [] h e = let a : (called VV5404 j l).ruling ≡ ruling.Going = cc in going_due j l h a
+lines_due j l (m ∷ ls) h e =
     let b : rulings VV5404 (called VV5404 j l).judge (m ∷ ls) ≡ replicate (length (m ∷ ls)) ruling.Going = cc in
-    lines-due (called VV5404 j l).judge m ls (passes-after VV5404 j (l ∷ []) h) b
+    lines_due (called VV5404 j l).judge m ls (passes_after VV5404 j (l ∷ []) h) b
 
 -- The broken lines.
 
-broken-waiting : called VV5404 Waiting brokenOne ≡ gives Waiting ruling.Waiting
-unfolding judgeOf
-broken-waiting = refl
+broken_waiting : called VV5404 Waiting broken_one ≡ gives Waiting ruling.Waiting
+unfolding judge_of
+broken_waiting = refl
 
-broken-due : (j : Judge) → passes VV5404 j ≡ true → isDue j ≡ true → called VV5404 j brokenOne ≡ refuses Waiting brokenLine
-unfolding judgeOf
-broken-due Waiting h d = absurd (true≢false (sym d))
-broken-due (Due place b) h d = simp h
+broken_due : (j : Judge) → passes VV5404 j ≡ true → is_due j ≡ true → called VV5404 j broken_one ≡ refuses Waiting broken_line
+unfolding judge_of
+broken_due Waiting h d = absurd (true≢false (sym d))
+broken_due (Due place b) h d = simp h
 
-at-slip : (front : List Sent) → rulings VV5404 Waiting (map judgedLine front) ≡ replicate (length (map judgedLine front)) ruling.Going
-    → called VV5404 (after VV5404 Waiting (map judgedLine front)) brokenOne ≡ gives Waiting (atSlip front)
-at-slip [] e = broken-waiting
-at-slip (s ∷ ss) e =
-    broken-due (after VV5404 Waiting (judgedLine s ∷ map judgedLine ss)) (passes-after VV5404 Waiting (judgedLine s ∷ map judgedLine ss) refl)
-    (lines-due Waiting (judgedLine s) (map judgedLine ss) refl e)
+at_slip_lem : (front : List Sent) → rulings VV5404 Waiting (map judged_line front) ≡ replicate (length (map judged_line front)) ruling.Going
+    → called VV5404 (after VV5404 Waiting (map judged_line front)) broken_one ≡ gives Waiting (at_slip front)
+at_slip_lem [] e = broken_waiting
+at_slip_lem (s ∷ ss) e =
+    broken_due (after VV5404 Waiting (judged_line s ∷ map judged_line ss)) (passes_after VV5404 Waiting (judged_line s ∷ map judged_line ss) refl)
+    (lines_due Waiting (judged_line s) (map judged_line ss) refl e)
 
-still-waiting : (n : ℕ) → Judging Waiting (replicate n brokenOne) (replicate n ruling.Waiting) Waiting
-still-waiting zero = record { told = refl; leads = refl }
-still-waiting (suc n) = judging-then (judging-one broken-waiting) (still-waiting n)
+still_waiting : (n : ℕ) → Judging Waiting (replicate n broken_one) (replicate n ruling.Waiting) Waiting
+still_waiting zero = record { told = refl; leads = refl }
+still_waiting (suc n) = judging_then (judging_one broken_waiting) (still_waiting n)
 
 -- The lines after the slip: none opens a frame.
 
-waits-on : (b : Borders) (n : ℕ) (k : Kind) (number : ℕ) → isLaidOutAt VV5404 b (suc n) (line (kindNumber k) number) ≡ true
-    → called VV5404 Waiting (line (kindNumber k) number) ≡ gives Waiting ruling.Waiting
-unfolding judgeOf
-waits-on b n k number f = go k (and_left _ _ (and_left _ _ f)) (and_right (due_at VV5404 b (suc n) (kindNumber k) number) _ f)
+waits_on : (b : Borders) (n : ℕ) (k : Kind) (number : ℕ) → is_laid_out_at VV5404 b (suc n) (line (kind_number k) number) ≡ true
+    → called VV5404 Waiting (line (kind_number k) number) ≡ gives Waiting ruling.Waiting
+unfolding judge_of
+waits_on b n k number f = go k (and_left _ _ (and_left _ _ f)) (and_right (due_at VV5404 b (suc n) (kind_number k) number) _ f)
   where
-    go : (k : Kind) → standsAt VV5404 b (suc n) (kindNumber k) ≡ true → leb number greatest ≡ true
-        → judgeOf VV5404 Waiting (kindNumber k) number ≡ gives Waiting ruling.Waiting
+    go : (k : Kind) → stands_at VV5404 b (suc n) (kind_number k) ≡ true → leb number greatest ≡ true
+        → judge_of VV5404 Waiting (kind_number k) number ≡ gives Waiting ruling.Waiting
     go BL s h = simp h
     go BK s h = simp h
     go VL s h = simp h
-    go SOF s h = absurd (true≢false (sym s ∙ sof-only-first VV5404 b n))
+    go SOF s h = absurd (true≢false (sym s ∙ sof_only_first VV5404 b n))
     go EOF s h = simp h
 
-rest-waits : (b : Borders) (n : ℕ) (ss : List Sent) → laidFrom VV5404 b (suc n) (map judgedLine ss) ≡ true
-    → Judging Waiting (map judgedLine ss) (replicate (length ss) ruling.Waiting) Waiting
-rest-waits b n [] f = record { told = refl; leads = refl }
-rest-waits b n (s ∷ ss) f =
-    judging-then (judging-one (waits-on b n s.kind s.number (and_left _ _ f)))
-    (rest-waits b (suc n) ss (and_right (isLaidOutAt VV5404 b (suc n) (judgedLine s)) _ f))
+rest_waits : (b : Borders) (n : ℕ) (ss : List Sent) → laid_from VV5404 b (suc n) (map judged_line ss) ≡ true
+    → Judging Waiting (map judged_line ss) (replicate (length ss) ruling.Waiting) Waiting
+rest_waits b n [] f = record { told = refl; leads = refl }
+rest_waits b n (s ∷ ss) f =
+    judging_then (judging_one (waits_on b n s.kind s.number (and_left _ _ f)))
+    (rest_waits b (suc n) ss (and_right (is_laid_out_at VV5404 b (suc n) (judged_line s)) _ f))
 
-laid-drop : (b : Borders) (place n : ℕ) (ls ms : List Line) → n ≡ place + length ls → laidFrom VV5404 b place (ls ++ ms) ≡ true → laidFrom VV5404 b n ms ≡ true
-laid-drop b place n [] ms e f = subst (λ (m : ℕ). laidFrom VV5404 b m ms ≡ true) (omega arith) f
-laid-drop b place n (l ∷ ls) ms e f = laid-drop b (suc place) n ls ms (omega arith) (and_right (isLaidOutAt VV5404 b place l) _ f)
+laid_drop : (b : Borders) (place n : ℕ) (ls ms : List Line) → n ≡ place + length ls → laid_from VV5404 b place (ls ++ ms) ≡ true → laid_from VV5404 b n ms ≡ true
+laid_drop b place n [] ms e f = subst (λ (m : ℕ). laid_from VV5404 b m ms ≡ true) (omega arith) f
+laid_drop b place n (l ∷ ls) ms e f = laid_drop b (suc place) n ls ms (omega arith) (and_right (is_laid_out_at VV5404 b place l) _ f)
 
 -- The frame that the slip fell in.
 
-frame-lost : (b : Borders) (front : List Sent) (s : Sent) (back : List Sent) → IsFrame VV5404 b (map judgedLine (front ++ (s ∷ back))) → (more : ℕ)
-    → Judging Waiting (map judgedLine front ++ ((brokenOne ∷ replicate more brokenOne) ++ map judgedLine back)) (lost front back more) Waiting
-frame-lost b front s back f more =
-    let ls : List Line = map judgedLine front in
-    let ms : List Line = map judgedLine back in
-    let fr : IsFrame VV5404 b (ls ++ (judgedLine s ∷ ms)) = subst (IsFrame VV5404 b) (handed-append front (s ∷ back)) f in
-    let g = first-going b ls (judgedLine s) ms fr in
-    let e : length ls ≡ length front = length-map front judgedLine in
+frame_lost : (b : Borders) (front : List Sent) (s : Sent) (back : List Sent) → IsFrame VV5404 b (map judged_line (front ++ (s ∷ back))) → (more : ℕ)
+    → Judging Waiting (map judged_line front ++ ((broken_one ∷ replicate more broken_one) ++ map judged_line back)) (lost front back more) Waiting
+frame_lost b front s back f more =
+    let ls : List Line = map judged_line front in
+    let ms : List Line = map judged_line back in
+    let fr : IsFrame VV5404 b (ls ++ (judged_line s ∷ ms)) = subst (IsFrame VV5404 b) (handed_append front (s ∷ back)) f in
+    let g = first_going b ls (judged_line s) ms fr in
+    let e : length ls ≡ length front = length-map front judged_line in
     let first : Judging Waiting ls (replicate (length front) ruling.Going) (after VV5404 Waiting ls)
     = record { told = g ∙ ap (λ (n : ℕ). replicate n ruling.Going) e; leads = refl } in
-    let rest = rest-waits b (length front) back
-    (and_right (isLaidOutAt VV5404 b (length front) (judgedLine s)) _ (laid-drop b 0 (length front) ls (judgedLine s ∷ ms) (omega arith) fr.1)) in
-    let says = judging-then first (judging-then (judging-one (at-slip front g)) (judging-then (still-waiting more) rest)) in
+    let rest = rest_waits b (length front) back
+    (and_right (is_laid_out_at VV5404 b (length front) (judged_line s)) _ (laid_drop b 0 (length front) ls (judged_line s ∷ ms) (omega arith) fr.1)) in
+    let says = judging_then first (judging_then (judging_one (at_slip_lem front g)) (judging_then (still_waiting more) rest)) in
     record {
       told =
           says.told
-          ∙ ap (λ (vs : List Ruling). replicate (length front) ruling.Going ++ (atSlip front ∷ vs)) (replicate-append-replicate more (length back) ruling.Waiting);
+          ∙ ap (λ (vs : List Ruling). replicate (length front) ruling.Going ++ (at_slip front ∷ vs)) (replicate-append-replicate more (length back) ruling.Waiting);
       leads = says.leads;
     }
 
@@ -179,23 +179,23 @@ none_both which (x ∷ u) v h k = go (which x) h (none_both which u v)
     go true e more = absurd (true≢false e)
     go false e more = more e k
 
-pub none-all : (which : Ruling → Bool) (v : Ruling) → which v ≡ false → (n : ℕ) → some which (replicate n v) ≡ false
-none-all which v e zero = refl
-none-all which v e (suc n) = ap₂ ◌||◌ e (none-all which v e n)
+pub none_all : (which : Ruling → Bool) (v : Ruling) → which v ≡ false → (n : ℕ) → some which (replicate n v) ≡ false
+none_all which v e zero = refl
+none_all which v e (suc n) = ap₂ ◌||◌ e (none_all which v e n)
 
-slip-incomplete : (front : List Sent) → is_complete (atSlip front) ≡ false
-slip-incomplete [] = refl
-slip-incomplete (s ∷ ss) = refl
+slip_incomplete : (front : List Sent) → is_complete (at_slip front) ≡ false
+slip_incomplete [] = refl
+slip_incomplete (s ∷ ss) = refl
 
 -- none of its rulings is Complete
-pub lost-incomplete : (front back : List Sent) (more : ℕ) → some is_complete (lost front back more) ≡ false
-lost-incomplete front back more =
-    none_both is_complete (replicate (length front) ruling.Going) _ (none-all is_complete ruling.Going refl (length front))
-    (ap₂ ◌||◌ (slip-incomplete front) (none-all is_complete ruling.Waiting refl (more + length back)))
+pub lost_incomplete : (front back : List Sent) (more : ℕ) → some is_complete (lost front back more) ≡ false
+lost_incomplete front back more =
+    none_both is_complete (replicate (length front) ruling.Going) _ (none_all is_complete ruling.Going refl (length front))
+    (ap₂ ◌||◌ (slip_incomplete front) (none_all is_complete ruling.Waiting refl (more + length back)))
 
 -- where line 0 slipped, all of them are Waiting: neither 18 nor 19 comes
-pub first-waits : (back : List Sent) (more : ℕ) → lost [] back more ≡ replicate (suc (more + length back)) ruling.Waiting
-first-waits back more = refl
+pub first_waits : (back : List Sent) (more : ℕ) → lost [] back more ≡ replicate (suc (more + length back)) ruling.Waiting
+first_waits back more = refl
 
 -- Frames with a slip in one of them.
 
@@ -203,28 +203,28 @@ first-waits back more = refl
 record Around (fs : List (List Sent)) (f : List Sent) (gs : List (List Sent)) : Type 0 where
   earlier : AllFrames VV5404 fs
   borders : Borders
-  whole : IsFrame VV5404 borders (map judgedLine f)
+  whole : IsFrame VV5404 borders (map judged_line f)
   later : AllFrames VV5404 gs
 
 around : (fs : List (List Sent)) (f : List Sent) (gs : List (List Sent)) → AllFrames VV5404 (fs ++ (f ∷ gs)) → Around fs f gs
-around [] f gs (and-frame b h more) = record { earlier = no_frames; borders = b; whole = h; later = more }
-around (e ∷ fs) f gs (and-frame b h more) =
+around [] f gs (and_frame b h more) = record { earlier = no_frames; borders = b; whole = h; later = more }
+around (e ∷ fs) f gs (and_frame b h more) =
     let q = around fs f gs more in
-    record { earlier = and-frame b h q.earlier; borders = q.borders; whole = q.whole; later = q.later }
+    record { earlier = and_frame b h q.earlier; borders = q.borders; whole = q.whole; later = q.later }
 
 -- the law
-pub one-lost : (fs : List (List Sent)) (front : List Sent) (s : Sent) (back : List Sent) (gs : List (List Sent))
+pub one_lost : (fs : List (List Sent)) (front : List Sent) (s : Sent) (back : List Sent) (gs : List (List Sent))
     → AllFrames VV5404 (fs ++ ((front ++ (s ∷ back)) ∷ gs)) → (more : ℕ)
-    → rulings VV5404 Waiting (map judgedLine (allLines fs ++ front) ++ ((brokenOne ∷ replicate more brokenOne) ++ map judgedLine (back ++ allLines gs)))
-    ≡ allComplete fs ++ (lost front back more ++ allComplete gs)
-one-lost fs front s back gs h more =
+    → rulings VV5404 Waiting (map judged_line (all_lines fs ++ front) ++ ((broken_one ∷ replicate more broken_one) ++ map judged_line (back ++ all_lines gs)))
+    ≡ all_complete fs ++ (lost front back more ++ all_complete gs)
+one_lost fs front s back gs h more =
     let q = around fs (front ++ (s ∷ back)) gs h in
-    let F : List Line = map judgedLine (allLines fs) in
-    let B : List Line = map judgedLine front in
-    let N : List Line = brokenOne ∷ replicate more brokenOne in
-    let A : List Line = map judgedLine back in
-    let G : List Line = map judgedLine (allLines gs) in
-    let together : map judgedLine (allLines fs ++ front) ++ (N ++ map judgedLine (back ++ allLines gs)) ≡ F ++ ((B ++ (N ++ A)) ++ G)
-    = ap₂ (λ (u v : List Line). u ++ (N ++ v)) (handed-append (allLines fs) front) (handed-append back (allLines gs)) ∙ simp append_assoc in
+    let F : List Line = map judged_line (all_lines fs) in
+    let B : List Line = map judged_line front in
+    let N : List Line = broken_one ∷ replicate more broken_one in
+    let A : List Line = map judged_line back in
+    let G : List Line = map judged_line (all_lines gs) in
+    let together : map judged_line (all_lines fs ++ front) ++ (N ++ map judged_line (back ++ all_lines gs)) ≡ F ++ ((B ++ (N ++ A)) ++ G)
+    = ap₂ (λ (u v : List Line). u ++ (N ++ v)) (handed_append (all_lines fs) front) (handed_append back (all_lines gs)) ∙ simp append_assoc in
     ap (rulings VV5404 Waiting) together
-    ∙ (judging-then (frames-complete q.earlier) (judging-then (frame-lost q.borders front s back q.whole more) (frames-complete q.later))).told
+    ∙ (judging_then (frames_complete q.earlier) (judging_then (frame_lost q.borders front s back q.whole more) (frames_complete q.later))).told

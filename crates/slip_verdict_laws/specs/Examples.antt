@@ -5,19 +5,19 @@ use Rattle.profile.specs.declared.Profile.TheVariants.{VV5404}
 use Rattle.recovery.specs.Examples.{sample}
 use Rattle.stream.specs.Written.{Sent}
 use Rattle.frame_layout.specs.declared.Borders.TheVariants.{On, Off}
-use Rattle.frame_layout.specs.FrameLayout.{layout, kindsOf}
-use Rattle.frame_laws.specs.SentFrames.{allLines}
+use Rattle.frame_layout.specs.FrameLayout.{layout, kinds_of}
+use Rattle.frame_laws.specs.SentFrames.{all_lines}
 use Rattle.slip_laws.specs.Slip.{slipped}
-use Rattle.slip_laws.specs.Examples.{samplesFrom, sampleFrame, frames-slip}
+use Rattle.slip_laws.specs.Examples.{samples_from, sample_frame, frames_slip}
 use Rattle.verdict.specs.declared.Verdict.TheVariants.{CheckTheClip}
-use Rattle.verdict_laws.specs.CleanCapture.{verdictOn}
-use Rattle.slip_verdict_laws.specs.SlipVerdictLaws.{slip-found}
+use Rattle.verdict_laws.specs.CleanCapture.{verdict_on}
+use Rattle.slip_verdict_laws.specs.SlipVerdictLaws.{slip_found}
 
 abbrev front : List Sent
 front = sample VV5404 SOF 0 ∷ []
 
 abbrev back : List Sent
-back = samplesFrom 2 (drop 2 (kindsOf (layout VV5404 Off)))
+back = samples_from 2 (drop 2 (kinds_of (layout VV5404 Off)))
 
-pub two-frames-checked : verdictOn VV5404 (slipped (allLines (sampleFrame On ∷ []) ++ front) (sample VV5404 BK 1) (back ++ []) 10 3) ≡ CheckTheClip
-two-frames-checked = (slip-found (sampleFrame On ∷ []) front (sample VV5404 BK 1) back [] frames-slip.0 frames-slip.1 10 3 frames-slip.2).verdict-is
+pub two_frames_checked : verdict_on VV5404 (slipped (all_lines (sample_frame On ∷ []) ++ front) (sample VV5404 BK 1) (back ++ []) 10 3) ≡ CheckTheClip
+two_frames_checked = (slip_found (sample_frame On ∷ []) front (sample VV5404 BK 1) back [] frames_slip.0 frames_slip.1 10 3 frames_slip.2).verdict_is

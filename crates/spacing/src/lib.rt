@@ -3,7 +3,7 @@
 // In: the period of each gap, in nibbles; 0 is none. Out: the counts, and the least and the greatest of the other lengths. Nothing is refused; a
 // count stops at the greatest u64. Cost: constant.
 ghost use Rattle.std.specs.Prelude.{◌≡◌};
-ghost use Rattle.spacing.specs.Spacing.{lesser, greater, noPeriods, thirtyMore, twentyFiveMore, otherMore, withPeriod};
+ghost use Rattle.spacing.specs.Spacing.{lesser, greater, no_periods, thirty_more, twenty_five_more, other_more, with_period};
 
 use counts::one_more;
 use period::{Nibbles, Rate};
@@ -22,7 +22,7 @@ pub struct Spacing {
 impl Spacing {
     // No periods.
     pub fn new() -> Spacing
-        ensures { result ≡ noPeriods }
+        ensures { result ≡ no_periods }
     {
         Spacing {
             thirty: 0,
@@ -35,7 +35,7 @@ impl Spacing {
 
     // With the period of a gap: 0 is none.
     pub fn with(self, period: Nibbles) -> Spacing
-        ensures { result ≡ withPeriod self period }
+        ensures { result ≡ with_period self period }
     {
         if period.0 == 0 {
             return self;
@@ -49,7 +49,7 @@ impl Spacing {
     }
 
     fn thirty_more(self) -> Spacing
-        ensures { result ≡ thirtyMore self }
+        ensures { result ≡ thirty_more self }
     {
         Spacing {
             thirty: one_more(self.thirty),
@@ -61,7 +61,7 @@ impl Spacing {
     }
 
     fn twenty_five_more(self) -> Spacing
-        ensures { result ≡ twentyFiveMore self }
+        ensures { result ≡ twenty_five_more self }
     {
         Spacing {
             thirty: self.thirty,
@@ -74,7 +74,7 @@ impl Spacing {
 
     // A period of another length.
     fn other(self, nibbles: u16) -> Spacing
-        ensures { result ≡ otherMore self nibbles }
+        ensures { result ≡ other_more self nibbles }
     {
         Spacing {
             thirty: self.thirty,

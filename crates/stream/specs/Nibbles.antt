@@ -3,10 +3,10 @@ use Rattle.std.specs.Prelude.{Bool, true, ◌&&◌, List, [], ◌∷◌, ℕ, �
 
 -- each is a nibble
 pub data AllNibbles : List ℕ → Type 0 where
-  no-nibble : AllNibbles []
-  and-nibble : {n : ℕ} {t : List ℕ} → n < 16 → AllNibbles t → AllNibbles (n ∷ t)
+  no_nibble : AllNibbles []
+  and_nibble : {n : ℕ} {t : List ℕ} → n < 16 → AllNibbles t → AllNibbles (n ∷ t)
 
 -- the same, as a test
-abbrev pub nibblesOnly : List ℕ → Bool
-nibblesOnly [] = true
-nibblesOnly (n ∷ w) = leb n 15 && nibblesOnly w
+abbrev pub nibbles_only : List ℕ → Bool
+nibbles_only [] = true
+nibbles_only (n ∷ w) = leb n 15 && nibbles_only w

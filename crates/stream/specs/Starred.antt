@@ -2,15 +2,15 @@
 use Rattle.std.specs.Prelude.{◌≡◌, refl, List, [], ◌∷◌, ℕ}
 use Rattle.std.proofs.Math.Option.{Option}
 use Rattle.std.specs.Int.Count.{ones, ones_in}
-use Rattle.refusal.specs.Refusal.{reservedCode}
+use Rattle.refusal.specs.Refusal.{reserved_code}
 use Rattle.line_code.specs.declared.Kind.TheVariants.{BL}
 use Rattle.line_code.specs.declared.Meaning.TheVariants.{EndOfLine, Line, ReservedEC}
 use Rattle.line_code.specs.declared.Reading.{Reading}
 use Rattle.line_code.specs.declared.Reading.TheVariants.{Says, Damaged}
 use Rattle.line_code.specs.declared.Repair.TheVariants.{Clean, Bit}
-use Rattle.line_code.specs.LineCode.{kindNumbered, reservedOf, meaningOf, reading_of}
+use Rattle.line_code.specs.LineCode.{kind_numbered, reserved_of, meaning_of, reading_of}
 use Rattle.line_number.specs.declared.Encoded.TheVariants.{Bytes}
-use Rattle.line_number.specs.LineNumber.{numberByte, encodeOf}
+use Rattle.line_number.specs.LineNumber.{number_byte, encode_of}
 use Rattle.profile.specs.declared.Profile.{Profile}
 use Rattle.stream.specs.declared.Before.{Before}
 use Rattle.stream.specs.Answers.{refused, answer_of}
@@ -23,7 +23,7 @@ pub data Case : Type 0 where
 
 -- a starred case holds
 unfoldable pub Holds : Case → Type 0
-Holds (number n a b) = encodeOf n ≡ Bytes a b
+Holds (number n a b) = encode_of n ≡ Bytes a b
 Holds (code b r) = reading_of b ≡ r
 Holds (answer b n) = (p : Profile) (before : Before) (t : List ℕ) (next : Option ℕ) → answer_of p before b t next ≡ refused n
 
@@ -50,11 +50,11 @@ starred =
     ∷ code 0xFF Damaged
     ∷ code 0x81 (Says EndOfLine (Bit 0))
     ∷ code 0xED (Says ReservedEC (Bit 0))
-    ∷ answer 0xED reservedCode
+    ∷ answer 0xED reserved_code
     ∷ []
 
 -- every starred case holds
-pub starred-hold : AllHold starred
-unfolding AllHold Holds starred numberByte ones ones_in reading_of meaningOf kindNumbered reservedOf answer_of
-starred-hold =
+pub starred_hold : AllHold starred
+unfolding AllHold Holds starred number_byte ones ones_in reading_of meaning_of kind_numbered reserved_of answer_of
+starred_hold =
     (refl, (refl, (refl, (refl, (refl, (refl, (refl, (refl, (refl, (refl, (refl, (refl, (refl, (refl, (refl, (λ p before t next. refl, tt))))))))))))))))

@@ -29,15 +29,15 @@ pub data Completed : Type 0 where
   mark : ℕ → ℕ → List ℕ → Completed
 
 -- a mark, where its group is there
-abbrev pub markIf : ℕ → ℕ → Option (List ℕ) → Completed
-markIf x y none = not_yet
-markIf x y (some t) = mark x y t
+abbrev pub mark_if : ℕ → ℕ → Option (List ℕ) → Completed
+mark_if x y none = not_yet
+mark_if x y (some t) = mark x y t
 
 -- a mark is complete with the second nibble after F F F F 0 0
 abbrev pub detect : List ℕ → Completed
 detect [] = not_yet
 detect (y ∷ []) = not_yet
-detect (y ∷ x ∷ t) = markIf x y (strip group t)
+detect (y ∷ x ∷ t) = mark_if x y (strip group t)
 
 -- What a nibble brings.
 
@@ -61,23 +61,23 @@ kind_at NoMark = NotLine
 kind_at (Open before code) = kind_of (reading_of code)
 
 -- what a mark is to the next one: by the line kind of its own code, and whether it was handed out as a line
-abbrev pub beforeBy : LineKind → Bool → Before
-beforeBy NotLine handed = NoLine
-beforeBy (LineOf k) true = HandedOut k
-beforeBy (LineOf k) false = RefusedLine k
+abbrev pub before_by : LineKind → Bool → Before
+before_by NotLine handed = NoLine
+before_by (LineOf k) true = HandedOut k
+before_by (LineOf k) false = RefusedLine k
 
 -- the open mark's answer, if there is one: its text, and the next mark's code or none at finish
-abbrev pub answerAt : Profile → Mark → List ℕ → Option ℕ → Outcome
-answerAt p NoMark t next = nothing
-answerAt p (Open before code) t next = answer_of p before code t next
+abbrev pub answer_at : Profile → Mark → List ℕ → Option ℕ → Outcome
+answer_at p NoMark t next = nothing
+answer_at p (Open before code) t next = answer_of p before code t next
 
 -- a text with its newest nibble in it: where that completes a mark, the mark before is answered, and the new one's text is its code
 abbrev pub advance : Profile → Mark → List ℕ → Completed → Step
 advance p m t not_yet = record { state = record { at = m; text = t }; outcome = nothing }
 advance p m t (mark x y before) =
     record {
-      state = record { at = Open (beforeBy (kind_at m) (is_line (answerAt p m before (some (16 * x + y))))) (16 * x + y); text = y ∷ x ∷ [] };
-      outcome = answerAt p m before (some (16 * x + y));
+      state = record { at = Open (before_by (kind_at m) (is_line (answer_at p m before (some (16 * x + y))))) (16 * x + y); text = y ∷ x ∷ [] };
+      outcome = answer_at p m before (some (16 * x + y));
     }
 
 -- one nibble
@@ -86,7 +86,7 @@ step p s n = advance p s.at (n ∷ s.text) (detect (n ∷ s.text))
 
 -- finish answers the last mark, if there is one, and leaves a fresh reader
 abbrev pub finish : Profile → State → Step
-finish p s = record { state = fresh; outcome = answerAt p s.at s.text none }
+finish p s = record { state = fresh; outcome = answer_at p s.at s.text none }
 
 -- Many nibbles.
 

@@ -1,8 +1,8 @@
 // The meaning of a stream (paper 01, 'Marks and line codes' and 'One answer for each mark'): the types that reader and callers share.
 // The meaning itself is in specs/: Answers.antt, what a mark is answered; Stream.antt, where marks are and what each nibble brings.
 ghost use Rattle.std.specs.Prelude.{◌≡◌};
-ghost use Rattle.stream.specs.Answers.{eitherRepaired, isLineAnswer, isAnswer};
-ghost use Rattle.stream.specs.Stream.{beforeBy};
+ghost use Rattle.stream.specs.Answers.{either_repaired, is_line_answer, is_answer};
+ghost use Rattle.stream.specs.Stream.{before_by};
 
 use line_code::{Kind, LineKind, Repair};
 use period::Nibbles;
@@ -53,7 +53,7 @@ pub enum Answer {
 impl LineFacts {
     // Whether either code was repaired.
     pub fn is_repaired(self) -> bool
-        ensures { result ≡ eitherRepaired self }
+        ensures { result ≡ either_repaired self }
     {
         let start = self.start;
         if start.is_bit() {
@@ -67,7 +67,7 @@ impl LineFacts {
 impl Answer {
     // Whether it is one: not where none is due yet.
     pub fn is_answer(self) -> bool
-        ensures { result ≡ isAnswer self }
+        ensures { result ≡ is_answer self }
     {
         match self {
             Answer::Nothing => false,
@@ -79,7 +79,7 @@ impl Answer {
 
     // Whether a line is handed out.
     pub fn is_line(self) -> bool
-        ensures { result ≡ isLineAnswer self }
+        ensures { result ≡ is_line_answer self }
     {
         match self {
             Answer::Nothing => false,
@@ -93,7 +93,7 @@ impl Answer {
 impl Before {
     // What a mark is to the next one: by the line kind of its own code, and whether it was handed out as a line.
     pub fn of(kind: LineKind, handed: bool) -> Before
-        ensures { result ≡ beforeBy kind handed }
+        ensures { result ≡ before_by kind handed }
     {
         match kind {
             LineKind::NotLine => Before::NoLine,

@@ -6,7 +6,7 @@ use Rattle.profile.specs.declared.Profile.{Profile}
 use Rattle.profile.specs.declared.Profile.TheVariants.{VV5404, VV5300}
 use Rattle.stream.specs.Written.{stream}
 use Rattle.recovery.specs.Examples.{sample, four, from, to, new}
-use Rattle.stretch_laws.specs.Stretches.{Segment, unchanged, replaced, cleanOf, wholeLines, closedLines}
+use Rattle.stretch_laws.specs.Stretches.{Segment, unchanged, replaced, clean_of, whole_lines, closed_lines}
 
 -- a place within the last line
 abbrev cut : Profile → ℕ
@@ -14,8 +14,8 @@ cut VV5404 = 2500
 cut VV5300 = 1300
 
 -- a stream with two stretches replaced
-abbrev pub twoStretches : Profile → List Segment
-twoStretches p =
+abbrev pub two_stretches : Profile → List Segment
+two_stretches p =
     let c : List ℕ = stream (four p) in
     unchanged (take (from p) c)
     ∷ replaced (take (to p - from p) (drop (from p) c)) new
@@ -24,14 +24,14 @@ twoStretches p =
     ∷ unchanged (drop 1 (drop (cut p) c))
     ∷ []
 
-pub segments-clean : (p : Profile) → cleanOf (twoStretches p) ≡ stream (four p)
-segments-clean VV5404 = refl
-segments-clean VV5300 = refl
+pub segments_clean : (p : Profile) → clean_of (two_stretches p) ≡ stream (four p)
+segments_clean VV5404 = refl
+segments_clean VV5300 = refl
 
-pub whole-lines : (p : Profile) → wholeLines (four p) (twoStretches p) ≡ sample p SOF 0 ∷ sample p VL 10 ∷ []
-whole-lines VV5404 = refl
-whole-lines VV5300 = refl
+pub whole_lines_lem : (p : Profile) → whole_lines (four p) (two_stretches p) ≡ sample p SOF 0 ∷ sample p VL 10 ∷ []
+whole_lines_lem VV5404 = refl
+whole_lines_lem VV5300 = refl
 
-pub closed-lines : (p : Profile) → closedLines (four p) (twoStretches p) ≡ sample p SOF 0 ∷ sample p VL 10 ∷ []
-closed-lines VV5404 = refl
-closed-lines VV5300 = refl
+pub closed_lines_lem : (p : Profile) → closed_lines (four p) (two_stretches p) ≡ sample p SOF 0 ∷ sample p VL 10 ∷ []
+closed_lines_lem VV5404 = refl
+closed_lines_lem VV5300 = refl

@@ -1,11 +1,11 @@
 -- Who calls the table of readers (02, A12), and what they are refused of a place.
 use Rattle.std.specs.Prelude.{Bool, ◌||◌, cond, ℕ, eqb}
-use Rattle.refusal.specs.Refusal.{noSuchTechnician, placeNotHeld}
+use Rattle.refusal.specs.Refusal.{no_such_technician, place_not_held}
 
 -- technicians are 1 and 2
-unfoldable pub isTechnician : ℕ → Bool
-isTechnician who = eqb who 1 || eqb who 2
+unfoldable pub is_technician : ℕ → Bool
+is_technician who = eqb who 1 || eqb who 2
 
 -- what a technician is refused of a place, by its owner: 32, 34, or nothing, 0
-unfoldable pub denialBy : ℕ → ℕ → ℕ
-denialBy who owner = cond (isTechnician who) (cond (eqb owner who) 0 placeNotHeld) noSuchTechnician
+unfoldable pub denial_by : ℕ → ℕ → ℕ
+denial_by who owner = cond (is_technician who) (cond (eqb owner who) 0 place_not_held) no_such_technician

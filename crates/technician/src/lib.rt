@@ -3,11 +3,11 @@
 // In: a technician's number, and the owner of a place, 0 where it is free. Out: what is refused: 32 no such technician, 34 the place is free or
 // another's, or nothing, 0. Cost: constant.
 ghost use Rattle.std.specs.Prelude.{◌≡◌};
-ghost use Rattle.technician.specs.Technician.{isTechnician, denialBy};
+ghost use Rattle.technician.specs.Technician.{is_technician, denial_by};
 
 // What a technician is refused of a place with this owner: 32, 34, or nothing, 0.
 pub fn denial(technician: u8, owner: u8) -> u8
-    ensures { result ≡ denialBy technician owner }
+    ensures { result ≡ denial_by technician owner }
 {
     if is_technician(technician) {
         if owner == technician {
@@ -20,7 +20,7 @@ pub fn denial(technician: u8, owner: u8) -> u8
 
 // Whether a technician has this number.
 pub fn is_technician(number: u8) -> bool
-    ensures { result ≡ isTechnician number }
+    ensures { result ≡ is_technician number }
 {
     if number == 1 {
         return true;

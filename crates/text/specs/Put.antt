@@ -15,10 +15,10 @@ pub record Put (buffer : List ℕ) (at : ℕ) (text : List ℕ) (next : ℕ) (af
   pub stored : after ≡ sets buffer at text
 
 -- a buffer with a text at its front, and the rest as it was
-abbrev pub onFront : List ℕ → List ℕ → List ℕ
-onFront text buffer = text ++ drop (length text) buffer
+abbrev pub on_front : List ℕ → List ℕ → List ℕ
+on_front text buffer = text ++ drop (length text) buffer
 
 -- a call that puts a text at the front of a buffer, and answers its length
 pub record AtFront (text : List ℕ) (r : ℕ) (before after : List ℕ) : Type 0 where
   pub count : r ≡ length text
-  pub leaves : after ≡ onFront text before
+  pub leaves : after ≡ on_front text before

@@ -34,9 +34,9 @@ decimal n = digits 20 n
 -- Bytes.
 
 -- the hex digit of a number below 16: 0 to 9, a to f
-unfoldable pub hexDigit : ℕ → ℕ
-hexDigit n = cond (ltb n 10) (0x30 + n) (0x57 + n)
+unfoldable pub hex_digit : ℕ → ℕ
+hex_digit n = cond (ltb n 10) (0x30 + n) (0x57 + n)
 
 -- a byte in hex: two digits
-abbrev pub hexByte : ℕ → List ℕ
-hexByte b = hexDigit (b / 16) ∷ hexDigit (b % 16) ∷ []
+abbrev pub hex_byte : ℕ → List ℕ
+hex_byte b = hex_digit (b / 16) ∷ hex_digit (b % 16) ∷ []

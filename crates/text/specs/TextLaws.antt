@@ -2,7 +2,7 @@
 use Rattle.std.specs.Prelude.{◌≡◌, refl, Bool, true, false, cond, ◌&&◌, List, [], ◌∷◌, ◌++◌, ℕ, zero, suc, ◌-◌, ◌/◌, ◌%◌, ◌<◌, ◌≤◌, ltb, leb, length, drop, set}
 use Rattle.std.proofs.Common.{sym, ap, subst, ◌∙◌, true≢false, append_assoc, arith, length-append, length-set, drop-cons, get_or-set_same, drop-set-lt, lt-ltb, le-ltb, ltb-true, leb-true, leb-false}
 use Rattle.text.specs.Text.{digit, digits, decimal}
-use Rattle.text.specs.Parts.{isMore}
+use Rattle.text.specs.Parts.{is_more}
 
 -- From the last digit on: the digits that are left to put, then those that were put behind a place.
 
@@ -14,16 +14,16 @@ second : (a b : Bool) → a ≡ true → (a && b) ≡ false → b ≡ false
 second true b e h = h
 second false b e h = absurd (true≢false (sym e))
 
-drop-set : (d : List ℕ) (i x : ℕ) → i < length d → drop i (set d i x) ≡ x ∷ drop (suc i) d
-drop-set d i x h =
+drop_set : (d : List ℕ) (i x : ℕ) → i < length d → drop i (set d i x) ≡ x ∷ drop (suc i) d
+drop_set d i x h =
     let l = length-set d i x in
     drop-cons (set d i x) i 0 (omega (arith, l))
     ∙ ap (λ (y : ℕ). y ∷ drop (suc i) (set d i x)) (get_or-set_same d i x 0 h)
     ∙ ap (λ (r : List ℕ). x ∷ r) (drop-set-lt (suc i) d i x (omega arith))
 
-more-digits : (k n : ℕ) → isMore k n ≡ true → digits k n ≡ digits (k - 1) (n / 10) ++ (digit (n % 10) ∷ [])
-more-digits zero n m = absurd (true≢false (sym m))
-more-digits (suc k) n m =
+more_digits : (k n : ℕ) → is_more k n ≡ true → digits k n ≡ digits (k - 1) (n / 10) ++ (digit (n % 10) ∷ [])
+more_digits zero n m = absurd (true≢false (sym m))
+more_digits (suc k) n m =
     let e : suc k - 1 ≡ k = omega arith in
     simp (le-ltb n 10 (leb-true 10 n (both (ltb 1 (suc k)) (leb 10 n) m).1), e)
 
@@ -32,7 +32,7 @@ single k n h =
     let s : n % 10 ≡ n = omega (arith, h) in
     simp (lt-ltb n 10 h, s)
 
-one_left : (k n : ℕ) → 0 < k → isMore k n ≡ false → digits k n ≡ digit (n % 10) ∷ []
+one_left : (k n : ℕ) → 0 < k → is_more k n ≡ false → digits k n ≡ digit (n % 10) ∷ []
 one_left zero n h m = absurd (omega (arith, h))
 one_left (suc zero) n h m = go (ltb n 10) refl
   where
@@ -41,32 +41,32 @@ one_left (suc zero) n h m = go (ltb n 10) refl
     go false e = simp e
 one_left (suc (suc k)) n h m = single (suc k) n (leb-false 10 n (second (ltb 1 (suc (suc k))) (leb 10 n) (lt-ltb 1 (suc (suc k)) (omega arith)) m))
 
-pub more-places : (k n : ℕ) → isMore k n ≡ true → 1 < k
-more-places k n m = ltb-true 1 k (both (ltb 1 k) (leb 10 n) m).0
+pub more_places : (k n : ℕ) → is_more k n ≡ true → 1 < k
+more_places k n m = ltb-true 1 k (both (ltb 1 k) (leb 10 n) m).0
 
 -- one digit more is put
-pub digit-put :
+pub digit_put :
     (k n : ℕ) (d t : List ℕ)
-    → isMore k n ≡ true → k ≤ length d → digits k n ++ drop k d ≡ t
+    → is_more k n ≡ true → k ≤ length d → digits k n ++ drop k d ≡ t
     → digits (k - 1) (n / 10) ++ drop (k - 1) (set d (k - 1) (digit (n % 10))) ≡ t
-digit-put k n d t m h e =
-    let g = more-places k n m in
+digit_put k n d t m h e =
+    let g = more_places k n m in
     let s : suc (k - 1) ≡ k = omega (arith, g) in
     let put : drop (k - 1) (set d (k - 1) (digit (n % 10))) ≡ digit (n % 10) ∷ drop k d =
-    subst (λ (j : ℕ). drop (k - 1) (set d (k - 1) (digit (n % 10))) ≡ digit (n % 10) ∷ drop j d) s (drop-set d (k - 1) (digit (n % 10)) (omega (arith, g))) in
+    subst (λ (j : ℕ). drop (k - 1) (set d (k - 1) (digit (n % 10))) ≡ digit (n % 10) ∷ drop j d) s (drop_set d (k - 1) (digit (n % 10)) (omega (arith, g))) in
     ap (λ (r : List ℕ). digits (k - 1) (n / 10) ++ r) put
     ∙ sym (append_assoc (digits (k - 1) (n / 10)) (digit (n % 10) ∷ []) (drop k d))
-    ∙ ap (λ (r : List ℕ). r ++ drop k d) (sym (more-digits k n m))
+    ∙ ap (λ (r : List ℕ). r ++ drop k d) (sym (more_digits k n m))
     ∙ e
 
 -- the last one is put
-pub last-put :
+pub last_put :
     (k n : ℕ) (d t : List ℕ)
-    → isMore k n ≡ false → 0 < k → k ≤ length d → digits k n ++ drop k d ≡ t
+    → is_more k n ≡ false → 0 < k → k ≤ length d → digits k n ++ drop k d ≡ t
     → drop (k - 1) (set d (k - 1) (digit (n % 10))) ≡ t
-last-put k n d t m g h e =
+last_put k n d t m g h e =
     let s : suc (k - 1) ≡ k = omega (arith, g) in
-    subst (λ (j : ℕ). drop (k - 1) (set d (k - 1) (digit (n % 10))) ≡ digit (n % 10) ∷ drop j d) s (drop-set d (k - 1) (digit (n % 10)) (omega (arith, g)))
+    subst (λ (j : ℕ). drop (k - 1) (set d (k - 1) (digit (n % 10))) ≡ digit (n % 10) ∷ drop j d) s (drop_set d (k - 1) (digit (n % 10)) (omega (arith, g)))
     ∙ ap (λ (r : List ℕ). r ++ drop k d) (sym (one_left k n g m))
     ∙ e
 
@@ -80,18 +80,18 @@ digits_step k n = either (ltb n 10)
     either true = omega arith
     either false = simp length-append (omega arith)
 
-digits-short : (k n : ℕ) → length (digits k n) ≤ k
-digits-short zero n = omega arith
-digits-short (suc k) n = omega (arith, digits_step k n, digits-short k (n / 10))
+digits_short : (k n : ℕ) → length (digits k n) ≤ k
+digits_short zero n = omega arith
+digits_short (suc k) n = omega (arith, digits_step k n, digits_short k (n / 10))
 
-pub decimal-short : (n : ℕ) → length (decimal n) ≤ 20
+pub decimal_short : (n : ℕ) → length (decimal n) ≤ 20
 unfolding decimal
-decimal-short n = digits-short 20 n
+decimal_short n = digits_short 20 n
 
-one-digit : (n : ℕ) → n < 10 → length (digits 18 n) ≤ 1
-one-digit n h = simp (lt-ltb n 10 h) (omega arith)
+one_digit : (n : ℕ) → n < 10 → length (digits 18 n) ≤ 1
+one_digit n h = simp (lt-ltb n 10 h) (omega arith)
 
 -- a number below 1,000
-pub three-digits : (n : ℕ) → n < 1000 → length (decimal n) ≤ 3
+pub three_digits_lem : (n : ℕ) → n < 1000 → length (decimal n) ≤ 3
 unfolding decimal
-three-digits n h = omega (arith, digits_step 19 n, digits_step 18 (n / 10), one-digit (n / 10 / 10) (omega arith))
+three_digits_lem n h = omega (arith, digits_step 19 n, digits_step 18 (n / 10), one_digit (n / 10 / 10) (omega arith))

@@ -4,8 +4,8 @@
 // the text does, the rest of the text is left out, and the place is that end; from a place beyond the end nothing is put, and the place
 // stays. So texts put one after another are their concatenation, put at once. Cost: linear in the text.
 ghost use Rattle.std.specs.Prelude.{◌≡◌, ◌∷◌, [], ◌+◌, ◌%◌, ◌<◌, ◌≤◌, length, take, drop};
-ghost use Rattle.text.specs.Text.{digit, decimal, hexDigit, hexByte};
-ghost use Rattle.text.specs.Parts.{isMore};
+ghost use Rattle.text.specs.Text.{digit, decimal, hex_digit, hex_byte};
+ghost use Rattle.text.specs.Parts.{is_more};
 ghost use Rattle.text.specs.Put.{Puts};
 
 // The decimal digits of the greatest u64.
@@ -39,7 +39,7 @@ pub fn put_decimal(n: u64, out: &mut [u8], at: usize) -> usize
 
 // A byte in hex, of two digits.
 pub fn put_hex(byte: u8, out: &mut [u8], at: usize) -> usize
-    ensures { Puts out.old at (hexByte byte) result out.new }
+    ensures { Puts out.old at (hex_byte byte) result out.new }
 {
     let next = put_byte(hex_digit(byte / 16), out, at);
     put_byte(hex_digit(byte % 16), out, next)
@@ -76,7 +76,7 @@ fn fill_digits(n: u64, places: &mut [u8]) -> usize
 
 // Whether a number has more digits than one, and places left for them.
 fn is_more(left: usize, n: u64) -> bool
-    ensures { result ≡ isMore left n }
+    ensures { result ≡ is_more left n }
 {
     if 1 < left {
         return 10 <= n;
@@ -92,7 +92,7 @@ fn last_digit(n: u64) -> u8
 
 fn hex_digit(n: u8) -> u8
     requires { n < 16 }
-    ensures { result ≡ hexDigit n }
+    ensures { result ≡ hex_digit n }
 {
     if n < 10 {
         return b'0' + n;

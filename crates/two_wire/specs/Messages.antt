@@ -1,39 +1,39 @@
 -- A message read against a sensor's state (02, A6): the sensor after it, or a refusal, after which nothing has changed.
 use Rattle.std.specs.Prelude.{◌≡◌, Bool, true, false, not, cond, List, [], ◌∷◌, ℕ, zero, suc, ◌+◌, ◌%◌, eqb, leb, get_or, replicate}
-use Rattle.refusal.specs.Refusal.{badState, shortMessage, wrongAddress, wrongIndex, wrongData, pastLastRegister}
+use Rattle.refusal.specs.Refusal.{bad_state, short_message, wrong_address, wrong_index, wrong_data, past_last_register}
 use Rattle.two_wire.specs.declared.Sensor.{Sensor}
 use Rattle.two_wire.specs.declared.Seen.{Seen}
 use Rattle.two_wire.specs.declared.MessageAnswer.{MessageAnswer}
 use Rattle.two_wire.specs.declared.MessageAnswer.TheVariants as answer
-use Rattle.message_data.specs.Registers.{registerCount, lastIndex, next, runsPast, reached, left, stored, someDiffers}
+use Rattle.message_data.specs.Registers.{register_count, last_index, next, runs_past, reached, left, stored, some_differs}
 
 -- registers, current index and increment flag, all 0 when fresh
 abbrev pub fresh : Sensor
-fresh = record { registers = replicate registerCount 0; index = 0; increment = false }
+fresh = record { registers = replicate register_count 0; index = 0; increment = false }
 
 -- the first byte of a write (hex 20) and of a read
-abbrev pub writeAddress : ℕ
-writeAddress = 32
+abbrev pub write_address : ℕ
+write_address = 32
 
 -- the first byte of a read
-abbrev pub readAddress : ℕ
-readAddress = 33
+abbrev pub read_address : ℕ
+read_address = 33
 
 -- the second byte: the index in its low seven bits, the increment flag in its top bit
-abbrev pub incrementBit : ℕ
-incrementBit = 128
+abbrev pub increment_bit : ℕ
+increment_bit = 128
 
 -- the second byte: the index, with the bit of increment
-abbrev pub indexByte : Bool → ℕ → ℕ
-indexByte increment i = cond increment (incrementBit + i) i
+abbrev pub index_byte : Bool → ℕ → ℕ
+index_byte increment i = cond increment (increment_bit + i) i
 
 -- the index in a second byte
-abbrev pub indexIn : ℕ → ℕ
-indexIn second = second % incrementBit
+abbrev pub index_in : ℕ → ℕ
+index_in second = second % increment_bit
 
 -- whether a second byte asks for increment
-abbrev pub incrementIn : ℕ → Bool
-incrementIn second = leb incrementBit second
+abbrev pub increment_in : ℕ → Bool
+increment_in second = leb increment_bit second
 
 -- what a message does: the sensor after it, or a refusal with its number
 pub data Acceptance : Type 0 where
@@ -41,68 +41,68 @@ pub data Acceptance : Type 0 where
   refused : ℕ → Acceptance
 
 -- the paper's number and values of each case of the program's answer, which comes beside the sensor
-abbrev pub acceptanceOf : MessageAnswer → Sensor → Acceptance
-acceptanceOf answer.Accepted s = accepted s
-acceptanceOf (answer.Refused n) s = refused n
+abbrev pub acceptance_of : MessageAnswer → Sensor → Acceptance
+acceptance_of answer.Accepted s = accepted s
+acceptance_of (answer.Refused n) s = refused n
 
 -- the sensor afterwards: a refused message changes nothing
-abbrev pub sensorAfter : Acceptance → Sensor → Sensor
-sensorAfter (accepted s) before = s
-sensorAfter (refused n) before = before
+abbrev pub sensor_after : Acceptance → Sensor → Sensor
+sensor_after (accepted s) before = s
+sensor_after (refused n) before = before
 
 -- what a call says of an outcome
 abbrev pub AnswersMessage : Acceptance → Sensor → Seen → Type 0
-AnswersMessage o before seen = (acceptanceOf seen.answer seen.sensor ≡ o) × (seen.sensor ≡ sensorAfter o before)
+AnswersMessage o before seen = (acceptance_of seen.answer seen.sensor ≡ o) × (seen.sensor ≡ sensor_after o before)
 
 -- a refusal where the test passes
-unfoldable pub refuseIf : Bool → ℕ → Acceptance → Acceptance
-refuseIf true n o = refused n
-refuseIf false n o = o
+unfoldable pub refuse_if : Bool → ℕ → Acceptance → Acceptance
+refuse_if true n o = refused n
+refuse_if false n o = o
 
 -- a write of data from an index on: 28, or the sensor with the data stored
-unfoldable pub writeData : Sensor → Bool → ℕ → List ℕ → Acceptance
-writeData s increment i bytes =
-    refuseIf (runsPast increment i bytes) pastLastRegister
+unfoldable pub write_data : Sensor → Bool → ℕ → List ℕ → Acceptance
+write_data s increment i bytes =
+    refuse_if (runs_past increment i bytes) past_last_register
     (accepted
     (record { registers = stored increment i bytes s.registers; index = left (reached increment i bytes); increment = increment }))
 
 -- a read of data at the current index: 27, 28, or the sensor with its index moved
-unfoldable pub readData : Sensor → List ℕ → Acceptance
-readData s bytes =
-    refuseIf (someDiffers s.increment s.index bytes s.registers) wrongData
-    (refuseIf (runsPast s.increment s.index bytes) pastLastRegister
+unfoldable pub read_data : Sensor → List ℕ → Acceptance
+read_data s bytes =
+    refuse_if (some_differs s.increment s.index bytes s.registers) wrong_data
+    (refuse_if (runs_past s.increment s.index bytes) past_last_register
     (accepted
     (record { registers = s.registers; index = left (reached s.increment s.index bytes); increment = s.increment })))
 
 -- a read: 26, or by its data
-unfoldable pub readBack : Sensor → ℕ → List ℕ → Acceptance
-readBack s second bytes = refuseIf (not (eqb second (indexByte s.increment s.index))) wrongIndex (readData s bytes)
+unfoldable pub read_back : Sensor → ℕ → List ℕ → Acceptance
+read_back s second bytes = refuse_if (not (eqb second (index_byte s.increment s.index))) wrong_index (read_data s bytes)
 
 -- by the address: a write, a read, or 25
 unfoldable pub addressed : Sensor → ℕ → ℕ → List ℕ → Acceptance
 addressed s address second bytes =
-    cond (eqb address writeAddress) (writeData s (incrementIn second) (indexIn second) bytes)
-    (cond (eqb address readAddress) (readBack s second bytes) (refused wrongAddress))
+    cond (eqb address write_address) (write_data s (increment_in second) (index_in second) bytes)
+    (cond (eqb address read_address) (read_back s second bytes) (refused wrong_address))
 
 -- by the length: 24, or address, second byte and data
-abbrev pub laidOut : Sensor → List ℕ → Acceptance
-laidOut s [] = refused shortMessage
-laidOut s (address ∷ []) = refused shortMessage
-laidOut s (address ∷ second ∷ bytes) = addressed s address second bytes
+abbrev pub laid_out : Sensor → List ℕ → Acceptance
+laid_out s [] = refused short_message
+laid_out s (address ∷ []) = refused short_message
+laid_out s (address ∷ second ∷ bytes) = addressed s address second bytes
 
 -- what a message, the list of its acknowledged bytes, does to a sensor
-unfoldable pub messageOn : Sensor → List ℕ → Acceptance
-messageOn s message = refuseIf (not (leb s.index lastIndex)) badState (laidOut s message)
+unfoldable pub message_on : Sensor → List ℕ → Acceptance
+message_on s message = refuse_if (not (leb s.index last_index)) bad_state (laid_out s message)
 
 -- the next message after an outcome: none follows a refusal
-abbrev pub nextMessage : Acceptance → List ℕ → Acceptance
-nextMessage (accepted s) message = messageOn s message
-nextMessage (refused n) message = refused n
+abbrev pub next_message : Acceptance → List ℕ → Acceptance
+next_message (accepted s) message = message_on s message
+next_message (refused n) message = refused n
 
 -- messages one after another
-abbrev pub messagesOn : List (List ℕ) → Acceptance → Acceptance
-messagesOn [] o = o
-messagesOn (m ∷ ms) o = messagesOn ms (nextMessage o m)
+abbrev pub messages_on : List (List ℕ) → Acceptance → Acceptance
+messages_on [] o = o
+messages_on (m ∷ ms) o = messages_on ms (next_message o m)
 
 -- What a sensor sends.
 
@@ -112,9 +112,9 @@ contents increment i registers zero = []
 contents increment i registers (suc n) = get_or registers i 0 ∷ contents increment (next increment i) registers n
 
 -- a read message of n data bytes made of the state itself
-abbrev pub readMessage : Sensor → ℕ → List ℕ
-readMessage s n =
-    readAddress ∷ indexByte s.increment s.index ∷ contents s.increment s.index s.registers n
+abbrev pub read_message : Sensor → ℕ → List ℕ
+read_message s n =
+    read_address ∷ index_byte s.increment s.index ∷ contents s.increment s.index s.registers n
 
 -- the index behind n data bytes, as increment says
 abbrev pub behind : Sensor → ℕ → ℕ
@@ -124,4 +124,4 @@ behind s n = cond s.increment (s.index + n) s.index
 
 -- a value to one register, without increment
 abbrev pub message : ℕ → ℕ → List ℕ
-message i v = writeAddress ∷ i ∷ v ∷ []
+message i v = write_address ∷ i ∷ v ∷ []

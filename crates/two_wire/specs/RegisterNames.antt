@@ -26,25 +26,25 @@ abbrev pub setup5 : ℕ
 setup5 = 21
 
 -- fine exposure, high byte
-abbrev pub fineHigh : ℕ
-fineHigh = 32
+abbrev pub fine_high : ℕ
+fine_high = 32
 
 -- fine exposure, low byte
-abbrev pub fineLow : ℕ
-fineLow = 33
+abbrev pub fine_low : ℕ
+fine_low = 33
 
 -- coarse exposure, high byte
-abbrev pub coarseHigh : ℕ
-coarseHigh = 34
+abbrev pub coarse_high : ℕ
+coarse_high = 34
 
 -- coarse exposure, low byte
-abbrev pub coarseLow : ℕ
-coarseLow = 35
+abbrev pub coarse_low : ℕ
+coarse_low = 35
 
 -- the gain code
 abbrev pub gain : ℕ
 gain = 36
 
 -- the clock divisor
-abbrev pub clockDivisor : ℕ
-clockDivisor = 37
+abbrev pub clock_divisor : ℕ
+clock_divisor = 37

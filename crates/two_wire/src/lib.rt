@@ -8,8 +8,8 @@
 pub mod register;
 
 ghost use Rattle.std.specs.Prelude.{◌≡◌, ◌≤◌};
-ghost use Rattle.message_data.specs.Registers.{lastIndex};
-ghost use Rattle.two_wire.specs.Messages.{fresh, indexByte, refused, AnswersMessage, writeData, readData, readBack, addressed, messageOn};
+ghost use Rattle.message_data.specs.Registers.{last_index};
+ghost use Rattle.two_wire.specs.Messages.{fresh, index_byte, refused, AnswersMessage, write_data, read_data, read_back, addressed, message_on};
 ghost use Rattle.two_wire.specs.declared.MessageAnswer.TheVariants as answer;
 
 use message_data::{left, runs_past, some_differs, store};
@@ -59,9 +59,9 @@ impl Sensor {
         }
     }
 
-    // The state after a message: `messageOn`.
+    // The state after a message: `message_on`.
     pub fn read(self, message: &[u8]) -> Seen
-        ensures { AnswersMessage (messageOn self message.now) self result }
+        ensures { AnswersMessage (message_on self message.now) self result }
     {
         let index = self.index;
         if LAST_INDEX < index {
@@ -75,7 +75,7 @@ impl Sensor {
 
     // By the address: a write, a read, or 25.
     fn addressed(self, address: u8, second: u8, bytes: &[u8]) -> Seen
-        requires { self.index ≤ lastIndex }
+        requires { self.index ≤ last_index }
         ensures { AnswersMessage (addressed self address second bytes.now) self result }
     {
         if address == WRITE_ADDRESS {
@@ -89,7 +89,7 @@ impl Sensor {
 
     // A write of data from an index on.
     fn write_data(self, increment: bool, index: u8, bytes: &[u8]) -> Seen
-        ensures { AnswersMessage (writeData self increment index bytes.now) self result }
+        ensures { AnswersMessage (write_data self increment index bytes.now) self result }
     {
         let mut registers = self.registers;
         if store(&mut registers, increment, index, bytes) {
@@ -101,8 +101,8 @@ impl Sensor {
 
     // A read at the current index.
     fn read_back(self, second: u8, bytes: &[u8]) -> Seen
-        requires { self.index ≤ lastIndex }
-        ensures { AnswersMessage (readBack self second bytes.now) self result }
+        requires { self.index ≤ last_index }
+        ensures { AnswersMessage (read_back self second bytes.now) self result }
     {
         let index = self.index;
         let increment = self.increment;
@@ -115,7 +115,7 @@ impl Sensor {
 
     // A read's data.
     fn read_data(self, bytes: &[u8]) -> Seen
-        ensures { AnswersMessage (readData self bytes.now) self result }
+        ensures { AnswersMessage (read_data self bytes.now) self result }
     {
         let registers = self.registers;
         let index = self.index;
@@ -160,8 +160,8 @@ fn accepted(registers: [u8; 128], index: u8, increment: bool) -> Seen
 
 // A message's second byte: the index, and the flag in its top bit.
 fn index_byte(increment: bool, index: u8) -> u8
-    requires { index ≤ lastIndex }
-    ensures { result ≡ indexByte increment index }
+    requires { index ≤ last_index }
+    ensures { result ≡ index_byte increment index }
 {
     if increment {
         return INCREMENT + index;

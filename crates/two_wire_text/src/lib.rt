@@ -6,9 +6,9 @@
 ghost use Rattle.std.specs.Prelude.{◌≡◌, ◌/◌, ◌<◌, length};
 ghost use Rattle.std.proofs.lemmas.List.Edits.{sets};
 ghost use Rattle.text.specs.Put.{Puts};
-ghost use Rattle.two_wire.specs.Messages.{messageOn, message};
-ghost use Rattle.two_wire_text.specs.Hex.{hexText, digitOf, charFits, isMessage, byte_of, bytes_of};
-ghost use Rattle.two_wire_text.specs.Explained.{messageText, messageSensor, TellsIn, TellsOutcome};
+ghost use Rattle.two_wire.specs.Messages.{message_on, message};
+ghost use Rattle.two_wire_text.specs.Hex.{hex_text, digit_of, char_fits, is_message, byte_of, bytes_of};
+ghost use Rattle.two_wire_text.specs.Explained.{message_text, message_sensor, TellsIn, TellsOutcome};
 
 use text::{put, put_hex};
 use two_wire::{MessageAnswer, Sensor};
@@ -25,7 +25,7 @@ const LONGEST: usize = 256;
 
 // The text for a message's line, as far as the buffer has room, and the state after it.
 pub fn explain(sensor: Sensor, line: &[u8], out: &mut [u8]) -> MessageTold
-    ensures { TellsIn (messageSensor sensor line.now) (messageText sensor line.now) out.old out.new result }
+    ensures { TellsIn (message_sensor sensor line.now) (message_text sensor line.now) out.old out.new result }
 {
     if LONGEST <= line.len() / 3 {
         let length = two_wire_words::put_refused(refusal::NO_ROOM, out);
@@ -37,7 +37,7 @@ pub fn explain(sensor: Sensor, line: &[u8], out: &mut [u8]) -> MessageTold
 }
 
 fn read_message(sensor: Sensor, bytes: &[u8], out: &mut [u8]) -> MessageTold
-    ensures { TellsOutcome (messageOn sensor bytes.now) sensor bytes.now out.old out.new result }
+    ensures { TellsOutcome (message_on sensor bytes.now) sensor bytes.now out.old out.new result }
 {
     let seen = sensor.read(bytes);
     let after = seen.sensor;
@@ -64,7 +64,7 @@ fn read_message(sensor: Sensor, bytes: &[u8], out: &mut [u8]) -> MessageTold
 
 // Whether a line is a message's.
 pub fn is_message(line: &[u8]) -> bool
-    ensures { result ≡ isMessage line.now }
+    ensures { result ≡ is_message line.now }
 {
     if line.len() % 3 == 2 {
         let mut i: usize = 0;
@@ -82,7 +82,7 @@ pub fn is_message(line: &[u8]) -> bool
 
 // Whether a character may stand at a place of a message's line.
 fn char_fits(place: usize, c: u8) -> bool
-    ensures { result ≡ charFits place c }
+    ensures { result ≡ char_fits place c }
 {
     if place % 3 == 2 {
         return c == b' ';
@@ -116,7 +116,7 @@ fn byte_of(a: u8, b: u8) -> u8
 
 // The number of a hex digit; 16 where it is none.
 fn digit(c: u8) -> u8
-    ensures { result ≡ digitOf c }
+    ensures { result ≡ digit_of c }
 {
     if c < b'0' {
         return 16;
@@ -143,7 +143,7 @@ fn digit(c: u8) -> u8
 
 // The message of a pair in hex, on a line of its own, put at a place, as far as there is room; the place after it.
 pub fn put_message(index: u8, value: u8, out: &mut [u8], at: usize) -> usize
-    ensures { Puts out.old at (hexText (message index value)) result out.new }
+    ensures { Puts out.old at (hex_text (message index value)) result out.new }
 {
     let a = put_hex(two_wire::WRITE_ADDRESS, out, at);
     let b = put(b" ", out, a);

@@ -2,44 +2,44 @@
 use Rattle.std.specs.Prelude.{◌≡◌, refl, Bool, true, false, cond, List, [], ◌∷◌, ◌++◌, ℕ, suc, ◌-◌, ◌<◌, ◌≤◌, eqb, length, get_or}
 use Rattle.std.proofs.Common.{arith, length-append}
 use Rattle.text.specs.Text.{ascii, space, decimal}
-use Rattle.text.specs.TextLaws.{decimal-short}
-use Rattle.refusal.specs.Refusal.{noRoom, shortMessage, wrongAddress, wrongIndex, wrongData, pastLastRegister}
-use Rattle.two_wire.specs.Messages.{writeAddress, indexIn}
-use Rattle.two_wire_words.specs.Words.{directionWord, acceptedText, refusalWords, refusedText}
+use Rattle.text.specs.TextLaws.{decimal_short}
+use Rattle.refusal.specs.Refusal.{no_room, short_message, wrong_address, wrong_index, wrong_data, past_last_register}
+use Rattle.two_wire.specs.Messages.{write_address, index_in}
+use Rattle.two_wire_words.specs.Words.{direction_word, accepted_text, refusal_words, refused_text}
 
 shorter : (t : Bool) (v w : List ℕ) (n : ℕ) → length v ≤ n → length w ≤ n → length (cond t v w) ≤ n
 shorter true v w n h g = h
 shorter false v w n h g = g
 
-pub direction-short : (address : ℕ) → length (directionWord address) ≤ 6
-unfolding directionWord
-direction-short address = shorter (eqb address writeAddress) _ _ 6 (omega arith) (omega arith)
+pub direction_short : (address : ℕ) → length (direction_word address) ≤ 6
+unfolding direction_word
+direction_short address = shorter (eqb address write_address) _ _ 6 (omega arith) (omega arith)
 
-pub accepted-short : (bytes : List ℕ) → length bytes < 2 → acceptedText bytes ≡ []
-unfolding acceptedText
-accepted-short [] h = refl
-accepted-short (a ∷ []) h = refl
-accepted-short (a ∷ b ∷ bytes) h = absurd (omega arith)
+pub accepted_short : (bytes : List ℕ) → length bytes < 2 → accepted_text bytes ≡ []
+unfolding accepted_text
+accepted_short [] h = refl
+accepted_short (a ∷ []) h = refl
+accepted_short (a ∷ b ∷ bytes) h = absurd (omega arith)
 
-pub accepted-parts : (bytes : List ℕ) → 2 ≤ length bytes
-    → acceptedText bytes
-    ≡ directionWord (get_or bytes 0 0) ++ (decimal (indexIn (get_or bytes 1 0)) ++ (space ∷ (decimal (length bytes - 2) ++ ascii " ok\n")))
-unfolding acceptedText
-accepted-parts [] h = absurd (omega arith)
-accepted-parts (a ∷ []) h = absurd (omega arith)
-accepted-parts (a ∷ b ∷ bytes) h =
+pub accepted_parts : (bytes : List ℕ) → 2 ≤ length bytes
+    → accepted_text bytes
+    ≡ direction_word (get_or bytes 0 0) ++ (decimal (index_in (get_or bytes 1 0)) ++ (space ∷ (decimal (length bytes - 2) ++ ascii " ok\n")))
+unfolding accepted_text
+accepted_parts [] h = absurd (omega arith)
+accepted_parts (a ∷ []) h = absurd (omega arith)
+accepted_parts (a ∷ b ∷ bytes) h =
     let e : suc (suc (length bytes)) - 2 ≡ length bytes = omega arith in
     rw e
 
-words-short : (n : ℕ) → length (refusalWords n) ≤ 31
-unfolding refusalWords
-words-short n =
-    shorter (eqb n noRoom) _ _ 31 (omega arith)
-    (shorter (eqb n shortMessage) _ _ 31 (omega arith)
-    (shorter (eqb n wrongAddress) _ _ 31 (omega arith)
-    (shorter (eqb n wrongIndex) _ _ 31 (omega arith)
-    (shorter (eqb n wrongData) _ _ 31 (omega arith) (shorter (eqb n pastLastRegister) _ _ 31 (omega arith) (omega arith))))))
+words_short : (n : ℕ) → length (refusal_words n) ≤ 31
+unfolding refusal_words
+words_short n =
+    shorter (eqb n no_room) _ _ 31 (omega arith)
+    (shorter (eqb n short_message) _ _ 31 (omega arith)
+    (shorter (eqb n wrong_address) _ _ 31 (omega arith)
+    (shorter (eqb n wrong_index) _ _ 31 (omega arith)
+    (shorter (eqb n wrong_data) _ _ 31 (omega arith) (shorter (eqb n past_last_register) _ _ 31 (omega arith) (omega arith))))))
 
-pub refused-short : (n : ℕ) → length (refusedText n) ≤ 64
-unfolding refusedText
-refused-short n = simp (length-append) (omega (arith, decimal-short n, words-short n))
+pub refused_short : (n : ℕ) → length (refused_text n) ≤ 64
+unfolding refused_text
+refused_short n = simp (length-append) (omega (arith, decimal_short n, words_short n))

@@ -3,13 +3,13 @@
 // In: an accepted message, or a refusal's number, and a lent buffer. Out: the text at the front of the buffer, as far as it has room, and its length.
 // Cost: constant.
 ghost use Rattle.text.specs.Put.{Puts};
-ghost use Rattle.two_wire_words.specs.Words.{directionWord, acceptedText, refusalWords, refusedText};
+ghost use Rattle.two_wire_words.specs.Words.{direction_word, accepted_text, refusal_words, refused_text};
 
 use text::{put, put_decimal};
 
 // An accepted message: its direction, index and count of data bytes.
 pub fn put_accepted(bytes: &[u8], out: &mut [u8]) -> usize
-    ensures { Puts out.old 0 (acceptedText bytes.now) result out.new }
+    ensures { Puts out.old 0 (accepted_text bytes.now) result out.new }
 {
     if bytes.len() < 2 {
         return 0;
@@ -22,7 +22,7 @@ pub fn put_accepted(bytes: &[u8], out: &mut [u8]) -> usize
 }
 
 fn put_direction(address: u8, out: &mut [u8], at: usize) -> usize
-    ensures { Puts out.old at (directionWord address) result out.new }
+    ensures { Puts out.old at (direction_word address) result out.new }
 {
     if address == two_wire::WRITE_ADDRESS {
         return put(b"WRITE ", out, at);
@@ -32,7 +32,7 @@ fn put_direction(address: u8, out: &mut [u8], at: usize) -> usize
 
 // A refusal: its number, and what it means.
 pub fn put_refused(number: u8, out: &mut [u8]) -> usize
-    ensures { Puts out.old 0 (refusedText number) result out.new }
+    ensures { Puts out.old 0 (refused_text number) result out.new }
 {
     let a = put(b"REFUSED ", out, 0);
     let b = put_decimal(number as u64, out, a);
@@ -41,7 +41,7 @@ pub fn put_refused(number: u8, out: &mut [u8]) -> usize
 
 // What a refusal means, to the line's end.
 fn put_words(number: u8, out: &mut [u8], at: usize) -> usize
-    ensures { Puts out.old at (refusalWords number) result out.new }
+    ensures { Puts out.old at (refusal_words number) result out.new }
 {
     if number == refusal::NO_ROOM {
         return put(b", longer than 256 bytes\n", out, at);

@@ -1,23 +1,23 @@
 -- Messages written from a list of index and value pairs (02, A6): each pair one message of 32, index without increment, value.
 use Rattle.std.specs.Prelude.{Bool, true, false, not, ◌||◌, cond, List, [], ◌∷◌, ◌++◌, ℕ, eqb, ltb}
-use Rattle.refusal.specs.Refusal.{shortMessage, pastLastRegister}
+use Rattle.refusal.specs.Refusal.{short_message, past_last_register}
 use Rattle.lent_buffer.specs.Filled.{Output, require, fitted}
-use Rattle.message_data.specs.Registers.{lastIndex}
+use Rattle.message_data.specs.Registers.{last_index}
 use Rattle.two_wire.specs.Messages.{message}
 
 -- A list of pairs is index, value, index, value, ..
 
 -- it ends within a pair
-abbrev pub endsWithinPair : List ℕ → Bool
-endsWithinPair [] = false
-endsWithinPair (i ∷ []) = true
-endsWithinPair (i ∷ v ∷ pairs) = endsWithinPair pairs
+abbrev pub ends_within_pair : List ℕ → Bool
+ends_within_pair [] = false
+ends_within_pair (i ∷ []) = true
+ends_within_pair (i ∷ v ∷ pairs) = ends_within_pair pairs
 
 -- some index is above 127
-abbrev pub someIndexPast : List ℕ → Bool
-someIndexPast [] = false
-someIndexPast (i ∷ []) = false
-someIndexPast (i ∷ v ∷ pairs) = ltb lastIndex i || someIndexPast pairs
+abbrev pub some_index_past : List ℕ → Bool
+some_index_past [] = false
+some_index_past (i ∷ []) = false
+some_index_past (i ∷ v ∷ pairs) = ltb last_index i || some_index_past pairs
 
 -- the messages of the pairs
 abbrev pub messages : List ℕ → List (List ℕ)
@@ -31,22 +31,22 @@ joined [] = []
 joined (m ∷ ms) = m ++ joined ms
 
 -- 24 where the list ends within a pair, then 28, then 12, or the messages; of the list and the room
-unfoldable pub writeOf : List ℕ → ℕ → Output
-writeOf pairs room =
-    require (not (endsWithinPair pairs)) shortMessage
-    (require (not (someIndexPast pairs)) pastLastRegister (fitted (joined (messages pairs)) room))
+unfoldable pub write_of : List ℕ → ℕ → Output
+write_of pairs room =
+    require (not (ends_within_pair pairs)) short_message
+    (require (not (some_index_past pairs)) past_last_register (fitted (joined (messages pairs)) room))
 
 -- Reading what was written.
 
 -- messages of three bytes, cut apart again
-abbrev pub inThrees : List ℕ → List (List ℕ)
-inThrees [] = []
-inThrees (a ∷ []) = []
-inThrees (a ∷ b ∷ []) = []
-inThrees (a ∷ b ∷ c ∷ bytes) = (a ∷ b ∷ c ∷ []) ∷ inThrees bytes
+abbrev pub in_threes : List ℕ → List (List ℕ)
+in_threes [] = []
+in_threes (a ∷ []) = []
+in_threes (a ∷ b ∷ []) = []
+in_threes (a ∷ b ∷ c ∷ bytes) = (a ∷ b ∷ c ∷ []) ∷ in_threes bytes
 
 -- the last value listed for a register; its own where none is
-abbrev pub lastListed : ℕ → List ℕ → ℕ → ℕ
-lastListed r [] own = own
-lastListed r (i ∷ []) own = own
-lastListed r (i ∷ v ∷ pairs) own = lastListed r pairs (cond (eqb i r) v own)
+abbrev pub last_listed : ℕ → List ℕ → ℕ → ℕ
+last_listed r [] own = own
+last_listed r (i ∷ []) own = own
+last_listed r (i ∷ v ∷ pairs) own = last_listed r pairs (cond (eqb i r) v own)

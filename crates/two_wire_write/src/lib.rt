@@ -8,13 +8,13 @@ ghost use Rattle.std.specs.Prelude.{◌≡◌, false, ◌+◌, ◌≤◌, length
 ghost use Rattle.std.proofs.lemmas.List.Edits.{sets};
 ghost use Rattle.lent_buffer.specs.Filled.{Gives};
 ghost use Rattle.two_wire.specs.Messages.{message};
-ghost use Rattle.two_wire_write.specs.Writing.{endsWithinPair, someIndexPast, messages, joined, writeOf};
+ghost use Rattle.two_wire_write.specs.Writing.{ends_within_pair, some_index_past, messages, joined, write_of};
 
 use lent_buffer::Filled;
 
-// Writes the messages of the pairs to the front of the buffer: `writeOf`. The answer is the length used, three bytes a pair.
+// Writes the messages of the pairs to the front of the buffer: `write_of`. The answer is the length used, three bytes a pair.
 pub fn write(pairs: &[u8], buffer: &mut [u8]) -> Filled
-    ensures { Gives (writeOf pairs.now (length buffer.old)) result buffer.old buffer.new }
+    ensures { Gives (write_of pairs.now (length buffer.old)) result buffer.old buffer.new }
 {
     if pairs.len() % 2 == 1 {
         return Filled::Refused(refusal::SHORT_MESSAGE);
@@ -31,8 +31,8 @@ pub fn write(pairs: &[u8], buffer: &mut [u8]) -> Filled
 
 // Whether an index of the pairs is above the last.
 fn some_index_past(pairs: &[u8]) -> bool
-    requires { endsWithinPair pairs.now ≡ false }
-    ensures { result ≡ someIndexPast pairs.now }
+    requires { ends_within_pair pairs.now ≡ false }
+    ensures { result ≡ some_index_past pairs.now }
 {
     let mut i: usize = 0;
     while i < pairs.len() {
@@ -46,7 +46,7 @@ fn some_index_past(pairs: &[u8]) -> bool
 
 // Stores the messages of the pairs, and gives the place after them.
 fn put_messages(pairs: &[u8], buffer: &mut [u8]) -> usize
-    requires { (endsWithinPair pairs.now ≡ false) × (length (joined (messages pairs.now)) ≤ length buffer.old) }
+    requires { (ends_within_pair pairs.now ≡ false) × (length (joined (messages pairs.now)) ≤ length buffer.old) }
     ensures { (result ≡ length (joined (messages pairs.now))) × (buffer.new ≡ sets buffer.old 0 (joined (messages pairs.now))) }
 {
     let mut at: usize = 0;

@@ -12,8 +12,8 @@
 // | setup3 | | 0 to 255 |
 // | setup5 | 0 to 255 | |
 ghost use Rattle.std.specs.Prelude.{◌≡◌, drop};
-ghost use Rattle.named_value.specs.Number.{valueIn};
-ghost use Rattle.typed_setting.specs.Setting.{single, double, gainCode, sharedSetting, settingVV5404, settingVV5300, setting_of};
+ghost use Rattle.named_value.specs.Number.{value_in};
+ghost use Rattle.typed_setting.specs.Setting.{single, double, gain_code, shared_setting, setting_vv5404, setting_vv5300, setting_of};
 
 use named_value::{begins, value};
 use profile::Profile;
@@ -54,7 +54,7 @@ pub fn read(profile: Profile, line: &[u8]) -> Setting
 }
 
 fn read_vv5404(line: &[u8]) -> Setting
-    ensures { result ≡ settingVV5404 line.now }
+    ensures { result ≡ setting_vv5404 line.now }
 {
     if begins(line, b"fine") {
         return double(
@@ -84,7 +84,7 @@ fn read_vv5404(line: &[u8]) -> Setting
 }
 
 fn read_vv5300(line: &[u8]) -> Setting
-    ensures { result ≡ settingVV5300 line.now }
+    ensures { result ≡ setting_vv5300 line.now }
 {
     if begins(line, b"fine") {
         return single(line, 4, register::FINE_LOW, FINE_LIMIT_VV5300);
@@ -103,7 +103,7 @@ fn read_vv5300(line: &[u8]) -> Setting
 
 // The settings that both sensors have.
 fn read_shared(line: &[u8]) -> Setting
-    ensures { result ≡ sharedSetting line.now }
+    ensures { result ≡ shared_setting line.now }
 {
     if begins(line, b"divisor") {
         return single(line, 7, register::CLOCK_DIVISOR, exposure::DIVISOR_LIMIT);
@@ -125,7 +125,7 @@ fn read_shared(line: &[u8]) -> Setting
 
 // A value of one byte, after a name of a length.
 fn single(line: &[u8], at: usize, index: u8, limit: u8) -> Setting
-    ensures { result ≡ single at index limit (valueIn (drop at line.now)) }
+    ensures { result ≡ single at index limit (value_in (drop at line.now)) }
 {
     let value = value(line, at);
     if (limit as u32) < value {
@@ -136,7 +136,7 @@ fn single(line: &[u8], at: usize, index: u8, limit: u8) -> Setting
 
 // A value of two bytes.
 fn double(line: &[u8], at: usize, high: u8, low: u8, limit: u16) -> Setting
-    ensures { result ≡ double at high low limit (valueIn (drop at line.now)) }
+    ensures { result ≡ double at high low limit (value_in (drop at line.now)) }
 {
     let value = value(line, at);
     if (limit as u32) < value {
@@ -147,7 +147,7 @@ fn double(line: &[u8], at: usize, high: u8, low: u8, limit: u16) -> Setting
 
 // A gain code of the VV5404.
 fn gain_code(value: u32) -> Setting
-    ensures { result ≡ gainCode value }
+    ensures { result ≡ gain_code value }
 {
     if exposure::is_gain(value) {
         return Setting::Single(register::GAIN, value as u8);

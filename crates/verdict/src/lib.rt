@@ -4,8 +4,8 @@
 // out of order in the whole capture. CHECK THE CLIP: a frame is complete, but something is out of order. NOT GOOD: marks, and no complete frame. NO
 // SIGNAL: no mark. Repaired codes and line periods don't change it. Nothing is refused. Cost: constant.
 ghost use Rattle.std.specs.Prelude.{◌≡◌};
-ghost use Rattle.stream.specs.Written.{mostText};
-ghost use Rattle.verdict.specs.Verdict.{isLost, inOrder, byFrames, verdictOf};
+ghost use Rattle.stream.specs.Written.{most_text};
+ghost use Rattle.verdict.specs.Verdict.{is_lost, in_order, by_frames, verdict_of};
 
 use findings::Findings;
 use profile::Profile;
@@ -24,7 +24,7 @@ pub enum Verdict {
 impl Verdict {
     // The verdict on a capture, of findings that are closed, and whether the signal was lost before the capture ended.
     pub fn of(findings: Findings, lost: bool) -> Verdict
-        ensures { result ≡ verdictOf findings lost }
+        ensures { result ≡ verdict_of findings lost }
     {
         let signal = findings.signal;
         let first = signal.first;
@@ -37,7 +37,7 @@ impl Verdict {
 }
 
 fn by_frames(findings: Findings, lost: bool) -> Verdict
-    ensures { result ≡ byFrames findings lost }
+    ensures { result ≡ by_frames findings lost }
 {
     let tally = findings.tally;
     if tally.complete == 0 {
@@ -51,7 +51,7 @@ fn by_frames(findings: Findings, lost: bool) -> Verdict
 
 // Whether nothing is out of order.
 pub fn in_order(findings: Findings, lost: bool) -> bool
-    ensures { result ≡ inOrder findings lost }
+    ensures { result ≡ in_order findings lost }
 {
     if lost {
         return false;
@@ -77,7 +77,7 @@ pub fn in_order(findings: Findings, lost: bool) -> bool
 // Whether a reader, at the end of a capture, has taken more nibbles since its last mark than a clean stream has between two marks: the signal
 // was lost before the capture ended.
 pub fn is_lost(head: Head) -> bool
-    ensures { result ≡ isLost head.profile head.at head.count }
+    ensures { result ≡ is_lost head.profile head.at head.count }
 {
     let at = head.at;
     match at {
@@ -92,7 +92,7 @@ pub fn is_lost(head: Head) -> bool
 // The most nibbles of a mark's text in a clean stream, before the next mark is complete: code, number and body, or code, two gap bytes and the most
 // nulls; and seven nibbles of the next mark.
 fn most_text(profile: Profile) -> u32
-    ensures { result ≡ mostText profile }
+    ensures { result ≡ most_text profile }
 {
     match profile {
         Profile::VV5404 => 725,

@@ -3,52 +3,52 @@
 use Rattle.std.specs.Prelude.{◌≡◌, refl, List, [], ◌∷◌, ◌++◌, ℕ, ◌+◌, ◌≤◌, length}
 use Rattle.std.proofs.Common.{◌∙◌, ap, sym, subst, append-nil, arith, lit≤, take_all}
 use Rattle.line_code.specs.declared.Kind.{Kind}
-use Rattle.line_code.specs.LineCode.{kindNumber}
+use Rattle.line_code.specs.LineCode.{kind_number}
 use Rattle.line_number.specs.LineNumber.{greatest}
 use Rattle.profile.specs.declared.Profile.{Profile}
 use Rattle.profile.specs.declared.Profile.TheVariants.{VV5404, VV5300}
-use Rattle.stream.specs.Written.{Sent, AllWritable, no_lines, and-line, stream}
-use Rattle.recovery.specs.Examples.{sample, sample-writable}
+use Rattle.stream.specs.Written.{Sent, AllWritable, no_lines_lem, and_line, stream}
+use Rattle.recovery.specs.Examples.{sample, sample_writable}
 use Rattle.frame_layout.specs.declared.Borders.{Borders}
-use Rattle.frame_layout.specs.FrameLayout.{layout, kindsOf, lastPlace}
-use Rattle.frame_judge.specs.Calls.{Line, line, IsFrame, numberedFrom}
-use Rattle.frame_layout.specs.FrameLength.{frame-length}
-use Rattle.frame_laws.specs.FrameLaws.{frame-counted}
-use Rattle.frame_laws.specs.SentFrames.{judgedLines, AllFrames, no_frames, and-frame}
+use Rattle.frame_layout.specs.FrameLayout.{layout, kinds_of, last_place}
+use Rattle.frame_judge.specs.Calls.{Line, line, IsFrame, numbered_from}
+use Rattle.frame_layout.specs.FrameLength.{frame_length}
+use Rattle.frame_laws.specs.FrameLaws.{frame_counted}
+use Rattle.frame_laws.specs.SentFrames.{judged_lines, AllFrames, no_frames, and_frame}
 use Rattle.verdict.specs.declared.Verdict.TheVariants.{Good}
-use Rattle.verdict_laws.specs.CleanCapture.{verdictOn}
-use Rattle.verdict_laws.specs.CleanCaptureLaws.{clean-good}
-use Rattle.verdict_laws.specs.LongEnough.{holds-first}
+use Rattle.verdict_laws.specs.CleanCapture.{verdict_on}
+use Rattle.verdict_laws.specs.CleanCaptureLaws.{clean_good}
+use Rattle.verdict_laws.specs.LongEnough.{holds_first}
 
 -- lines of these kinds, numbered on from n
-abbrev samplesFrom : Profile → ℕ → List Kind → List Sent
-samplesFrom p n [] = []
-samplesFrom p n (k ∷ ks) = sample p k n ∷ samplesFrom p (n + 1) ks
+abbrev samples_from : Profile → ℕ → List Kind → List Sent
+samples_from p n [] = []
+samples_from p n (k ∷ ks) = sample p k n ∷ samples_from p (n + 1) ks
 
 -- a frame of sample lines
-abbrev pub sampleFrame : Profile → Borders → List Sent
-sampleFrame p b = samplesFrom p 0 (kindsOf (layout p b))
+abbrev pub sample_frame : Profile → Borders → List Sent
+sample_frame p b = samples_from p 0 (kinds_of (layout p b))
 
-samples-judged : (p : Profile) (n : ℕ) (ks : List Kind) → judgedLines (samplesFrom p n ks) ≡ numberedFrom n ks
-samples-judged p n [] = refl
-samples-judged p n (k ∷ ks) = ap {B = List Line} (λ l. line (kindNumber k) n ∷ l) (samples-judged p (n + 1) ks)
+samples_judged : (p : Profile) (n : ℕ) (ks : List Kind) → judged_lines (samples_from p n ks) ≡ numbered_from n ks
+samples_judged p n [] = refl
+samples_judged p n (k ∷ ks) = ap {B = List Line} (λ l. line (kind_number k) n ∷ l) (samples_judged p (n + 1) ks)
 
-samples-writable : (p : Profile) (n : ℕ) (ks : List Kind) → n + length ks ≤ greatest → AllWritable p (samplesFrom p n ks)
-samples-writable p n [] h = no_lines
-samples-writable p n (k ∷ ks) h = and-line (sample-writable p k n (omega arith)) (samples-writable p (n + 1) ks (omega arith))
+samples_writable : (p : Profile) (n : ℕ) (ks : List Kind) → n + length ks ≤ greatest → AllWritable p (samples_from p n ks)
+samples_writable p n [] h = no_lines_lem
+samples_writable p n (k ∷ ks) h = and_line (sample_writable p k n (omega arith)) (samples_writable p (n + 1) ks (omega arith))
 
-numbers-small : (p : Profile) → 0 + (lastPlace p + 1) ≤ greatest
-numbers-small VV5404 = lit≤ tt
-numbers-small VV5300 = lit≤ tt
+numbers_small_lem : (p : Profile) → 0 + (last_place p + 1) ≤ greatest
+numbers_small_lem VV5404 = lit≤ tt
+numbers_small_lem VV5300 = lit≤ tt
 
-pub one-frame-good : (p : Profile) (b : Borders) → verdictOn p (stream (sampleFrame p b)) ≡ Good
-one-frame-good p b =
-    let ss : List Sent = sampleFrame p b in
-    let ks : List Kind = kindsOf (layout p b) in
+pub one_frame_good : (p : Profile) (b : Borders) → verdict_on p (stream (sample_frame p b)) ≡ Good
+one_frame_good p b =
+    let ss : List Sent = sample_frame p b in
+    let ks : List Kind = kinds_of (layout p b) in
     let n : ℕ = length (stream (ss ++ [])) in
-    let whole : AllFrames p (ss ∷ []) = and-frame b (subst (IsFrame p b) (sym (samples-judged p 0 ks)) (frame-counted p b)) no_frames in
-    let good : AllWritable p (ss ++ []) = subst (AllWritable p) (sym (append-nil ss)) (samples-writable p 0 ks (omega (arith, frame-length p b, numbers-small p))) in
+    let whole : AllFrames p (ss ∷ []) = and_frame b (subst (IsFrame p b) (sym (samples_judged p 0 ks)) (frame_counted p b)) no_frames in
+    let good : AllWritable p (ss ++ []) = subst (AllWritable p) (sym (append-nil ss)) (samples_writable p 0 ks (omega (arith, frame_length p b, numbers_small_lem p))) in
     let long : length (stream ss) ≤ n = (let e = ap (λ (x : List Sent). length (stream x)) (append-nil ss) in omega (arith, e)) in
-    ap (λ (x : List Sent). verdictOn p (stream x)) (sym (append-nil ss))
-    ∙ ap (verdictOn p) (sym (take_all n (stream (ss ++ [])) (omega arith)))
-    ∙ clean-good p whole good 0 n (holds-first p ss [] whole n long)
+    ap (λ (x : List Sent). verdict_on p (stream x)) (sym (append-nil ss))
+    ∙ ap (verdict_on p) (sym (take_all n (stream (ss ++ [])) (omega arith)))
+    ∙ clean_good p whole good 0 n (holds_first p ss [] whole n long)

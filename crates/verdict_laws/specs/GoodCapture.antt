@@ -5,23 +5,23 @@ use Rattle.frame_layout.specs.declared.Borders.{Borders}
 use Rattle.frame_judge.specs.declared.Judge.TheVariants.{Waiting}
 use Rattle.frame_judge.specs.declared.Ruling.{Ruling}
 use Rattle.frame_judge.specs.declared.Ruling.TheVariants as ruling
-use Rattle.frame_layout.specs.FrameLayout.{lastPlace}
+use Rattle.frame_layout.specs.FrameLayout.{last_place}
 use Rattle.frame_judge.specs.Calls.{Line, rulings, IsFrame}
 
 -- each ruling is Going
-abbrev pub isGoing : Ruling → Bool
-isGoing ruling.Waiting = false
-isGoing ruling.Going = true
-isGoing ruling.Complete = false
-isGoing (ruling.Refused refusal) = false
+abbrev pub is_going : Ruling → Bool
+is_going ruling.Waiting = false
+is_going ruling.Going = true
+is_going ruling.Complete = false
+is_going (ruling.Refused refusal) = false
 
 -- each ruling is Going
-abbrev pub allGoing : List Ruling → Bool
-allGoing [] = true
-allGoing (v ∷ vs) = isGoing v && allGoing vs
+abbrev pub all_going : List Ruling → Bool
+all_going [] = true
+all_going (v ∷ vs) = is_going v && all_going vs
 
 -- whole frames, each straight after the one before; then fewer lines than a frame has, each of which a judge that waits before them answers
 -- with Going
 pub data FrameByFrame (p : Profile) : List Line → Type 0 where
-  unfinished : (ls : List Line) → length ls ≤ lastPlace p → allGoing (rulings p Waiting ls) ≡ true → FrameByFrame p ls
-  frame-first : (b : Borders) (frame : List Line) {ls : List Line} → IsFrame p b frame → FrameByFrame p ls → FrameByFrame p (frame ++ ls)
+  unfinished : (ls : List Line) → length ls ≤ last_place p → all_going (rulings p Waiting ls) ≡ true → FrameByFrame p ls
+  frame_first : (b : Borders) (frame : List Line) {ls : List Line} → IsFrame p b frame → FrameByFrame p ls → FrameByFrame p (frame ++ ls)

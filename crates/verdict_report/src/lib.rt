@@ -5,7 +5,7 @@
 // Cost: linear in the report.
 ghost use Rattle.std.specs.Prelude.{length};
 ghost use Rattle.text.specs.Put.{Puts, AtFront};
-ghost use Rattle.verdict_report.specs.Report.{frameCounts, framesLines, lostLine, otherSensor, hintLine, noFrameLine, adviceLine, verdictLines, reportOf, reportIfRoom};
+ghost use Rattle.verdict_report.specs.Report.{frame_counts, frames_lines, lost_line, other_sensor, hint_line, no_frame_line, advice_line, verdict_lines, report_of, report_if_room};
 
 use findings::Findings;
 use profile::Profile;
@@ -19,7 +19,7 @@ pub const ROOM: usize = 2048;
 
 // Puts the report at the front of a buffer.
 pub fn put_report(findings: Findings, lost: bool, verdict: Verdict, out: &mut [u8]) -> usize
-    ensures { AtFront (reportIfRoom (length out.old) (reportOf findings lost verdict)) result out.old out.new }
+    ensures { AtFront (report_if_room (length out.old) (report_of findings lost verdict)) result out.old out.new }
 {
     if out.len() < ROOM {
         return 0;
@@ -37,7 +37,7 @@ pub fn put_report(findings: Findings, lost: bool, verdict: Verdict, out: &mut [u
 
 // The frames, and the lines outside them.
 fn put_frames(findings: Findings, out: &mut [u8]) -> usize
-    ensures { Puts out.old 0 (framesLines findings) result out.new }
+    ensures { Puts out.old 0 (frames_lines findings) result out.new }
 {
     let at = put_frame_counts(findings, out);
     let outside = findings.outside;
@@ -52,7 +52,7 @@ fn put_frames(findings: Findings, out: &mut [u8]) -> usize
 }
 
 fn put_frame_counts(findings: Findings, out: &mut [u8]) -> usize
-    ensures { Puts out.old 0 (frameCounts findings) result out.new }
+    ensures { Puts out.old 0 (frame_counts findings) result out.new }
 {
     let tally = findings.tally;
     let at = put(b"frames: ", out, 0);
@@ -65,7 +65,7 @@ fn put_frame_counts(findings: Findings, out: &mut [u8]) -> usize
 }
 
 fn put_lost(lost: bool, out: &mut [u8], at: usize) -> usize
-    ensures { Puts out.old at (lostLine lost) result out.new }
+    ensures { Puts out.old at (lost_line lost) result out.new }
 {
     if lost {
         return put(
@@ -79,7 +79,7 @@ fn put_lost(lost: bool, out: &mut [u8], at: usize) -> usize
 
 // Where marks were read and no line, and something is out of order: the capture may be the other sensor's.
 fn put_hint(profile: Profile, ordered: bool, signal: Signal, out: &mut [u8], at: usize) -> usize
-    ensures { Puts out.old at (hintLine profile ordered signal.lines signal.first) result out.new }
+    ensures { Puts out.old at (hint_line profile ordered signal.lines signal.first) result out.new }
 {
     if ordered {
         return at;
@@ -96,7 +96,7 @@ fn put_hint(profile: Profile, ordered: bool, signal: Signal, out: &mut [u8], at:
 }
 
 fn put_other_sensor(profile: Profile, out: &mut [u8], at: usize) -> usize
-    ensures { Puts out.old at (otherSensor profile) result out.new }
+    ensures { Puts out.old at (other_sensor profile) result out.new }
 {
     match profile {
         Profile::VV5404 => put(
@@ -114,7 +114,7 @@ fn put_other_sensor(profile: Profile, out: &mut [u8], at: usize) -> usize
 
 // What to do, and the verdict in the last line.
 fn put_verdict(verdict: Verdict, ordered: bool, out: &mut [u8], at: usize) -> usize
-    ensures { Puts out.old at (verdictLines verdict ordered) result out.new }
+    ensures { Puts out.old at (verdict_lines verdict ordered) result out.new }
 {
     let at = put_advice(verdict, ordered, out, at);
     match verdict {
@@ -126,7 +126,7 @@ fn put_verdict(verdict: Verdict, ordered: bool, out: &mut [u8], at: usize) -> us
 }
 
 fn put_advice(verdict: Verdict, ordered: bool, out: &mut [u8], at: usize) -> usize
-    ensures { Puts out.old at (adviceLine verdict ordered) result out.new }
+    ensures { Puts out.old at (advice_line verdict ordered) result out.new }
 {
     match verdict {
         Verdict::Good => at,
@@ -146,7 +146,7 @@ fn put_advice(verdict: Verdict, ordered: bool, out: &mut [u8], at: usize) -> usi
 
 // Where no frame is complete: a capture in which nothing is out of order is too short.
 fn put_no_frame(ordered: bool, out: &mut [u8], at: usize) -> usize
-    ensures { Puts out.old at (noFrameLine ordered) result out.new }
+    ensures { Puts out.old at (no_frame_line ordered) result out.new }
 {
     if ordered {
         return put(

@@ -5,9 +5,9 @@
 // it is refused, and the bytes around the bad place. Nothing is refused: a buffer of fewer than ROOM bytes stays as it was, and the count is 0.
 // The first MOST bytes are looked at, and what is longer is told as longer, with the reader's own number. Cost: linear in the bytes looked at.
 ghost use Rattle.std.specs.Prelude.{◌≡◌, ◌≤◌, ◌<◌, min, length, get_or};
-ghost use Rattle.profile.specs.Profile.{profileNumber};
+ghost use Rattle.profile.specs.Profile.{profile_number};
 ghost use Rattle.text.specs.Put.{Puts, AtFront};
-ghost use Rattle.why_line.specs.ReasonText.{nibblesBefore, reasonOfRun, reasonIn, code_in, markWords, badPlace, spacedHex, hexes, aroundBad, aroundWords, markLine, lineIfRoom};
+ghost use Rattle.why_line.specs.ReasonText.{nibbles_before, reason_of_run, reason_in, code_in, mark_words, bad_place, spaced_hex, hexes, around_bad, around_words, mark_line, line_if_room};
 
 use mark_finder::Located;
 use profile::Profile;
@@ -25,7 +25,7 @@ pub const ROOM: usize = 256;
 
 // Puts the line on a mark at the front of a buffer.
 pub fn tell(mark: Located, bytes: &[u8], out: &mut [u8]) -> usize
-    ensures { AtFront (lineIfRoom (length out.old) (markLine mark bytes.now)) result out.old out.new }
+    ensures { AtFront (line_if_room (length out.old) (mark_line mark bytes.now)) result out.old out.new }
 {
     if out.len() < ROOM {
         return 0;
@@ -34,7 +34,7 @@ pub fn tell(mark: Located, bytes: &[u8], out: &mut [u8]) -> usize
 }
 
 fn put_all(mark: Located, bytes: &[u8], out: &mut [u8]) -> usize
-    ensures { Puts out.old 0 (markLine mark bytes.now) result out.new }
+    ensures { Puts out.old 0 (mark_line mark bytes.now) result out.new }
 {
     let why = reason_in(mark, bytes);
     let code = code_in(mark.low, bytes);
@@ -49,7 +49,7 @@ fn put_all(mark: Located, bytes: &[u8], out: &mut [u8]) -> usize
 
 // The reason. A good mark that goes on beyond what is looked at is an end of line, since no line is that long.
 fn reason_in(mark: Located, bytes: &[u8]) -> Reason
-    ensures { result ≡ reasonIn mark bytes.now }
+    ensures { result ≡ reason_in mark bytes.now }
 {
     if bytes.len() <= MOST {
         return reason_of_run(mark, bytes);
@@ -62,7 +62,7 @@ fn reason_in(mark: Located, bytes: &[u8]) -> Reason
 
 // The reason, of the mark's nibbles that are looked at.
 fn reason_of_run(mark: Located, bytes: &[u8]) -> Reason
-    ensures { result ≡ reasonOfRun mark bytes.now }
+    ensures { result ≡ reason_of_run mark bytes.now }
 {
     let mut nibbles = [0u8; 2 * MOST];
     let n = 2 * capture_bytes::unpack(bytes, &mut nibbles);
@@ -74,7 +74,7 @@ fn reason_of_run(mark: Located, bytes: &[u8]) -> Reason
 
 // The paper's number of a profile.
 fn number_of(profile: Profile) -> u8
-    ensures { result ≡ profileNumber profile }
+    ensures { result ≡ profile_number profile }
 {
     match profile {
         Profile::VV5404 => 0,
@@ -104,7 +104,7 @@ fn byte_in(bytes: &[u8], i: usize) -> u8
 
 // The nibbles of the first byte that stand before the mark.
 fn nibbles_before(low: bool) -> usize
-    ensures { (result ≡ nibblesBefore low) × (result ≤ 1) }
+    ensures { (result ≡ nibbles_before low) × (result ≤ 1) }
 {
     if low {
         return 1;
@@ -122,7 +122,7 @@ fn lesser(a: usize, b: usize) -> usize
 }
 
 fn put_mark(number: u64, place: u64, out: &mut [u8]) -> usize
-    ensures { Puts out.old 0 (markWords number place) result out.new }
+    ensures { Puts out.old 0 (mark_words number place) result out.new }
 {
     let at = put(b"mark ", out, 0);
     let at = put_decimal(number, out, at);
@@ -133,7 +133,7 @@ fn put_mark(number: u64, place: u64, out: &mut [u8]) -> usize
 
 // The bad place, in nibbles from the mark's first; 0 where there is none.
 fn bad_place(profile: Profile, why: Reason) -> usize
-    ensures { (result ≡ badPlace profile why) × (result ≤ 8192) }
+    ensures { (result ≡ bad_place profile why) × (result ≤ 8192) }
 {
     match why {
         Reason::GoodLine => 0,
@@ -162,7 +162,7 @@ const BODY: usize = 12;
 // The bytes around the bad place, where there is one.
 fn put_around(bytes: &[u8], low: bool, bad: usize, out: &mut [u8], at: usize) -> usize
     requires { bad ≤ 8192 }
-    ensures { Puts out.old at (aroundWords bytes.now low bad) result out.new }
+    ensures { Puts out.old at (around_words bytes.now low bad) result out.new }
 {
     if 0 < bad {
         let n = nibbles_before(low) + bad;
@@ -177,7 +177,7 @@ fn put_around(bytes: &[u8], low: bool, bad: usize, out: &mut [u8], at: usize) ->
 // A byte in brackets, with some more, four before these and four after.
 fn put_bytes_around(bytes: &[u8], i: usize, more: usize, out: &mut [u8], at: usize) -> usize
     requires { (i < length bytes.now) × (i ≤ 8192) × (more ≤ 1) }
-    ensures { Puts out.old at (aroundBad bytes.now i more) result out.new }
+    ensures { Puts out.old at (around_bad bytes.now i more) result out.new }
 {
     let from = i - lesser(i, SHOWN);
     let end = lesser(bytes.len(), i + 1 + more);
@@ -207,7 +207,7 @@ fn put_bytes(bytes: &[u8], out: &mut [u8], at: usize) -> usize
 }
 
 fn put_spaced(byte: u8, out: &mut [u8], at: usize) -> usize
-    ensures { Puts out.old at (spacedHex byte) result out.new }
+    ensures { Puts out.old at (spaced_hex byte) result out.new }
 {
     let at = put(b" ", out, at);
     put_hex(byte, out, at)

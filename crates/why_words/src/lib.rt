@@ -3,7 +3,7 @@
 // In: what is known of a mark, a lent buffer and a place in it. Out: the words there, and the place after them. Nothing is refused: where the
 // buffer ends before the words do, the rest is left out. Cost: linear in the words.
 ghost use Rattle.text.specs.Put.{Puts};
-ghost use Rattle.why_words.specs.ReasonWords.{kindInWords, lineName, withLineName, sum_word, sumWords, damagedWords, reservedWords, unfinishedWords, lengthWords, badByteWords, endWords, countWords, longLineWords, answerWords, longGapWords, goodGapWords, refusedNumber, explainedWords};
+ghost use Rattle.why_words.specs.ReasonWords.{kind_in_words, line_name, with_line_name, sum_word, sum_words, damaged_words, reserved_words, unfinished_words, length_words, bad_byte_words, end_words, count_words, long_line_words, answer_words, long_gap_words, good_gap_words, refused_number, explained_words};
 
 use line_code::{Kind, LineKind};
 use reason::{FailedSums, Reason};
@@ -19,7 +19,7 @@ pub fn put_explained(
     out: &mut [u8],
     at: usize,
 ) -> usize
-    ensures { Puts out.old at (explainedWords cut refusal code why) result out.new }
+    ensures { Puts out.old at (explained_words cut refusal code why) result out.new }
 {
     match why {
         Reason::GoodLine => put_line(b"good ", code, out, at),
@@ -70,7 +70,7 @@ pub fn put_explained(
 
 // Words, and what a mark with this code begins.
 fn put_line(words: &[u8], code: u8, out: &mut [u8], at: usize) -> usize
-    ensures { Puts out.old at (withLineName words.now code) result out.new }
+    ensures { Puts out.old at (with_line_name words.now code) result out.new }
 {
     let at = put(words, out, at);
     let reading = line_code::read(code);
@@ -79,7 +79,7 @@ fn put_line(words: &[u8], code: u8, out: &mut [u8], at: usize) -> usize
 }
 
 fn put_line_name(kind: LineKind, out: &mut [u8], at: usize) -> usize
-    ensures { Puts out.old at (lineName kind) result out.new }
+    ensures { Puts out.old at (line_name kind) result out.new }
 {
     match kind {
         LineKind::NotLine => put(b"line", out, at),
@@ -88,7 +88,7 @@ fn put_line_name(kind: LineKind, out: &mut [u8], at: usize) -> usize
 }
 
 fn put_kind_in_words(kind: Kind, out: &mut [u8], at: usize) -> usize
-    ensures { Puts out.old at (kindInWords kind) result out.new }
+    ensures { Puts out.old at (kind_in_words kind) result out.new }
 {
     match kind {
         Kind::BL => put(b"blank line (BL)", out, at),
@@ -100,7 +100,7 @@ fn put_kind_in_words(kind: Kind, out: &mut [u8], at: usize) -> usize
 }
 
 fn put_good_gap(cut: bool, refusal: u8, out: &mut [u8], at: usize) -> usize
-    ensures { Puts out.old at (goodGapWords cut refusal) result out.new }
+    ensures { Puts out.old at (good_gap_words cut refusal) result out.new }
 {
     if cut {
         return put_long_gap(refusal, out, at);
@@ -110,7 +110,7 @@ fn put_good_gap(cut: bool, refusal: u8, out: &mut [u8], at: usize) -> usize
 
 // An end of line whose gap is longer than what is looked at.
 fn put_long_gap(refusal: u8, out: &mut [u8], at: usize) -> usize
-    ensures { Puts out.old at (longGapWords refusal) result out.new }
+    ensures { Puts out.old at (long_gap_words refusal) result out.new }
 {
     let at = put_answer(refusal, out, at);
     put(
@@ -122,7 +122,7 @@ fn put_long_gap(refusal: u8, out: &mut [u8], at: usize) -> usize
 
 // The reader's answer, before what it answers.
 fn put_answer(refusal: u8, out: &mut [u8], at: usize) -> usize
-    ensures { Puts out.old at (answerWords refusal) result out.new }
+    ensures { Puts out.old at (answer_words refusal) result out.new }
 {
     if refusal == 0 {
         return put(b"good ", out, at);
@@ -133,14 +133,14 @@ fn put_answer(refusal: u8, out: &mut [u8], at: usize) -> usize
 
 // A refusal's number alone.
 fn put_refused(refusal: u8, out: &mut [u8], at: usize) -> usize
-    ensures { Puts out.old at (refusedNumber refusal) result out.new }
+    ensures { Puts out.old at (refused_number refusal) result out.new }
 {
     let at = put(b"refused ", out, at);
     put_decimal(refusal as u64, out, at)
 }
 
 fn put_damaged(code: u8, sums: FailedSums, out: &mut [u8], at: usize) -> usize
-    ensures { Puts out.old at (damagedWords code sums) result out.new }
+    ensures { Puts out.old at (damaged_words code sums) result out.new }
 {
     let at = put(b"refused 1: damaged code ", out, at);
     let at = put_hex(code, out, at);
@@ -150,7 +150,7 @@ fn put_damaged(code: u8, sums: FailedSums, out: &mut [u8], at: usize) -> usize
 
 // The parity sums that fail.
 fn put_sums(sums: FailedSums, out: &mut [u8], at: usize) -> usize
-    ensures { Puts out.old at (sumWords sums) result out.new }
+    ensures { Puts out.old at (sum_words sums) result out.new }
 {
     let at = put_if(sums.p0, b" P0", out, at);
     let at = put_if(sums.p1, b" P1", out, at);
@@ -168,7 +168,7 @@ fn put_if(fails: bool, name: &[u8], out: &mut [u8], at: usize) -> usize
 }
 
 fn put_reserved(code: u8, out: &mut [u8], at: usize) -> usize
-    ensures { Puts out.old at (reservedWords code) result out.new }
+    ensures { Puts out.old at (reserved_words code) result out.new }
 {
     let at = put(b"refused 2: reserved code ", out, at);
     put_hex(code, out, at)
@@ -176,7 +176,7 @@ fn put_reserved(code: u8, out: &mut [u8], at: usize) -> usize
 
 // A line that the capture's end cuts off, or one longer than what is looked at.
 fn put_unfinished(cut: bool, refusal: u8, code: u8, out: &mut [u8], at: usize) -> usize
-    ensures { Puts out.old at (unfinishedWords cut refusal code) result out.new }
+    ensures { Puts out.old at (unfinished_words cut refusal code) result out.new }
 {
     if cut {
         return put_long_line(refusal, code, out, at);
@@ -186,7 +186,7 @@ fn put_unfinished(cut: bool, refusal: u8, code: u8, out: &mut [u8], at: usize) -
 }
 
 fn put_long_line(refusal: u8, code: u8, out: &mut [u8], at: usize) -> usize
-    ensures { Puts out.old at (longLineWords refusal code) result out.new }
+    ensures { Puts out.old at (long_line_words refusal code) result out.new }
 {
     let at = put_refused(refusal, out, at);
     let at = put_line(b": ", code, out, at);
@@ -198,7 +198,7 @@ fn put_long_line(refusal: u8, code: u8, out: &mut [u8], at: usize) -> usize
 }
 
 fn put_length(code: u8, found: u64, wanted: u64, out: &mut [u8], at: usize) -> usize
-    ensures { Puts out.old at (lengthWords code found wanted) result out.new }
+    ensures { Puts out.old at (length_words code found wanted) result out.new }
 {
     let at = put_line(b"refused 4: ", code, out, at);
     let at = put(b" of ", out, at);
@@ -218,7 +218,7 @@ fn put_bad_byte(
     out: &mut [u8],
     at: usize,
 ) -> usize
-    ensures { Puts out.old at (badByteWords words.now code place part.now byte) result out.new }
+    ensures { Puts out.old at (bad_byte_words words.now code place part.now byte) result out.new }
 {
     let at = put_line(words, code, out, at);
     let at = put(b", byte ", out, at);
@@ -228,7 +228,7 @@ fn put_bad_byte(
 }
 
 fn put_end(code: u8, next: u8, out: &mut [u8], at: usize) -> usize
-    ensures { Puts out.old at (endWords code next) result out.new }
+    ensures { Puts out.old at (end_words code next) result out.new }
 {
     let at = put_line(b"refused 7: ", code, out, at);
     let at = put(b", not ended: the next mark has the code ", out, at);
@@ -237,7 +237,7 @@ fn put_end(code: u8, next: u8, out: &mut [u8], at: usize) -> usize
 
 // A number among words.
 fn put_counted(words: &[u8], count: u64, rest: &[u8], out: &mut [u8], at: usize) -> usize
-    ensures { Puts out.old at (countWords words.now count rest.now) result out.new }
+    ensures { Puts out.old at (count_words words.now count rest.now) result out.new }
 {
     let at = put(words, out, at);
     let at = put_decimal(count, out, at);

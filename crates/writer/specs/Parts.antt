@@ -3,8 +3,8 @@ use Rattle.std.specs.Prelude.{◌≡◌, List, [], ◌∷◌, ◌++◌, ℕ, ◌
 use Rattle.std.proofs.lemmas.List.Edits.{sets}
 use Rattle.line_code.specs.declared.Kind.{Kind}
 use Rattle.line_code.specs.declared.Meaning.TheVariants.{EndOfLine, Line}
-use Rattle.line_code.specs.LineCode.{cleanByte}
-use Rattle.profile.specs.Profile.{nullByte}
+use Rattle.line_code.specs.LineCode.{clean_byte}
+use Rattle.profile.specs.Profile.{null_byte}
 use Rattle.stream.specs.Written.{nibbles}
 
 -- the buffer has room for the nibbles of the bytes from a place on
@@ -18,10 +18,10 @@ pub record PutNibbles (bytes before : List ℕ) (at next : ℕ) (after : List �
   pub stored : after ≡ sets before at (nibbles bytes)
 
 -- F F F F 0 0 and a code byte, as bytes
-abbrev pub markBytes : ℕ → List ℕ
-markBytes code = 0xFF ∷ 0xFF ∷ 0x00 ∷ code ∷ []
+abbrev pub mark_bytes : ℕ → List ℕ
+mark_bytes code = 0xFF ∷ 0xFF ∷ 0x00 ∷ code ∷ []
 
 -- a line as bytes: of its kind, its two number bytes, its body, its two gap bytes and how many null bytes
-abbrev pub lineBytes : Kind → ℕ → ℕ → List ℕ → ℕ → ℕ → ℕ → List ℕ
-lineBytes k high low body a b nulls =
-    markBytes (cleanByte (Line k)) ++ ((high ∷ low ∷ []) ++ (body ++ (markBytes (cleanByte EndOfLine) ++ ((a ∷ b ∷ []) ++ replicate nulls nullByte))))
+abbrev pub line_bytes : Kind → ℕ → ℕ → List ℕ → ℕ → ℕ → ℕ → List ℕ
+line_bytes k high low body a b nulls =
+    mark_bytes (clean_byte (Line k)) ++ ((high ∷ low ∷ []) ++ (body ++ (mark_bytes (clean_byte EndOfLine) ++ ((a ∷ b ∷ []) ++ replicate nulls null_byte))))

@@ -6,10 +6,10 @@
 // written: 11 profile, 13 kind, 14 number, 15 length of the body, 16 body or gap byte, 17 more than 255 nulls, 12 room.
 // Cost: linear in what is written.
 ghost use Rattle.std.specs.Prelude.{[], ◌∷◌, ◌+◌, ◌*◌, ◌≤◌, length, replicate};
-ghost use Rattle.profile.specs.Profile.{nullByte};
+ghost use Rattle.profile.specs.Profile.{null_byte};
 ghost use Rattle.lent_buffer.specs.Filled.{Gives};
-ghost use Rattle.writer.specs.Writer.{around, writeOf};
-ghost use Rattle.writer.specs.Parts.{Room, PutNibbles, markBytes, lineBytes};
+ghost use Rattle.writer.specs.Writer.{around, write_of};
+ghost use Rattle.writer.specs.Parts.{Room, PutNibbles, mark_bytes, line_bytes};
 
 use allowed_bytes::has_bad_byte;
 use lent_buffer::Filled;
@@ -23,7 +23,7 @@ const MOST_NULLS: u32 = 255;
 // The nibbles around a body: two marks of eight, the number's two bytes and the gap's.
 const AROUND: usize = 24;
 
-// Writes a line's nibbles to the front of the buffer: `writeOf`. First and second are the gap bytes. The answer is how many nibbles.
+// Writes a line's nibbles to the front of the buffer: `write_of`. First and second are the gap bytes. The answer is how many nibbles.
 pub fn write(
     profile: u8,
     kind: u8,
@@ -34,7 +34,7 @@ pub fn write(
     nulls: u32,
     buffer: &mut [u8],
 ) -> Filled
-    ensures { Gives (writeOf profile kind number body.now first second nulls (length buffer.old)) result buffer.old buffer.new }
+    ensures { Gives (write_of profile kind number body.now first second nulls (length buffer.old)) result buffer.old buffer.new }
 {
     let Numbered::Profile(p) = Profile::numbered(profile) else {
         return Filled::Refused(refusal::BAD_STATE);
@@ -75,7 +75,7 @@ fn put_line(
     buffer: &mut [u8],
 ) -> usize
     requires { around + 2 * length body.now + 2 * nulls ≤ length buffer.old }
-    ensures { PutNibbles (lineBytes kind high low body.now first second nulls) buffer.old 0 result buffer.new }
+    ensures { PutNibbles (line_bytes kind high low body.now first second nulls) buffer.old 0 result buffer.new }
 {
     let number_at = put_mark(kind.clean_byte(), 0, buffer);
     let body_at = put_two(high, low, number_at, buffer);
@@ -87,8 +87,8 @@ fn put_line(
 
 // F F F F 0 0 and a code byte.
 fn put_mark(code: u8, at: usize, buffer: &mut [u8]) -> usize
-    requires { Room (markBytes code) buffer.old at }
-    ensures { PutNibbles (markBytes code) buffer.old at result buffer.new }
+    requires { Room (mark_bytes code) buffer.old at }
+    ensures { PutNibbles (mark_bytes code) buffer.old at result buffer.new }
 {
     let next = put_two(0xFF, 0xFF, at, buffer);
     put_two(0x00, code, next, buffer)
@@ -116,8 +116,8 @@ fn put_bytes(bytes: &[u8], at: usize, buffer: &mut [u8]) -> usize
 }
 
 fn put_nulls(count: usize, at: usize, buffer: &mut [u8]) -> usize
-    requires { Room (replicate count nullByte) buffer.old at }
-    ensures { PutNibbles (replicate count nullByte) buffer.old at result buffer.new }
+    requires { Room (replicate count null_byte) buffer.old at }
+    ensures { PutNibbles (replicate count null_byte) buffer.old at result buffer.new }
 {
     let mut place = at;
     let mut done: usize = 0;

@@ -4,7 +4,7 @@ use Prim.Native.Nat.{◌-◌, ◌≤◌}
 use native.Mathlib.Omega.{arith}
 use borrow.Author.Rules.{rules}
 use Rattle.capture_bytes.specs.Packed.{NoneBegins}
-use Rattle.capture_bytes.proofs.Blocks.{none-begins, begins-more}
+use Rattle.capture_bytes.proofs.Blocks.{none_begins, begins_more}
 use Rattle.capture_bytes.proofs.beginnings.Statement.{statement}
 use Rattle.capture_bytes.proofs.beginnings.Tie as tie
 
@@ -15,10 +15,10 @@ abbrev decreases-loop : tie.decreases-loop
 decreases-loop bytes i n count₀ k₀ count k = n - k
 
 loop-holds : tie.Need-loop-init invariant-loop decreases-loop
-loop-holds c = (omega arith, omega arith, λ e. none-begins c.before.args.bytes.now c.before.args.i)
+loop-holds c = (omega arith, omega arith, λ e. none_begins c.before.args.bytes.now c.before.args.i)
 
-add-count : tie.Need-overflow-add-count invariant-loop decreases-loop
-add-count c = omega (arith, c.may-begin.ensures.0, c.before.before.before.before.loop.invariant.0, c.before.before.before.before.loop.invariant.1)
+add_count : tie.Need-overflow-add-count invariant-loop decreases-loop
+add_count c = omega (arith, c.may-begin.ensures.0, c.before.before.before.before.loop.invariant.0, c.before.before.before.before.loop.invariant.1)
 
 loop-again : tie.Need-loop-preserved invariant-loop decreases-loop
 loop-again c =
@@ -27,7 +27,7 @@ loop-again c =
     let e = c.may-begin.ensures in (
       omega arith,
       omega (arith, e.0, l.invariant.1),
-      λ z. begins-more a.bytes.now a.i l.k (l.invariant.2 (omega arith)) (e.1 (omega arith)),
+      λ z. begins_more a.bytes.now a.i l.k (l.invariant.2 (omega arith)) (e.1 (omega arith)),
     )
 
 returns : tie.Need-returns invariant-loop decreases-loop
@@ -36,8 +36,8 @@ returns c =
     let a = c.before.before.before.args in
     λ e. subst (NoneBegins a.bytes.now a.i) (let z : l.k ≡ a.n = omega arith in z) (l.invariant.2 e)
 
-pub beginnings-spec : {M : Type 1} → statement M
-beginnings-spec =
+pub beginnings_spec : {M : Type 1} → statement M
+beginnings_spec =
     tie.close
     (tie.spec
     invariant-loop
@@ -49,7 +49,7 @@ beginnings-spec =
     (λ c. search rules)
     (λ c. search rules)
     (λ c κs. search rules)
-    add-count
+    add_count
     (λ c. search rules)
     (λ c. search rules)
     loop-again

@@ -11,5 +11,5 @@ returns c = subst Byte (sym c.enum_told.given.1) tt
 returns-2 : tie.Need-returns-2
 returns-2 c = subst Byte (sym c.before.at.given.1) (search rules)
 
-pub code-is-byte-spec : {M : Type 1} → statement M
-code-is-byte-spec = tie.close (tie.spec (λ c. search rules) (λ c. search rules) returns returns-2)
+pub code_is_byte_spec : {M : Type 1} → statement M
+code_is_byte_spec = tie.close (tie.spec (λ c. search rules) (λ c. search rules) returns returns-2)

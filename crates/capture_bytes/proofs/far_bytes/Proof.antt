@@ -4,7 +4,7 @@ use Prim.Native.Nat.{◌+◌, ◌-◌, ◌≤◌}
 use native.Mathlib.Omega.{arith}
 use borrow.Author.Rules.{rules}
 use Rattle.capture_bytes.specs.Packed.{NoneBegins}
-use Rattle.capture_bytes.proofs.Blocks.{none-begins, begins-on}
+use Rattle.capture_bytes.proofs.Blocks.{none_begins, begins_on}
 use Rattle.capture_bytes.proofs.far_bytes.Statement.{statement}
 use Rattle.capture_bytes.proofs.far_bytes.Tie as tie
 
@@ -15,14 +15,14 @@ abbrev decreases-loop : tie.decreases-loop
 decreases-loop bytes i most n₀ block₀ n block = most - n + block
 
 loop-holds : tie.Need-loop-init invariant-loop decreases-loop
-loop-holds c = (omega arith, omega arith, none-begins c.before.args.bytes.now c.before.args.i)
+loop-holds c = (omega arith, omega arith, none_begins c.before.args.bytes.now c.before.args.i)
 
 fits : (c : tie.Then1 invariant-loop decreases-loop) → let l = c.before.before.before.loop in
     l.block ≤ c.before.before.before.before.before.args.most - l.n
 fits c = (c.before.is-far.ensures c.if1.true).0
 
-add-n : tie.Need-overflow-add-n invariant-loop decreases-loop
-add-n c = omega (arith, fits c)
+add_n : tie.Need-overflow-add-n invariant-loop decreases-loop
+add_n c = omega (arith, fits c)
 
 loop-less : tie.Need-loop-smaller invariant-loop decreases-loop
 loop-less c = omega (arith, fits c)
@@ -31,7 +31,7 @@ loop-again : tie.Need-loop-preserved invariant-loop decreases-loop
 loop-again c =
     let a = c.before.before.before.before.before.args in
     let l = c.before.before.before.loop in
-    (omega (arith, fits c), l.invariant.1, begins-on (a.i + l.n) l.invariant.2 (c.before.is-far.ensures c.if1.true).1 refl)
+    (omega (arith, fits c), l.invariant.1, begins_on (a.i + l.n) l.invariant.2 (c.before.is-far.ensures c.if1.true).1 refl)
 
 loop-again-2 : tie.Need-loop-preserved-2 invariant-loop decreases-loop
 loop-again-2 c = let l = c.before.before.before.loop in (l.invariant.0, omega (arith, l.invariant.1), l.invariant.2)
@@ -39,8 +39,8 @@ loop-again-2 c = let l = c.before.before.before.loop in (l.invariant.0, omega (a
 returns : tie.Need-returns invariant-loop decreases-loop
 returns c = let l = c.before.loop in (l.invariant.0, l.invariant.2)
 
-pub far-bytes-spec : {M : Type 1} → statement M
-far-bytes-spec =
+pub far_bytes_spec : {M : Type 1} → statement M
+far_bytes_spec =
     tie.close
     (tie.spec
     invariant-loop
@@ -49,7 +49,7 @@ far-bytes-spec =
     (λ c. search rules)
     (λ c. search rules)
     (λ c κs. search rules)
-    add-n
+    add_n
     loop-less
     loop-again
     (λ c. search rules)

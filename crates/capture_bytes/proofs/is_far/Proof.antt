@@ -12,5 +12,5 @@ returns c = λ e. absurd (true≢false (sym e))
 returns-2 : tie.Need-returns-2
 returns-2 c = λ e. (search rules, c.beginnings.ensures (eqb-true _ _ e))
 
-pub is-far-spec : {M : Type 1} → statement M
-is-far-spec = tie.close (tie.spec returns (λ c κs. search rules) returns-2)
+pub is_far_spec : {M : Type 1} → statement M
+is_far_spec = tie.close (tie.spec returns (λ c κs. search rules) returns-2)

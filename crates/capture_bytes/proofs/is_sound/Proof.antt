@@ -11,5 +11,5 @@ returns c = (c.before.before.passes.ensures, subst Byte (sym c.enum_told.given.1
 returns-2 : tie.Need-returns-2
 returns-2 c = (c.before.before.before.passes.ensures, subst Byte (sym c.before.at.given.1) (search rules))
 
-pub is-sound-spec : {M : Type 1} → statement M
-is-sound-spec = tie.close (tie.spec (λ c κs. search rules) (λ c. search rules) (λ c. search rules) returns returns-2)
+pub is_sound_spec : {M : Type 1} → statement M
+is_sound_spec = tie.close (tie.spec (λ c κs. search rules) (λ c. search rules) (λ c. search rules) returns returns-2)

@@ -14,5 +14,5 @@ returns-2 c = (search rules, λ e. inr (search rules))
 returns-3 : tie.Need-returns-3
 returns-3 c = (search rules, λ e. inl (search rules))
 
-pub may-begin-spec : {M : Type 1} → statement M
-may-begin-spec = tie.close (tie.spec returns returns-2 returns-3)
+pub may_begin_spec : {M : Type 1} → statement M
+may_begin_spec = tie.close (tie.spec returns returns-2 returns-3)

@@ -4,7 +4,7 @@ use Prim.Native.Nat.{ℕ, ◌<◌}
 use native.Mathlib.Omega.{arith}
 use lib.ListN.{get_or}
 use borrow.Author.Rules.{rules}
-use Rattle.capture_bytes.proofs.Blocks.{quiet-far, quiet-null}
+use Rattle.capture_bytes.proofs.Blocks.{quiet_far, quiet_null}
 use Rattle.capture_bytes.proofs.quiet_bytes.Statement.{statement}
 use Rattle.capture_bytes.proofs.quiet_bytes.Tie as tie
 
@@ -21,7 +21,7 @@ returns-5 c =
     let e = c.far-bytes.ensures in
     let m = stray.before.before.lesser.ensures in (
       omega (arith, e.0, m),
-      λ l. quiet-far a.bytes.now known a.h a.at c.far-bytes.result tested.before.if1.false (omega (arith, e.0, m, tested.if2.false))
+      λ l. quiet_far a.bytes.now known a.h a.at c.far-bytes.result tested.before.if1.false (omega (arith, e.0, m, tested.if2.false))
           (shown.if3.false ∙ shown.before.before.word.ensures) stray.if4.true
           (c.before.before.may-begin.ensures.1 (omega (arith, c.before.if5.false))) e.1,
     )
@@ -35,12 +35,12 @@ returns-6 c =
     let e = c.null-bytes.ensures in
     let m = c.before.before.before.before.before.lesser.ensures in (
       omega (arith, e.0, m),
-      λ l. quiet-null a.bytes.now known a.h a.at c.null-bytes.result tested.before.if1.false (omega (arith, e.0, m, tested.if2.false))
+      λ l. quiet_null a.bytes.now known a.h a.at c.null-bytes.result tested.before.if1.false (omega (arith, e.0, m, tested.if2.false))
           (shown.if3.false ∙ shown.before.before.word.ensures) (c.before.before.is-null.ensures c.before.if6.true).1 e.1,
     )
 
-pub quiet-bytes-spec : {M : Type 1} → statement M
-quiet-bytes-spec =
+pub quiet_bytes_spec : {M : Type 1} → statement M
+quiet_bytes_spec =
     tie.close
     (tie.spec
     (λ c. (search rules, λ l. absurd (none l)))

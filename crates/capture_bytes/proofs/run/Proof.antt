@@ -5,7 +5,7 @@ use Prim.Native.Nat.{ℕ, ◌-◌, ◌*◌, ◌≤◌, ◌<◌}
 use native.Mathlib.Omega.{arith}
 use lib.ListN.{length, get_or}
 use borrow.Author.Rules.{rules}
-use Rattle.capture_bytes.proofs.Portions.{Upto, start, upto-on, still-within, portion-within, next-turn, last_turn, turn-less}
+use Rattle.capture_bytes.proofs.Portions.{Upto, start, upto_on, still_within, portion_within, next_turn, last_turn, turn_less}
 use Rattle.capture_bytes.proofs.run.Statement.{statement}
 use Rattle.capture_bytes.proofs.run.Tie as tie
 
@@ -21,8 +21,8 @@ decreases-loop body₀ bytes from line₀ head₀ at₀ most₀ body line head a
 loop-holds : tie.Need-loop-init invariant-loop decreases-loop
 loop-holds c = (start _ _ _ _ _ c.code-is-byte.ensures, refl, refl, omega arith, omega arith, omega arith)
 
-add-lesser : tie.Need-overflow-add-lesser invariant-loop decreases-loop
-add-lesser c =
+add_lesser : tie.Need-overflow-add-lesser invariant-loop decreases-loop
+add_lesser c =
     let l = c.loop in
     let start = c.before.before.before.before.before in
     omega (arith, start.well-formed.1.1.0.1, l.invariant.0.forward, l.invariant.4, l.invariant.5, start.ranges.from)
@@ -38,7 +38,7 @@ add_at c =
     let known : (i : ℕ) → get_or a.bytes.now i 0 < 256 = λ i. (turn.before.before.before.shared-slice-known.given i).fits in
     let end = n.lesser.result in
     let within : end ≤ length a.bytes.now = omega (arith, n.lesser.ensures) in
-    omega (arith, portion-within l.invariant.0 known end within, run.run-portion.ensures.count, start.well-formed.1.1.0.1, l.invariant.0.forward, l.invariant.5, start.ranges.from)
+    omega (arith, portion_within l.invariant.0 known end within, run.run-portion.ensures.count, start.well-formed.1.1.0.1, l.invariant.0.forward, l.invariant.5, start.ranges.from)
 
 loop-less : tie.Need-loop-smaller invariant-loop decreases-loop
 loop-less c =
@@ -52,7 +52,7 @@ loop-less c =
     let end = n.lesser.result in
     let within : end ≤ length a.bytes.now = omega (arith, n.lesser.ensures) in
     let p = run.run-portion in
-    let less = turn-less l.invariant.0 known end within p.ensures p.auto.1.0 on.before.goes_on.ensures on.if1.true (λ h. omega (arith, h, n.lesser.ensures, l.invariant.3)) in
+    let less = turn_less l.invariant.0 known end within p.ensures p.auto.1.0 on.before.goes_on.ensures on.if1.true (λ h. omega (arith, h, n.lesser.ensures, l.invariant.3)) in
     omega (arith, less, c.before.before.before.before.skip.ensures.from_on)
 
 loop-again : tie.Need-loop-preserved invariant-loop decreases-loop
@@ -69,18 +69,18 @@ loop-again c =
     let p = run.run-portion in
     let k = c.before.before.before.before.skip.ensures in
     let size = c.before.portion-size.ensures in
-    let u = next-turn l.invariant.0 known end within p.ensures p.auto.1.0 on.before.goes_on.ensures on.if1.true in (
-      upto-on u k,
+    let u = next_turn l.invariant.0 known end within p.ensures p.auto.1.0 on.before.goes_on.ensures on.if1.true in (
+      upto_on u k,
       k.same_length ∙ p.auto.1.0 ∙ l.invariant.1,
       p.auto.1.1.1.1.1.0 ∙ l.invariant.2,
       size.0,
       size.1,
-      still-within a.from l.at p.result.taken _ (2 * length a.bytes.now) l.invariant.0.forward l.invariant.5
-          (omega (arith, portion-within l.invariant.0 known end within, p.ensures.count)) k.from_on k.within,
+      still_within a.from l.at p.result.taken _ (2 * length a.bytes.now) l.invariant.0.forward l.invariant.5
+          (omega (arith, portion_within l.invariant.0 known end within, p.ensures.count)) k.from_on k.within,
     )
 
-sub-t26 : tie.Need-overflow-sub-t26 invariant-loop decreases-loop
-sub-t26 c = let l = c.before.before.before.before.before.before.before.before.before.before.before.before.loop in omega (arith, l.invariant.0.forward)
+sub_t26 : tie.Need-overflow-sub-t26 invariant-loop decreases-loop
+sub_t26 c = let l = c.before.before.before.before.before.before.before.before.before.before.before.before.loop in omega (arith, l.invariant.0.forward)
 
 returns : tie.Need-returns invariant-loop decreases-loop
 returns c =
@@ -103,7 +103,7 @@ run_spec =
     decreases-loop
     (λ c κs. search rules)
     loop-holds
-    add-lesser
+    add_lesser
     (λ c κs. search rules)
     (λ c κs. search rules)
     add_at
@@ -112,7 +112,7 @@ run_spec =
     (λ c κs. search rules)
     loop-less
     loop-again
-    sub-t26
+    sub_t26
     (λ c. search rules)
     (λ c. search rules)
     returns)

@@ -6,11 +6,11 @@ use Prim.Native.Nat.{ℕ, ◌-◌, ◌*◌, ◌%◌, ◌≤◌, min}
 use native.Mathlib.Omega.{arith}
 use lib.ListN.{length, take, drop, length-take, length-drop}
 use lib.Seq.{length-take-le, take_all}
-use Rattle.run.specs.Run.{lentRunOf}
+use Rattle.run.specs.Run.{lent_run_of}
 use Rattle.stream.specs.Written.{nibbles}
 use Rattle.capture_bytes.specs.Unpacked.{unpacked}
-use Rattle.stream.specs.NibblesLaws.{nibbles-length}
-use Rattle.capture_bytes.specs.UnpackedLaws.{front-nibbles, portion-bytes, drop-most}
+use Rattle.stream.specs.NibblesLaws.{nibbles_length}
+use Rattle.capture_bytes.specs.UnpackedLaws.{front_nibbles, portion_bytes, drop_most}
 use Rattle.capture_bytes.proofs.Portions.{gives_as}
 use borrow.Author.Rules.{rules}
 use Rattle.capture_bytes.proofs.run_portion.Statement.{statement}
@@ -18,23 +18,23 @@ use Rattle.capture_bytes.proofs.run_portion.Tie as tie
 
 -- all of the bytes are taken apart
 whole : (bs d w : List ℕ) (r : ℕ) → r ≡ length bs → w ≡ unpacked bs d r → take (2 * r) w ≡ nibbles bs
-whole bs d w r e f = ap (take (2 * r)) f ∙ front-nibbles bs r (omega arith) d ∙ ap nibbles (take_all r bs (omega arith))
+whole bs d w r e f = ap (take (2 * r)) f ∙ front_nibbles bs r (omega arith) d ∙ ap nibbles (take_all r bs (omega arith))
 
 part_length : (bs : List ℕ) (first end : ℕ) → end ≤ length bs → length (take (end - first) (drop first bs)) ≡ end - first
 part_length bs first end h = length-take (end - first) (drop first bs) ∙ (let e = length-drop first bs in omega arith)
 
-slice-aggregate-all : tie.Need-slice-aggregate-all
-slice-aggregate-all c =
+slice_aggregate_all : tie.Need-slice-aggregate-all
+slice_aggregate_all c =
     let given = c.before.before.before.before.before.before.before.before.before.requires in
     let a = c.before.before.before.before.before.before.before.before.before.args in
     let n = part_length a.bytes.now c.before.before.before.before.before.lesser.result a.end given.0 in
     sym (length-take-le _ _ (omega (arith, c.before.before.unpack.ensures.0, c.before.before.unpack.auto.1.0, n)))
 
-sub-run-lent : tie.Need-overflow-sub-run-lent
-sub-run-lent c = omega (arith, slice-aggregate-all c.before.before, c.before.lesser2.ensures)
+sub_run_lent : tie.Need-overflow-sub-run-lent
+sub_run_lent c = omega (arith, slice_aggregate_all c.before.before, c.before.lesser2.ensures)
 
-part-run-lent-start : tie.Need-slice-bounds-run-lent-start
-part-run-lent-start c = omega (arith, slice-aggregate-all c.before.before, c.before.lesser2.ensures)
+part_run_lent_start : tie.Need-slice-bounds-run-lent-start
+part_run_lent_start c = omega (arith, slice_aggregate_all c.before.before, c.before.lesser2.ensures)
 
 returns : tie.Need-returns
 returns c =
@@ -50,16 +50,16 @@ returns c =
     let n = part_length bs first a.end p.0 in
     let k : unpack.result ≡ length part = omega (arith, u.0, n, p.1, lesser.ensures) in
     let all = whole part _ _ unpack.result k u.1 in
-    let skipped : lesser2.result ≡ min (a.at % 2) (length (nibbles part)) = omega (arith, lesser2.ensures, nibbles-length part, k) in
+    let skipped : lesser2.result ≡ min (a.at % 2) (length (nibbles part)) = omega (arith, lesser2.ensures, nibbles_length part, k) in
     let rest = ap₂ (λ (v : List ℕ) (i : ℕ). take (length v - i) (drop i v)) all skipped
     ∙ take_all (length (nibbles part) - min (a.at % 2) (length (nibbles part))) (drop (min (a.at % 2) (length (nibbles part))) (nibbles part))
     (omega (arith, length-drop (min (a.at % 2) (length (nibbles part))) (nibbles part)))
-    ∙ drop-most (a.at % 2) (nibbles part)
-    ∙ sym (portion-bytes bs a.at a.end first p.0 lesser.ensures) in
-    gives_as (ap (λ (v : List ℕ). lentRunOf a.h a.body.now v (length a.line.now)) rest) c.before.before.before.before.run_lent.ensures
+    ∙ drop_most (a.at % 2) (nibbles part)
+    ∙ sym (portion_bytes bs a.at a.end first p.0 lesser.ensures) in
+    gives_as (ap (λ (v : List ℕ). lent_run_of a.h a.body.now v (length a.line.now)) rest) c.before.before.before.before.run_lent.ensures
 
-pub run-portion-spec : {M : Type 1} → statement M
-run-portion-spec =
+pub run_portion_spec : {M : Type 1} → statement M
+run_portion_spec =
     tie.close
     (tie.spec
     (λ c κs. search rules)
@@ -70,10 +70,10 @@ run-portion-spec =
     (λ c κs. search rules)
     (λ c. search rules)
     (λ c. search rules)
-    slice-aggregate-all
+    slice_aggregate_all
     (λ c κs. search rules)
-    sub-run-lent
-    part-run-lent-start
+    sub_run_lent
+    part_run_lent_start
     (λ c. search rules)
     (λ c κs. search rules)
     (λ c. search rules)

@@ -4,14 +4,14 @@ use native.Mathlib.Omega.{arith}
 use lib.ListN.{get_or}
 use borrow.Author.Rules.{rules}
 use Rattle.stream.specs.Written.{nibbles}
-use Rattle.stream.specs.NibblesLaws.{nibbles-length}
+use Rattle.stream.specs.NibblesLaws.{nibbles_length}
 use Rattle.capture_bytes.specs.Packed.{Quiet}
-use Rattle.capture_bytes.proofs.Blocks.{leads-here, past-quiet}
+use Rattle.capture_bytes.proofs.Blocks.{leads_here, past_quiet}
 use Rattle.capture_bytes.proofs.skip_past.Statement.{statement}
 use Rattle.capture_bytes.proofs.skip_past.Tie as tie
 
 returns : tie.Need-returns
-returns c = let a = c.before.before.before.args in λ body. leads-here (nibbles a.bytes.now) a.h body a.at
+returns c = let a = c.before.before.before.args in λ body. leads_here (nibbles a.bytes.now) a.h body a.at
 
 there : (c : tie.Else1) → let a = c.before.before.before.args in Quiet a.h (nibbles a.bytes.now) a.at c.before.quiet-bytes.result
 there c = c.before.quiet-bytes.ensures.1 (omega (arith, c.if1.false))
@@ -19,15 +19,15 @@ there c = c.before.quiet-bytes.ensures.1 (omega (arith, c.if1.false))
 sub_word : tie.Need-overflow-sub-word
 sub_word c = omega (arith, (there c.before.before.before).behind)
 
-word-requires : tie.Need-word-requires
-word-requires c κs =
+word_requires : tie.Need-word-requires
+word_requires c κs =
     let q = there c.before.before.before in
-    (omega (arith, q.behind, q.up_to, nibbles-length c.before.before.before.before.before.before.args.bytes.now), omega arith)
+    (omega (arith, q.behind, q.up_to, nibbles_length c.before.before.before.before.before.before.args.bytes.now), omega arith)
 
-add-next : tie.Need-overflow-add-next
-add-next c =
+add_next : tie.Need-overflow-add-next
+add_next c =
     let start = c.before.before.before.before.before.before.before in
-    omega (arith, (there c.before.before.before.before).up_to, nibbles-length start.args.bytes.now, start.well-formed.1.0.1)
+    omega (arith, (there c.before.before.before.before).up_to, nibbles_length start.args.bytes.now, start.well-formed.1.0.1)
 
 returns-2 : tie.Need-returns-2
 returns-2 c =
@@ -35,10 +35,10 @@ returns-2 c =
     let a = quiet.before.before.before.args in
     let known : (i : ℕ) → get_or a.bytes.now i 0 < 256 = λ i. (quiet.before.before.shared-slice-known.given i).fits in
     let pre = quiet.before.before.before.requires in
-    λ body. past-quiet a.bytes.now known (there quiet) body _ _ pre.0 pre.1 c.before.lesser.ensures c.word.ensures
+    λ body. past_quiet a.bytes.now known (there quiet) body _ _ pre.0 pre.1 c.before.lesser.ensures c.word.ensures
 
-pub skip-past-spec : {M : Type 1} → statement M
-skip-past-spec =
+pub skip_past_spec : {M : Type 1} → statement M
+skip_past_spec =
     tie.close
     (tie.spec
     (λ c κs. search rules)
@@ -50,7 +50,7 @@ skip-past-spec =
     (λ c. search rules)
     sub_word
     (λ c. search rules)
-    word-requires
+    word_requires
     (λ c. search rules)
-    add-next
+    add_next
     returns-2)

@@ -4,7 +4,7 @@ use Prim.Native.Nat.{◌-◌, ◌≤◌}
 use native.Mathlib.Omega.{arith}
 use borrow.Author.Rules.{rules}
 use Rattle.capture_bytes.specs.Packed.{AllNull}
-use Rattle.capture_bytes.proofs.Blocks.{none-null-yet, nulls-more}
+use Rattle.capture_bytes.proofs.Blocks.{none_null_yet, nulls_more}
 use Rattle.capture_bytes.proofs.strays.Statement.{statement}
 use Rattle.capture_bytes.proofs.strays.Tie as tie
 
@@ -15,10 +15,10 @@ abbrev decreases-loop : tie.decreases-loop
 decreases-loop bytes i n count₀ k₀ count k = n - k
 
 loop-holds : tie.Need-loop-init invariant-loop decreases-loop
-loop-holds c = (omega arith, omega arith, λ e. none-null-yet c.before.args.bytes.now c.before.args.i)
+loop-holds c = (omega arith, omega arith, λ e. none_null_yet c.before.args.bytes.now c.before.args.i)
 
-add-count : tie.Need-overflow-add-count invariant-loop decreases-loop
-add-count c = omega (arith, c.stray.ensures.0, c.before.before.before.loop.invariant.0, c.before.before.before.loop.invariant.1)
+add_count : tie.Need-overflow-add-count invariant-loop decreases-loop
+add_count c = omega (arith, c.stray.ensures.0, c.before.before.before.loop.invariant.0, c.before.before.before.loop.invariant.1)
 
 loop-again : tie.Need-loop-preserved invariant-loop decreases-loop
 loop-again c =
@@ -27,7 +27,7 @@ loop-again c =
     let e = c.stray.ensures in (
       omega arith,
       omega (arith, e.0, l.invariant.1),
-      λ z. nulls-more a.bytes.now a.i l.k (l.invariant.2 (omega arith)) (e.1 (omega arith)),
+      λ z. nulls_more a.bytes.now a.i l.k (l.invariant.2 (omega arith)) (e.1 (omega arith)),
     )
 
 returns : tie.Need-returns invariant-loop decreases-loop
@@ -36,8 +36,8 @@ returns c =
     let a = c.before.before.before.args in
     λ e. subst (AllNull a.bytes.now a.i) (let z : l.k ≡ a.n = omega arith in z) (l.invariant.2 e)
 
-pub strays-spec : {M : Type 1} → statement M
-strays-spec =
+pub strays_spec : {M : Type 1} → statement M
+strays_spec =
     tie.close
     (tie.spec
     invariant-loop
@@ -46,7 +46,7 @@ strays-spec =
     (λ c. search rules)
     (λ c. search rules)
     (λ c κs. search rules)
-    add-count
+    add_count
     (λ c. search rules)
     (λ c. search rules)
     loop-again

@@ -7,7 +7,7 @@ use lib.ListN.{length, length-set}
 use lib.Seq.{lt-length-set}
 use borrow.Author.Rules.{rules}
 use Rattle.capture_bytes.specs.Unpacked.{unpacked}
-use Rattle.capture_bytes.specs.UnpackedLaws.{unpack-next}
+use Rattle.capture_bytes.specs.UnpackedLaws.{unpack_next}
 use Rattle.capture_bytes.proofs.unpack.Statement.{statement}
 use Rattle.capture_bytes.proofs.unpack.Tie as tie
 
@@ -20,8 +20,8 @@ decreases-loop bytes to₀ n i₀ to i = n - i
 loop-holds : tie.Need-loop-init invariant-loop decreases-loop
 loop-holds c = let e = c.lesser.ensures in (omega arith, omega (arith, e), omega (arith, e), refl, refl)
 
-slice-write-to-2 : tie.Need-slice-write-to-2 invariant-loop decreases-loop
-slice-write-to-2 c = let l = c.before.before.loop in lt-length-set l.to (2 * l.i) _ (omega arith)
+slice_write_to_2 : tie.Need-slice-write-to-2 invariant-loop decreases-loop
+slice_write_to_2 c = let l = c.before.before.loop in lt-length-set l.to (2 * l.i) _ (omega arith)
 
 loop-again : tie.Need-loop-preserved invariant-loop decreases-loop
 loop-again c =
@@ -31,7 +31,7 @@ loop-again c =
       omega arith,
       l.invariant.1,
       simp length-set l.invariant.2,
-      simp l.invariant.3 (unpack-next a.bytes.now a.to.now l.i (omega arith) (omega (arith, l.invariant.2, l.invariant.4, t))),
+      simp l.invariant.3 (unpack_next a.bytes.now a.to.now l.i (omega arith) (omega (arith, l.invariant.2, l.invariant.4, t))),
       simp length-set l.invariant.4,
     )
 
@@ -47,8 +47,8 @@ returns c =
       l.invariant.3 ∙ ap (unpacked a.bytes.now a.to.now) (le_antisymm l.invariant.0 c.loop-test.false),
     )
 
-pub unpack-spec : {M : Type 1} → statement M
-unpack-spec =
+pub unpack_spec : {M : Type 1} → statement M
+unpack_spec =
     tie.close
     (tie.spec
     invariant-loop
@@ -60,7 +60,7 @@ unpack-spec =
     (λ c. search rules)
     (λ c. search rules)
     (λ c. search rules)
-    slice-write-to-2
+    slice_write_to_2
     (λ c. search rules)
     (λ c. search rules)
     loop-again

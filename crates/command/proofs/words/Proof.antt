@@ -6,5 +6,5 @@ use Rattle.command.proofs.words.Tie as tie
 returns : tie.Need-returns
 returns c = record { count = _; all = c.words-below.ensures }
 
-pub words-spec : {M : Type 1} → statement M
-words-spec = tie.close (tie.spec (λ c κs. search rules) (λ c κs. search rules) returns)
+pub words_spec : {M : Type 1} → statement M
+words_spec = tie.close (tie.spec (λ c κs. search rules) (λ c κs. search rules) returns)

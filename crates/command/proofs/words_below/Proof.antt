@@ -2,7 +2,7 @@
 use Prim.Native.Nat.{◌-◌, ◌≤◌}
 use native.Mathlib.Omega.{arith}
 use borrow.Author.Rules.{rules}
-use Rattle.command.specs.ArgumentsLaws.{ReadBelow, none_read, one-read, all_read}
+use Rattle.command.specs.ArgumentsLaws.{ReadBelow, none_read, one_read, all_read}
 use Rattle.command.proofs.words_below.Statement.{statement}
 use Rattle.command.proofs.words_below.Tie as tie
 
@@ -19,7 +19,7 @@ loop-again : tie.Need-loop-preserved invariant-loop decreases-loop
 loop-again c =
     let read = c.before.before.before.before in
     let test = read.before.before.before in (
-      one-read _ _ _ _ _ _ test.before.loop.invariant.0 c.before.meaning.ensures c.with.ensures,
+      one_read _ _ _ _ _ _ test.before.loop.invariant.0 c.before.meaning.ensures c.with.ensures,
       omega (arith, test.loop-test.true, test.before.loop.invariant.1),
     )
 
@@ -28,8 +28,8 @@ returns c =
     let test = c.before in
     all_read _ _ _ _ _ test.before.loop.invariant.0 test.before.loop.invariant.1 test.loop-test.false c.end.ensures
 
-pub words-below-spec : {M : Type 1} → statement M
-words-below-spec =
+pub words_below_spec : {M : Type 1} → statement M
+words_below_spec =
     tie.close
     (tie.spec
     invariant-loop

@@ -6,7 +6,7 @@ use borrow.Author.Rules.{rules}
 use borrow.Author.Tests.{eq-eqb, ne_eqb}
 use lib.ListN.{length, get_or, drop, drop_of_length-le}
 use Rattle.command_word.specs.Word.{same}
-use Rattle.command_word.specs.WordLaws.{same_step, same-lengths}
+use Rattle.command_word.specs.WordLaws.{same_step, same_lengths}
 use Rattle.command_word.proofs.is.Statement.{statement}
 use Rattle.command_word.proofs.is.Tie as tie
 
@@ -17,7 +17,7 @@ abbrev decreases-loop : tie.decreases-loop
 decreases-loop text that i₀ i = length text - i
 
 returns : tie.Need-returns invariant-loop decreases-loop
-returns c = simp (same-lengths c.before.args.text.now c.before.args.that.now c.if1.true)
+returns c = simp (same_lengths c.before.args.text.now c.before.args.that.now c.if1.true)
 
 loop-holds : tie.Need-loop-init invariant-loop decreases-loop
 loop-holds c = (c.if1.false, refl)
@@ -59,8 +59,8 @@ returns-3 c =
       drop_of_length-le that {i = turn.loop.i} (omega (arith, turn.loop.invariant.0, c.loop-test.false)),
     )
 
-pub is-spec : {M : Type 1} → statement M
-is-spec =
+pub is_spec : {M : Type 1} → statement M
+is_spec =
     tie.close
     (tie.spec
     invariant-loop

@@ -4,13 +4,13 @@ use Prim.Native.Nat.{◌-◌}
 use borrow.Author.Rules.{rules}
 use borrow.Author.Tests.{lt-ltb, le-ltb}
 use lib.ListN.{length, drop, drop_of_length-le}
-use Rattle.command_word.specs.Word.{markOnto}
-use Rattle.command_word.specs.WordLaws.{mark-step}
+use Rattle.command_word.specs.Word.{mark_onto}
+use Rattle.command_word.specs.WordLaws.{mark_step}
 use Rattle.command_word.proofs.mark_in.Statement.{statement}
 use Rattle.command_word.proofs.mark_in.Tie as tie
 
 abbrev invariant-loop : tie.invariant-loop
-invariant-loop text mark₀ i₀ mark i = markOnto 0 text ≡ markOnto mark (drop i text)
+invariant-loop text mark₀ i₀ mark i = mark_onto 0 text ≡ mark_onto mark (drop i text)
 
 abbrev decreases-loop : tie.decreases-loop
 decreases-loop text mark₀ i₀ mark i = length text - i
@@ -21,7 +21,7 @@ returns c =
     let turn = test.before in
     simp (
       turn.loop.invariant,
-      mark-step turn.loop.mark turn.before.args.text.now turn.loop.i test.loop-test.true,
+      mark_step turn.loop.mark turn.before.args.text.now turn.loop.i test.loop-test.true,
       lt-ltb _ _ c.if1.true,
     )
 
@@ -31,7 +31,7 @@ returns-2 c =
     let turn = test.before in
     simp (
       turn.loop.invariant,
-      mark-step turn.loop.mark turn.before.args.text.now turn.loop.i test.loop-test.true,
+      mark_step turn.loop.mark turn.before.args.text.now turn.loop.i test.loop-test.true,
       le-ltb _ _ c.before.if1.false,
       lt-ltb _ _ c.if2.true,
     )
@@ -42,7 +42,7 @@ returns-3 c =
     let turn = test.before in
     simp (
       turn.loop.invariant,
-      mark-step turn.loop.mark turn.before.args.text.now turn.loop.i test.loop-test.true,
+      mark_step turn.loop.mark turn.before.args.text.now turn.loop.i test.loop-test.true,
       le-ltb _ _ c.before.before.if1.false,
       le-ltb _ _ c.before.if2.false,
       lt-ltb _ _ c.if3.true,
@@ -53,7 +53,7 @@ loop-again c =
     let test = c.before.before.before.before in
     let turn = test.before in
     turn.loop.invariant
-    ∙ mark-step turn.loop.mark turn.before.args.text.now turn.loop.i test.loop-test.true
+    ∙ mark_step turn.loop.mark turn.before.args.text.now turn.loop.i test.loop-test.true
     ∙ simp (le-ltb _ _ c.before.before.if1.false, le-ltb _ _ c.before.if2.false, le-ltb _ _ c.if3.false)
 
 returns-4 : tie.Need-returns-4 invariant-loop decreases-loop
@@ -61,8 +61,8 @@ returns-4 c =
     let turn = c.before in
     simp (turn.loop.invariant, drop_of_length-le turn.before.args.text.now c.loop-test.false)
 
-pub mark-in-spec : {M : Type 1} → statement M
-mark-in-spec =
+pub mark_in_spec : {M : Type 1} → statement M
+mark_in_spec =
     tie.close
     (tie.spec
     invariant-loop

@@ -44,8 +44,8 @@ returns-4 c =
     )
     c.other-meaning.ensures
 
-pub meaning-spec : {M : Type 1} → statement M
-meaning-spec =
+pub meaning_spec : {M : Type 1} → statement M
+meaning_spec =
     tie.close
     (tie.spec
     (λ c. search rules)

@@ -5,7 +5,7 @@ use native.Mathlib.Omega.{arith}
 use lib.ListN.{length, length-drop}
 use lib.Seq.{length-take-le}
 use borrow.Author.Rules.{rules}
-use Rattle.line_records.specs.LinesLaws.{lent-from-is}
+use Rattle.line_records.specs.LinesLaws.{lent_from_is}
 use Rattle.compare.proofs.all_rows.Statement.{statement}
 use Rattle.compare.proofs.all_rows.Tie as tie
 
@@ -15,38 +15,38 @@ invariant-loop fd first second i₀ j₀ i j = (i ≤ length first) × (j ≤ le
 abbrev decreases-loop : tie.decreases-loop
 decreases-loop fd first second i₀ j₀ i j = (length first - i) + (length second - j)
 
-add-if1 : tie.Need-overflow-add-if1 invariant-loop decreases-loop
-add-if1 c =
+add_if1 : tie.Need-overflow-add-if1 invariant-loop decreases-loop
+add_if1 c =
     let piece = c.before.before in
     let turn = piece.before.before.before.before in
     let start = turn.before.before.before in
     let l = turn.loop in
     let a = start.args in
-    omega (arith, piece.next-rows.ensures.first-inside, piece.next-rows.ensures.second-inside, ap length (lent-from-is a.first.now l.i), ap length (lent-from-is a.second.now l.j), length-drop l.i a.first.now, length-drop l.j a.second.now, start.well-formed.1.0.1, start.well-formed.1.1.0.1)
+    omega (arith, piece.next-rows.ensures.first_inside, piece.next-rows.ensures.second_inside, ap length (lent_from_is a.first.now l.i), ap length (lent_from_is a.second.now l.j), length-drop l.i a.first.now, length-drop l.j a.second.now, start.well-formed.1.0.1, start.well-formed.1.1.0.1)
 
-array-share-prefix-rows : tie.Need-array-share-prefix-rows invariant-loop decreases-loop
-array-share-prefix-rows c = omega (arith, c.before.before.before.next-rows.ensures.rows.place)
+array_share_prefix_rows : tie.Need-array-share-prefix-rows invariant-loop decreases-loop
+array_share_prefix_rows c = omega (arith, c.before.before.before.next-rows.ensures.rows.place)
 
-slice-aggregate-write-all : tie.Need-slice-aggregate-write-all invariant-loop decreases-loop
-slice-aggregate-write-all c = sym (length-take-le _ _ (array-share-prefix-rows c.before))
+slice_aggregate_write_all : tie.Need-slice-aggregate-write-all invariant-loop decreases-loop
+slice_aggregate_write_all c = sym (length-take-le _ _ (array_share_prefix_rows c.before))
 
-add-i : tie.Need-overflow-add-i invariant-loop decreases-loop
-add-i c =
+add_i : tie.Need-overflow-add-i invariant-loop decreases-loop
+add_i c =
     let piece = c.before.before.before.before.before.before.before in
     let turn = piece.before.before.before.before in
     let start = turn.before.before.before in
     let l = turn.loop in
     let a = start.args in
-    omega (arith, l.invariant.0, piece.next-rows.ensures.first-inside, ap length (lent-from-is a.first.now l.i), length-drop l.i a.first.now, start.well-formed.1.0.1)
+    omega (arith, l.invariant.0, piece.next-rows.ensures.first_inside, ap length (lent_from_is a.first.now l.i), length-drop l.i a.first.now, start.well-formed.1.0.1)
 
-add-j : tie.Need-overflow-add-j invariant-loop decreases-loop
-add-j c =
+add_j : tie.Need-overflow-add-j invariant-loop decreases-loop
+add_j c =
     let piece = c.before.before.before.before.before.before.before.before in
     let turn = piece.before.before.before.before in
     let start = turn.before.before.before in
     let l = turn.loop in
     let a = start.args in
-    omega (arith, l.invariant.1, piece.next-rows.ensures.second-inside, ap length (lent-from-is a.second.now l.j), length-drop l.j a.second.now, start.well-formed.1.1.0.1)
+    omega (arith, l.invariant.1, piece.next-rows.ensures.second_inside, ap length (lent_from_is a.second.now l.j), length-drop l.j a.second.now, start.well-formed.1.1.0.1)
 
 loop-less : tie.Need-loop-smaller invariant-loop decreases-loop
 loop-less c =
@@ -55,7 +55,7 @@ loop-less c =
     let turn = piece.before.before.before.before in
     let l = turn.loop in
     let a = turn.before.before.before.args in
-    omega (arith, test.if1.false, piece.next-rows.ensures.first-inside, piece.next-rows.ensures.second-inside, ap length (lent-from-is a.first.now l.i), ap length (lent-from-is a.second.now l.j), length-drop l.i a.first.now, length-drop l.j a.second.now)
+    omega (arith, test.if1.false, piece.next-rows.ensures.first_inside, piece.next-rows.ensures.second_inside, ap length (lent_from_is a.first.now l.i), ap length (lent_from_is a.second.now l.j), length-drop l.i a.first.now, length-drop l.j a.second.now)
 
 loop-again : tie.Need-loop-preserved invariant-loop decreases-loop
 loop-again c =
@@ -63,12 +63,12 @@ loop-again c =
     let turn = piece.before.before.before.before in
     let l = turn.loop in
     let a = turn.before.before.before.args in (
-      omega (arith, l.invariant.0, piece.next-rows.ensures.first-inside, ap length (lent-from-is a.first.now l.i), length-drop l.i a.first.now),
-      omega (arith, l.invariant.1, piece.next-rows.ensures.second-inside, ap length (lent-from-is a.second.now l.j), length-drop l.j a.second.now),
+      omega (arith, l.invariant.0, piece.next-rows.ensures.first_inside, ap length (lent_from_is a.first.now l.i), length-drop l.i a.first.now),
+      omega (arith, l.invariant.1, piece.next-rows.ensures.second_inside, ap length (lent_from_is a.second.now l.j), length-drop l.j a.second.now),
     )
 
-pub all-rows-spec : {M : Type 1} → statement M
-all-rows-spec =
+pub all_rows_spec : {M : Type 1} → statement M
+all_rows_spec =
     tie.close
     (tie.spec
     invariant-loop
@@ -82,13 +82,13 @@ all-rows-spec =
     (λ c. search rules)
     (λ c. search rules)
     (λ c κs. search rules)
-    add-if1
+    add_if1
     (λ c. search rules)
-    array-share-prefix-rows
-    slice-aggregate-write-all
+    array_share_prefix_rows
+    slice_aggregate_write_all
     (λ c κs. search rules)
-    add-i
-    add-j
+    add_i
+    add_j
     loop-less
     loop-again
     (λ c. search rules))

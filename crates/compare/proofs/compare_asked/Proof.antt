@@ -5,14 +5,14 @@ use borrow.Author.Rules.{rules}
 use Rattle.compare.proofs.compare_asked.Statement.{statement}
 use Rattle.compare.proofs.compare_asked.Tie as tie
 
-array-share-prefix-first : tie.Need-array-share-prefix-first
-array-share-prefix-first c = search rules
+array_share_prefix_first : tie.Need-array-share-prefix-first
+array_share_prefix_first c = search rules
 
-slice-aggregate-compare-with : tie.Need-slice-aggregate-compare-with
-slice-aggregate-compare-with c = sym (length-take-le _ _ (array-share-prefix-first c.before))
+slice_aggregate_compare_with : tie.Need-slice-aggregate-compare-with
+slice_aggregate_compare_with c = sym (length-take-le _ _ (array_share_prefix_first c.before))
 
-pub compare-asked-spec : {M : Type 1} → statement M
-compare-asked-spec =
+pub compare_asked_spec : {M : Type 1} → statement M
+compare_asked_spec =
     tie.close
     (tie.spec
     (λ c κs. search rules)
@@ -22,7 +22,7 @@ compare-asked-spec =
     (λ c. search rules)
     (λ c κs. search rules)
     (λ c. search rules)
-    array-share-prefix-first
-    slice-aggregate-compare-with
+    array_share_prefix_first
+    slice_aggregate_compare_with
     (λ c κs. search rules)
     (λ c. search rules))

@@ -5,20 +5,20 @@ use borrow.Author.Rules.{rules}
 use Rattle.compare.proofs.say_summary.Statement.{statement}
 use Rattle.compare.proofs.say_summary.Tie as tie
 
-array-share-prefix-text : tie.Need-array-share-prefix-text
-array-share-prefix-text c = search rules
+array_share_prefix_text : tie.Need-array-share-prefix-text
+array_share_prefix_text c = search rules
 
-slice-aggregate-say : tie.Need-slice-aggregate-say
-slice-aggregate-say c = sym (length-take-le _ _ (array-share-prefix-text c.before))
+slice_aggregate_say : tie.Need-slice-aggregate-say
+slice_aggregate_say c = sym (length-take-le _ _ (array_share_prefix_text c.before))
 
-pub say-summary-spec : {M : Type 1} → statement M
-say-summary-spec =
+pub say_summary_spec : {M : Type 1} → statement M
+say_summary_spec =
     tie.close
     (tie.spec
     (λ c. search rules)
     (λ c κs. search rules)
     (λ c. search rules)
-    array-share-prefix-text
-    slice-aggregate-say
+    array_share_prefix_text
+    slice_aggregate_say
     (λ c κs. search rules)
     (λ c. search rules))

@@ -11,5 +11,5 @@ returns c = simp (c.before.before.cell-of.ensures, c.before.before.before.number
 returns-2 : tie.Need-returns-2
 returns-2 c = simp (← c.before.before.number.ensures, ← c.before.cell-of.ensures, get_or-eq_default {A = ℕ} c.before.before.before.before.args.came.now 0 c.if1.false)
 
-pub has-come-spec : {M : Type 1} → statement M
-has-come-spec = tie.close (tie.spec (λ c κs. search rules) (λ c κs. search rules) (λ c. search rules) returns returns-2)
+pub has_come_spec : {M : Type 1} → statement M
+has_come_spec = tie.close (tie.spec (λ c κs. search rules) (λ c κs. search rules) (λ c. search rules) returns returns-2)

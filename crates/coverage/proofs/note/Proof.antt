@@ -6,8 +6,8 @@ use Rattle.coverage.proofs.note.Tie as tie
 returns-2 : tie.Need-returns-2
 returns-2 c = simp (c.before.before.before.before.before.before.answer.given.1, c.before.before.note-line.ensures, c.before.before.before.before.number.ensures)
 
-pub note-spec : {M : Type 1} → statement M
-note-spec =
+pub note_spec : {M : Type 1} → statement M
+note_spec =
     tie.close
     (tie.spec
     (λ c. search rules)

@@ -7,8 +7,8 @@ use Rattle.diff_change.proofs.two.Tie as tie
 returns : tie.Need-returns
 returns c = (omega (arith, c.before.before.before.byte.ensures, c.before.before.wide.ensures.0, c.before.byte2.ensures, c.wide2.ensures.0), omega (arith, c.before.before.wide.ensures.1, c.wide2.ensures.1))
 
-pub two-spec : {M : Type 1} → statement M
-two-spec =
+pub two_spec : {M : Type 1} → statement M
+two_spec =
     tie.close
     (tie.spec
     (λ c κs. search rules)

@@ -12,5 +12,5 @@ returns-2 c = simp (eq-eqb _ _ c.before.if1.false, ne_eqb _ _ c.if2.true)
 returns-3 : tie.Need-returns-3
 returns-3 c = simp (eq-eqb _ _ c.before.if1.false, eq-eqb _ _ c.if2.false)
 
-pub either-cut-spec : {M : Type 1} → statement M
-either-cut-spec = tie.close (tie.spec returns returns-2 returns-3)
+pub either_cut_spec : {M : Type 1} → statement M
+either_cut_spec = tie.close (tie.spec returns returns-2 returns-3)

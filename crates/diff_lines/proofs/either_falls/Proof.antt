@@ -9,6 +9,6 @@ returns c = simp (c.before.some-falls.ensures, c.if1.true)
 returns-2 : tie.Need-returns-2
 returns-2 c = simp (c.before.before.some-falls.ensures, c.before.if1.false, c.some-falls2.ensures)
 
-pub either-falls-spec : {M : Type 1} → statement M
-either-falls-spec =
+pub either_falls_spec : {M : Type 1} → statement M
+either_falls_spec =
     tie.close (tie.spec (λ c κs. search rules) returns (λ c κs. search rules) returns-2)

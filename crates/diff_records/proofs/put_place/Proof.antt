@@ -2,19 +2,19 @@
 use mathlib.Core.Path.{sym}
 use Rattle.text.specs.PutLaws.{puts_none}
 use Rattle.diff_records.specs.DifferenceLaws.{place_is, none_is}
-use Rattle.diff_records.specs.RestLaws.{puts-is}
+use Rattle.diff_records.specs.RestLaws.{puts_is}
 use borrow.Author.Rules.{rules}
 use Rattle.diff_records.proofs.put_place.Statement.{statement}
 use Rattle.diff_records.proofs.put_place.Tie as tie
 
 returns : tie.Need-returns
-returns c = puts-is (sym (none_is _ _ _ c.if1.true)) (puts_none _ _)
+returns c = puts_is (sym (none_is _ _ _ c.if1.true)) (puts_none _ _)
 
 returns-2 : tie.Need-returns-2
-returns-2 c = puts-is (sym (place_is _ _ _ _ c.before.before.before.before.before.if1.false)) c.before.before.put.ensures
+returns-2 c = puts_is (sym (place_is _ _ _ _ c.before.before.before.before.before.if1.false)) c.before.before.put.ensures
 
-pub put-place-spec : {M : Type 1} → statement M
-put-place-spec =
+pub put_place_spec : {M : Type 1} → statement M
+put_place_spec =
     tie.close
     (tie.spec
     returns

@@ -10,5 +10,5 @@ returns c = (simp (eq-eqb _ _ c.if1.true), search rules)
 returns-2 : tie.Need-returns-2
 returns-2 c = (simp (ne_eqb _ _ c.if1.false), search rules)
 
-pub unequal-spec : {M : Type 1} → statement M
-unequal-spec = tie.close (tie.spec returns returns-2)
+pub unequal_spec : {M : Type 1} → statement M
+unequal_spec = tie.close (tie.spec returns returns-2)

@@ -12,5 +12,5 @@ returns-2 : tie.Need-returns-2
 unfolding greater_of
 returns-2 c = simp (le-ltb _ _ c.if1.false)
 
-pub greater-of-spec : {M : Type 1} → statement M
-greater-of-spec = tie.close (tie.spec returns returns-2)
+pub greater_of_spec : {M : Type 1} → statement M
+greater_of_spec = tie.close (tie.spec returns returns-2)

@@ -1,12 +1,12 @@
 -- A line after another.
 use Rattle.text.specs.PutLaws.{then}
-use Rattle.diff_summary_words.specs.SummaryWords.{summaryText}
+use Rattle.diff_summary_words.specs.SummaryWords.{summary_text}
 use borrow.Author.Rules.{rules}
 use Rattle.diff_summary_words.proofs.put_summary.Statement.{statement}
 use Rattle.diff_summary_words.proofs.put_summary.Tie as tie
 
 returns : tie.Need-returns
-unfolding summaryText
+unfolding summary_text
 returns c =
     let places = c.before.before in
     let pixels = places.before.before.before.before in
@@ -15,8 +15,8 @@ returns c =
     let first = second.before.before.before.before.before in
     then first.put_count.ensures (then second.put-count2.ensures (then kinds.put-count3.ensures (then pixels.put-count4.ensures places.put-places.ensures)))
 
-pub put-summary-spec : {M : Type 1} → statement M
-put-summary-spec =
+pub put_summary_spec : {M : Type 1} → statement M
+put_summary_spec =
     tie.close
     (tie.spec
     (λ c. search rules)

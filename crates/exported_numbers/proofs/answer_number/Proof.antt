@@ -11,8 +11,8 @@ returns-2 c =
 returns-3 : tie.Need-returns-3
 returns-3 c = simp c.before.before.before.before.before.answer2.given.1
 
-pub answer-number-spec : {M : Type 1} → statement M
-answer-number-spec =
+pub answer_number_spec : {M : Type 1} → statement M
+answer_number_spec =
     tie.close
     (tie.spec
     (λ c. search rules)

@@ -13,8 +13,8 @@ returns-4 c =
     let setting = c.before.before.before in
     simp (setting.before.before.before.judge.given.1, setting.borders.given.1, c.enum-told4.given.1)
 
-pub judge-number-spec : {M : Type 1} → statement M
-judge-number-spec =
+pub judge_number_spec : {M : Type 1} → statement M
+judge_number_spec =
     tie.close
     (tie.spec
     (λ c. search rules)

@@ -16,5 +16,5 @@ returns-3 : tie.Need-returns-3
 unfolding tagged
 returns-3 c = simp (le-leb _ _ c.before.if1.false, le-leb _ _ c.if2.false)
 
-pub is-tagged-spec : {M : Type 1} → statement M
-is-tagged-spec = tie.close (tie.spec returns returns-2 returns-3)
+pub is_tagged_spec : {M : Type 1} → statement M
+is_tagged_spec = tie.close (tie.spec returns returns-2 returns-3)

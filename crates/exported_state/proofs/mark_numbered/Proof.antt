@@ -13,7 +13,7 @@ returns-2 c = simp (ne_eqb _ _ c.before.before.before.if1.false, lt-ltb _ _ c.be
 returns-3 : tie.Need-returns-3
 returns-3 c = simp (ne_eqb _ _ c.before.before.before.if1.false, le-ltb _ _ c.before.before.if2.false, c.of2.ensures, c.before.numbered2.ensures)
 
-pub mark-numbered-spec : {M : Type 1} → statement M
-mark-numbered-spec =
+pub mark_numbered_spec : {M : Type 1} → statement M
+mark_numbered_spec =
     tie.close
     (tie.spec returns (λ c κs. search rules) (λ c κs. search rules) returns-2 (λ c κs. search rules) (λ c κs. search rules) returns-3)

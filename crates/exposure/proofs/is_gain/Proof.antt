@@ -1,28 +1,28 @@
 -- Each code is tried, in the order of the definition.
 use borrow.Author.Tests.{eq-eqb, ne_eqb}
-use Rattle.exposure.specs.Exposure.{isGain}
+use Rattle.exposure.specs.Exposure.{is_gain}
 use Rattle.exposure.proofs.is_gain.Statement.{statement}
 use Rattle.exposure.proofs.is_gain.Tie as tie
 
 returns : tie.Need-returns
-unfolding isGain
+unfolding is_gain
 returns c = simp (eq-eqb _ _ c.if1.true)
 
 returns-2 : tie.Need-returns-2
-unfolding isGain
+unfolding is_gain
 returns-2 c = simp (ne_eqb _ _ c.before.if1.false, eq-eqb _ _ c.if2.true)
 
 returns-3 : tie.Need-returns-3
-unfolding isGain
+unfolding is_gain
 returns-3 c = simp (ne_eqb _ _ c.before.before.if1.false, ne_eqb _ _ c.before.if2.false, eq-eqb _ _ c.if3.true)
 
 returns-4 : tie.Need-returns-4
-unfolding isGain
+unfolding is_gain
 returns-4 c = simp (ne_eqb _ _ c.before.before.before.if1.false, ne_eqb _ _ c.before.before.if2.false, ne_eqb _ _ c.before.if3.false, eq-eqb _ _ c.if4.true)
 
 returns-5 : tie.Need-returns-5
-unfolding isGain
+unfolding is_gain
 returns-5 c = simp (ne_eqb _ _ c.before.before.before.if1.false, ne_eqb _ _ c.before.before.if2.false, ne_eqb _ _ c.before.if3.false, ne_eqb _ _ c.if4.false)
 
-pub is-gain-spec : {M : Type 1} → statement M
-is-gain-spec = tie.close (tie.spec returns returns-2 returns-3 returns-4 returns-5)
+pub is_gain_spec : {M : Type 1} → statement M
+is_gain_spec = tie.close (tie.spec returns returns-2 returns-3 returns-4 returns-5)

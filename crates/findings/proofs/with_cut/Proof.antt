@@ -6,8 +6,8 @@ use Rattle.findings.proofs.with_cut.Tie as tie
 returns-4 : tie.Need-returns-4
 returns-4 c = simp (c.before.enum-told4.given.1, c.one_more.ensures)
 
-pub with-cut-spec : {M : Type 1} → statement M
-with-cut-spec =
+pub with_cut_spec : {M : Type 1} → statement M
+with_cut_spec =
     tie.close
     (tie.spec
     (λ c. search rules)

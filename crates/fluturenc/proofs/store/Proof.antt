@@ -2,35 +2,35 @@
 use mathlib.Core.Path.{sym}
 use native.Mathlib.Omega.{arith}
 use lib.ListN.{length-take, length-drop}
-use Rattle.fluturenc.proofs.Storing.{reader-stored}
+use Rattle.fluturenc.proofs.Storing.{reader_stored}
 use borrow.Author.Rules.{rules}
 use Rattle.fluturenc.proofs.store.Statement.{statement}
 use Rattle.fluturenc.proofs.store.Tie as tie
 
-slice-aggregate-copy : tie.Need-slice-aggregate-copy
-slice-aggregate-copy c = search rules
+slice_aggregate_copy : tie.Need-slice-aggregate-copy
+slice_aggregate_copy c = search rules
 
-copy-requires : tie.Need-copy-requires
-copy-requires c κs =
+copy_requires : tie.Need-copy-requires
+copy_requires c κs =
     let full = c.before in
-    simp (length-take, length-drop) (omega (arith, slice-aggregate-copy full, full.before.before.before.store-head.auto.1.0))
+    simp (length-take, length-drop) (omega (arith, slice_aggregate_copy full, full.before.before.before.store-head.auto.1.0))
 
 returns : tie.Need-returns
 returns c =
     let full = c.before.before.before.before in
     let head = full.before.before.before in
     let a = head.before.before.before.before.before.args in
-    reader-stored a.r a.state.now _ _ (sym (slice-aggregate-copy full)) (omega arith) head.store-head.ensures c.before.before.copy.ensures.1
+    reader_stored a.r a.state.now _ _ (sym (slice_aggregate_copy full)) (omega arith) head.store-head.ensures c.before.before.copy.ensures.1
 
 pub store_spec : {M : Type 1} → statement M
 store_spec =
     tie.close
     (tie.spec
     (λ c κs. search rules)
-    slice-aggregate-copy
+    slice_aggregate_copy
     (λ c. search rules)
     (λ c. search rules)
     (λ c. search rules)
-    copy-requires
+    copy_requires
     (λ c. search rules)
     returns)

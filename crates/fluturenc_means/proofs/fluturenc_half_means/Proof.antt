@@ -22,6 +22,6 @@ returns-2 c =
     let h = c.before.halves2.given.1 in
     record { says = simp (← said, h); leaves = simp (← said, h) }
 
-pub fluturenc-half-means-spec : {M : Type 1} → statement M
-fluturenc-half-means-spec =
+pub fluturenc_half_means_spec : {M : Type 1} → statement M
+fluturenc_half_means_spec =
     tie.close (tie.spec (λ c κs. search rules) (λ c. search rules) (λ c. search rules) returns returns-2)

@@ -1,11 +1,11 @@
 -- Reading a picture gives its answer and leaves the buffer; the answer is told in numbers.
-use Rattle.exported_call.specs.LentCallLaws.{in-numbers}
+use Rattle.exported_call.specs.LentCallLaws.{in_numbers}
 use borrow.Author.Rules.{rules}
 use Rattle.fluturenc_picture.proofs.fluturenc_picture_read.Statement.{statement}
 use Rattle.fluturenc_picture.proofs.fluturenc_picture_read.Tie as tie
 
 returns : tie.Need-returns
-returns c = in-numbers _ _ _ _ _ _ c.before.before.before.before.read.ensures c.number-written.ensures
+returns c = in_numbers _ _ _ _ _ _ c.before.before.before.before.read.ensures c.number-written.ensures
 
-pub fluturenc-picture-read-spec : {M : Type 1} → statement M
-fluturenc-picture-read-spec = tie.close (tie.spec (λ c κs. search rules) (λ c κs. search rules) (λ c. search rules) returns)
+pub fluturenc_picture_read_spec : {M : Type 1} → statement M
+fluturenc_picture_read_spec = tie.close (tie.spec (λ c κs. search rules) (λ c κs. search rules) (λ c. search rules) returns)

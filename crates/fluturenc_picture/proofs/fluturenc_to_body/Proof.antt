@@ -1,11 +1,11 @@
 -- Putting pixels as they are sent gives its answer and leaves the buffer; the answer is told in numbers.
-use Rattle.exported_call.specs.LentCallLaws.{in-numbers}
+use Rattle.exported_call.specs.LentCallLaws.{in_numbers}
 use borrow.Author.Rules.{rules}
 use Rattle.fluturenc_picture.proofs.fluturenc_to_body.Statement.{statement}
 use Rattle.fluturenc_picture.proofs.fluturenc_to_body.Tie as tie
 
 returns : tie.Need-returns
-returns c = in-numbers _ _ _ _ _ _ c.before.before.before.before.to-body.ensures c.number-written.ensures
+returns c = in_numbers _ _ _ _ _ _ c.before.before.before.before.to-body.ensures c.number-written.ensures
 
-pub fluturenc-to-body-spec : {M : Type 1} → statement M
-fluturenc-to-body-spec = tie.close (tie.spec (λ c κs. search rules) (λ c κs. search rules) (λ c. search rules) returns)
+pub fluturenc_to_body_spec : {M : Type 1} → statement M
+fluturenc_to_body_spec = tie.close (tie.spec (λ c κs. search rules) (λ c κs. search rules) (λ c. search rules) returns)

@@ -2,8 +2,8 @@
 use mathlib.Core.Path.{ap₂, ◌∙◌}
 use mathlib.Core.List.{List, ◌++◌}
 use Rattle.saved_setting.specs.declared.SavedSetting.{SavedSetting}
-use Rattle.fluturenc_settings.specs.SavedBytesLaws.{held-list}
-use Rattle.fluturenc_settings.proofs.Halves.{halves-read}
+use Rattle.fluturenc_settings.specs.SavedBytesLaws.{held_list}
+use Rattle.fluturenc_settings.proofs.Halves.{halves_read}
 use borrow.Author.Rules.{rules}
 use Rattle.fluturenc_settings.proofs.places_in.Statement.{statement}
 use Rattle.fluturenc_settings.proofs.places_in.Tie as tie
@@ -13,8 +13,8 @@ returns c =
     let list = c.before.before.before.before.args.list.now in
     c.from_halves.ensures
     ∙ ap₂ (λ (l m : List SavedSetting). l ++ m) c.before.before.four-at.ensures c.before.four-at2.ensures
-    ∙ halves-read list
-    ∙ held-list list c.before.before.before.before.requires
+    ∙ halves_read list
+    ∙ held_list list c.before.before.before.before.requires
 
-pub places-in-spec : {M : Type 1} → statement M
-places-in-spec = tie.close (tie.spec (λ c κs. search rules) (λ c κs. search rules) (λ c κs. search rules) returns)
+pub places_in_spec : {M : Type 1} → statement M
+places_in_spec = tie.close (tie.spec (λ c κs. search rules) (λ c κs. search rules) (λ c κs. search rules) returns)

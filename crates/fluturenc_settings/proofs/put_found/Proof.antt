@@ -9,8 +9,8 @@ returns c = record { says = simp (c.before.before.write.ensures.says, c.before.b
 returns-2 : tie.Need-returns-2
 returns-2 c = record { says = simp c.before.found2.given.1; leaves = simp c.before.found2.given.1 }
 
-pub put-found-spec : {M : Type 1} → statement M
-put-found-spec =
+pub put_found_spec : {M : Type 1} → statement M
+put_found_spec =
     tie.close
     (tie.spec
     (λ c. search rules)

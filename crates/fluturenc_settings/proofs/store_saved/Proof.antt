@@ -9,7 +9,7 @@ returns c = record { says = simp c.before.before.before.before.before.answer.giv
 returns-2 : tie.Need-returns-2
 returns-2 c = record { says = simp c.before.answer2.given.1; gives = simp c.before.answer2.given.1; leaves = simp c.before.answer2.given.1 }
 
-pub store-saved-spec : {M : Type 1} → statement M
-store-saved-spec =
+pub store_saved_spec : {M : Type 1} → statement M
+store_saved_spec =
     tie.close
     (tie.spec (λ c. search rules) (λ c κs. search rules) (λ c. search rules) returns (λ c. search rules) returns-2)

@@ -2,29 +2,29 @@
 use native.Mathlib.Omega.{arith}
 use borrow.Author.Tests.{lt-ltb, le-ltb, le-leb, lt-leb}
 use lib.ListN.{length}
-use Rattle.fluturenc_table.specs.TableBytes.{tableLength, placeStart, ownerAt, denialAt}
+use Rattle.fluturenc_table.specs.TableBytes.{table_length, place_start, owner_at, denial_at}
 use borrow.Author.Rules.{rules}
 use Rattle.fluturenc_table.proofs.denial_at.Statement.{statement}
 use Rattle.fluturenc_table.proofs.denial_at.Tie as tie
 
 returns : tie.Need-returns
-unfolding denialAt
-returns c = simp (lt-leb tableLength (length c.before.before.args.table.now) (omega (arith, c.if1.true)))
+unfolding denial_at
+returns c = simp (lt-leb table_length (length c.before.before.args.table.now) (omega (arith, c.if1.true)))
 
 returns-2 : tie.Need-returns-2
-unfolding denialAt ownerAt placeStart
+unfolding denial_at owner_at place_start
 returns-2 c =
     let a = c.before.before.before.before.before.args in
-    simp (le-leb tableLength (length a.table.now) (omega (arith, c.before.before.before.if1.false)), lt-ltb _ _ c.before.before.if2.true) c.denial.ensures
+    simp (le-leb table_length (length a.table.now) (omega (arith, c.before.before.before.if1.false)), lt-ltb _ _ c.before.before.if2.true) c.denial.ensures
 
 returns-3 : tie.Need-returns-3
-unfolding denialAt ownerAt
+unfolding denial_at owner_at
 returns-3 c =
     let a = c.before.before.before.before.args in
-    simp (le-leb tableLength (length a.table.now) (omega (arith, c.before.before.if1.false)), le-ltb _ _ c.before.if2.false) c.denial2.ensures
+    simp (le-leb table_length (length a.table.now) (omega (arith, c.before.before.if1.false)), le-ltb _ _ c.before.if2.false) c.denial2.ensures
 
-pub denial-at-spec : {M : Type 1} → statement M
-denial-at-spec =
+pub denial_at_spec : {M : Type 1} → statement M
+denial_at_spec =
     tie.close
     (tie.spec
     returns

@@ -3,39 +3,39 @@ use mathlib.Core.Path.{◌≡◌}
 use Prim.Native.Nat.{◌+◌, ◌*◌, ◌-◌}
 use native.Mathlib.Omega.{arith}
 use borrow.Author.Tests.{ne_eqb}
-use Rattle.fluturenc_table.specs.TableBytes.{placeStart, stateAt, withState}
-use Rattle.fluturenc_table.specs.TableCalls.{feedTable}
+use Rattle.fluturenc_table.specs.TableBytes.{place_start, state_at, with_state}
+use Rattle.fluturenc_table.specs.TableCalls.{feed_table}
 use Rattle.fluturenc_table.proofs.Granted.{granted}
 use borrow.Author.Rules.{rules}
 use Rattle.fluturenc_table.proofs.fluturenc_table_feed.Statement.{statement}
 use Rattle.fluturenc_table.proofs.fluturenc_table_feed.Tie as tie
 
-mul-from : tie.Need-overflow-mul-from
-mul-from c =
+mul_from : tie.Need-overflow-mul-from
+mul_from c =
     let a = c.before.before.before.before.before.before.args in
     let k = granted a.table.now a.technician a.place c.before.denial-at.ensures c.if1.true in
     omega (arith, k.0, k.1)
 
-add-from : tie.Need-overflow-add-from
-add-from c =
+add_from : tie.Need-overflow-add-from
+add_from c =
     let a = c.before.before.before.before.before.before.args in
     let k = granted a.table.now a.technician a.place c.before.denial-at.ensures c.if1.true in
     omega (arith, k.0, k.1)
 
-add-fluturenc-feed : tie.Need-overflow-add-fluturenc-feed
-add-fluturenc-feed c =
+add_fluturenc_feed : tie.Need-overflow-add-fluturenc-feed
+add_fluturenc_feed c =
     let a = c.before.before.before.before.before.before.args in
     let k = granted a.table.now a.technician a.place c.before.denial-at.ensures c.if1.true in
     omega (arith, k.0, k.1)
 
-part-fluturenc-feed-end : tie.Need-slice-bounds-fluturenc-feed-end
-part-fluturenc-feed-end c =
+part_fluturenc_feed_end : tie.Need-slice-bounds-fluturenc-feed-end
+part_fluturenc_feed_end c =
     let a = c.before.before.before.before.before.before.args in
     let k = granted a.table.now a.technician a.place c.before.denial-at.ensures c.if1.true in
     omega (arith, k.0, k.1)
 
 returns : tie.Need-returns
-unfolding feedTable stateAt withState placeStart
+unfolding feed_table state_at with_state place_start
 returns c =
     let fed = c.before.before.before.before in
     let asked = fed.before.before.before.before in
@@ -51,23 +51,23 @@ returns c =
     }
 
 returns-2 : tie.Need-returns-2
-unfolding feedTable
+unfolding feed_table
 returns-2 c =
     let d = c.before.denial-at.ensures in
     let z = ne_eqb _ _ c.if1.false in
     record { says = simp (← d, z); count = simp (← d, z); keeps = simp (← d, z); leaves = simp (← d, z) }
 
-pub fluturenc-table-feed-spec : {M : Type 1} → statement M
-fluturenc-table-feed-spec =
+pub fluturenc_table_feed_spec : {M : Type 1} → statement M
+fluturenc_table_feed_spec =
     tie.close
     (tie.spec
     (λ c κs. search rules)
-    mul-from
-    add-from
-    add-fluturenc-feed
+    mul_from
+    add_from
+    add_fluturenc_feed
     (λ c. search rules)
     (λ c. search rules)
-    part-fluturenc-feed-end
+    part_fluturenc_feed_end
     (λ c κs. search rules)
     (λ c. search rules)
     (λ c. search rules)

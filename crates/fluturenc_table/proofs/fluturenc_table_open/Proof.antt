@@ -2,24 +2,24 @@
 use native.Mathlib.Omega.{arith}
 use borrow.Author.Tests.{lt-leb, le-leb}
 use lib.ListN.{length}
-use Rattle.fluturenc_table.specs.TableBytes.{tableLength}
-use Rattle.fluturenc_table.specs.TableCalls.{openTable}
+use Rattle.fluturenc_table.specs.TableBytes.{table_length}
+use Rattle.fluturenc_table.specs.TableCalls.{open_table}
 use borrow.Author.Rules.{rules}
 use Rattle.fluturenc_table.proofs.fluturenc_table_open.Statement.{statement}
 use Rattle.fluturenc_table.proofs.fluturenc_table_open.Tie as tie
 
 returns : tie.Need-returns
-unfolding openTable
+unfolding open_table
 returns c =
-    let short = lt-leb tableLength (length c.before.before.args.table.now) (omega (arith, c.if1.true)) in
+    let short = lt-leb table_length (length c.before.before.args.table.now) (omega (arith, c.if1.true)) in
     record { says = simp (short); keeps = simp (short) }
 
 returns-2 : tie.Need-returns-2
-unfolding openTable
+unfolding open_table
 returns-2 c =
     let numbered = c.before.before.before.before.before.before in
     let asked = numbered.before.before in
-    let long = le-leb tableLength (length asked.before.before.before.args.table.now) (omega (arith, asked.before.if1.false)) in
+    let long = le-leb table_length (length asked.before.before.before.args.table.now) (omega (arith, asked.before.if1.false)) in
     let who = asked.is-technician.ensures in
     let found = c.before.before.before.before.enum_told.given.1 in
     let e = c.before.before.open-lowest.ensures in
@@ -29,11 +29,11 @@ returns-2 c =
     }
 
 returns-3 : tie.Need-returns-3
-unfolding openTable
+unfolding open_table
 returns-3 c =
     let numbered = c.before.before in
     let asked = numbered.before.before in
-    let long = le-leb tableLength (length asked.before.before.before.args.table.now) (omega (arith, asked.before.if1.false)) in
+    let long = le-leb table_length (length asked.before.before.before.args.table.now) (omega (arith, asked.before.if1.false)) in
     let who = asked.is-technician.ensures in
     let none = c.enum-told2.given.1 in
     record {
@@ -42,15 +42,15 @@ returns-3 c =
     }
 
 returns-4 : tie.Need-returns-4
-unfolding openTable
+unfolding open_table
 returns-4 c =
     let asked = c.before in
-    let long = le-leb tableLength (length asked.before.before.before.args.table.now) (omega (arith, asked.before.if1.false)) in
+    let long = le-leb table_length (length asked.before.before.before.args.table.now) (omega (arith, asked.before.if1.false)) in
     let who = asked.is-technician.ensures in
     record { says = simp (long, ← who, c.if2.false); keeps = simp (long, ← who, c.if2.false) }
 
-pub fluturenc-table-open-spec : {M : Type 1} → statement M
-fluturenc-table-open-spec =
+pub fluturenc_table_open_spec : {M : Type 1} → statement M
+fluturenc_table_open_spec =
     tie.close
     (tie.spec
     returns

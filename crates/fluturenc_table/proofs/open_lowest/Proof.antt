@@ -3,14 +3,14 @@ use mathlib.Core.Path.{◌≡◌}
 use Prim.Native.Nat.{◌+◌, ◌*◌, ◌-◌}
 use native.Mathlib.Omega.{arith}
 use borrow.Author.Tests.{lt-ltb, le-ltb}
-use Rattle.fluturenc_table.specs.TableBytes.{placeStart, stateAt, withState}
-use Rattle.fluturenc_table.specs.TableCalls.{openedAt, openLowest}
+use Rattle.fluturenc_table.specs.TableBytes.{place_start, state_at, with_state}
+use Rattle.fluturenc_table.specs.TableCalls.{opened_at, open_lowest}
 use borrow.Author.Rules.{rules}
 use Rattle.fluturenc_table.proofs.open_lowest.Statement.{statement}
 use Rattle.fluturenc_table.proofs.open_lowest.Tie as tie
 
 returns : tie.Need-returns
-unfolding openLowest openedAt stateAt withState placeStart
+unfolding open_lowest opened_at state_at with_state place_start
 returns c =
     let opened = c.before.before in
     let lowest = opened.before.before.before in
@@ -21,14 +21,14 @@ returns c =
     record { says = simp (← lowest.lowest-free.ensures, t); keeps = simp (← lowest.lowest-free.ensures, t, e.keeps, k) }
 
 returns-2 : tie.Need-returns-2
-unfolding openLowest
+unfolding open_lowest
 returns-2 c =
     let e = c.before.lowest-free.ensures in
     let t = le-ltb _ _ c.if1.false in
     record { says = simp (← e, t); keeps = simp (← e, t) }
 
-pub open-lowest-spec : {M : Type 1} → statement M
-open-lowest-spec =
+pub open_lowest_spec : {M : Type 1} → statement M
+open_lowest_spec =
     tie.close
     (tie.spec
     (λ c κs. search rules)

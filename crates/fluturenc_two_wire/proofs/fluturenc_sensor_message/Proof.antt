@@ -1,18 +1,18 @@
 -- Bytes that hold a sensor are long enough to be read and to be stored in again; what the message does is stored where it is accepted.
 use mathlib.Core.Path.{sym, ◌∙◌}
-use Rattle.fluturenc_two_wire.specs.SensorBytes.{messageCall}
-use Rattle.fluturenc_two_wire.specs.SensorBytesLaws.{holds-length, message-call}
+use Rattle.fluturenc_two_wire.specs.SensorBytes.{message_call}
+use Rattle.fluturenc_two_wire.specs.SensorBytesLaws.{holds_length, message_call_lem}
 use borrow.Author.Rules.{rules}
 use Rattle.fluturenc_two_wire.proofs.fluturenc_sensor_message.Statement.{statement}
 use Rattle.fluturenc_two_wire.proofs.fluturenc_sensor_message.Tie as tie
 
-sensor-in-requires : tie.Need-sensor-in-requires
-sensor-in-requires c κs = holds-length _ (sym c.before.before.holds-sensor.ensures ∙ c.before.if1.true)
+sensor_in_requires : tie.Need-sensor-in-requires
+sensor_in_requires c κs = holds_length _ (sym c.before.before.holds-sensor.ensures ∙ c.before.if1.true)
 
-store-requires : tie.Need-store-requires
-store-requires c κs =
+store_requires : tie.Need-store-requires
+store_requires c κs =
     let test = c.before.before.before.before.before.before.before in
-    holds-length _ (sym test.before.holds-sensor.ensures ∙ test.if1.true)
+    holds_length _ (sym test.before.holds-sensor.ensures ∙ test.if1.true)
 
 returns : tie.Need-returns
 returns c =
@@ -21,7 +21,7 @@ returns c =
     let test = read.before.before.before in
     let a = test.before.before.before.before.before.args in
     let held = sym test.before.holds-sensor.ensures ∙ test.if1.true in
-    let e = message-call a.sensor.now a.message.now read.before.sensor-in.result held (sym read.before.sensor-in.ensures) in
+    let e = message_call_lem a.sensor.now a.message.now read.before.sensor-in.result held (sym read.before.sensor-in.ensures) in
     record {
       says = simp (e, ← read.read.ensures.0, told.enum_told.given.1);
       keeps = simp (e, ← read.read.ensures.0, told.enum_told.given.1, c.before.before.store.ensures);
@@ -33,27 +33,27 @@ returns-2 c =
     let test = read.before.before.before in
     let a = test.before.before.before.before.before.args in
     let held = sym test.before.holds-sensor.ensures ∙ test.if1.true in
-    let e = message-call a.sensor.now a.message.now read.before.sensor-in.result held (sym read.before.sensor-in.ensures) in
+    let e = message_call_lem a.sensor.now a.message.now read.before.sensor-in.result held (sym read.before.sensor-in.ensures) in
     record {
       says = simp (e, ← read.read.ensures.0, c.before.answer.given.1);
       keeps = simp (e, ← read.read.ensures.0, c.before.answer.given.1);
     }
 
 returns-3 : tie.Need-returns-3
-unfolding messageCall
+unfolding message_call
 returns-3 c =
     let held = c.before.holds-sensor.ensures in
     record { says = simp (← held, c.if1.false); keeps = simp (← held, c.if1.false) }
 
-pub fluturenc-sensor-message-spec : {M : Type 1} → statement M
-fluturenc-sensor-message-spec =
+pub fluturenc_sensor_message_spec : {M : Type 1} → statement M
+fluturenc_sensor_message_spec =
     tie.close
     (tie.spec
     (λ c κs. search rules)
-    sensor-in-requires
+    sensor_in_requires
     (λ c κs. search rules)
     (λ c. search rules)
-    store-requires
+    store_requires
     (λ c. search rules)
     returns
     (λ c. search rules)

@@ -8,8 +8,8 @@ returns-3 c =
     let reason = c.before.before.reason in
     simp reason.given.1 c.sum-bits.ensures
 
-pub second-value-spec : {M : Type 1} → statement M
-second-value-spec =
+pub second_value_spec : {M : Type 1} → statement M
+second_value_spec =
     tie.close
     (tie.spec
     (λ c. search rules)

@@ -5,14 +5,14 @@ use borrow.Author.Rules.{rules}
 use Rattle.frame_file.proofs.first_frame.Statement.{statement}
 use Rattle.frame_file.proofs.first_frame.Tie as tie
 
-array-share-prefix-name : tie.Need-array-share-prefix-name
-array-share-prefix-name c = search rules
+array_share_prefix_name : tie.Need-array-share-prefix-name
+array_share_prefix_name c = search rules
 
-slice-aggregate-seek : tie.Need-slice-aggregate-seek
-slice-aggregate-seek c = sym (length-take-le _ _ (array-share-prefix-name c.before))
+slice_aggregate_seek : tie.Need-slice-aggregate-seek
+slice_aggregate_seek c = sym (length-take-le _ _ (array_share_prefix_name c.before))
 
-pub first-frame-spec : {M : Type 1} → statement M
-first-frame-spec =
+pub first_frame_spec : {M : Type 1} → statement M
+first_frame_spec =
     tie.close
     (tie.spec
     (λ c κs. search rules)
@@ -20,8 +20,8 @@ first-frame-spec =
     (λ c κs. search rules)
     (λ c. search rules)
     (λ c. search rules)
-    array-share-prefix-name
-    slice-aggregate-seek
+    array_share_prefix_name
+    slice_aggregate_seek
     (λ c κs. search rules)
     (λ c κs. search rules)
     (λ c. search rules)

@@ -3,7 +3,7 @@ use mathlib.Core.Path.{◌≡◌}
 use native.Mathlib.Omega.{arith}
 use lib.ListN.{length}
 use borrow.Author.Rules.{rules}
-use Rattle.frame_grabber.specs.PieceLaws.{rows-within}
+use Rattle.frame_grabber.specs.PieceLaws.{rows_within}
 use Rattle.frame_file.proofs.seek.Statement.{statement}
 use Rattle.frame_file.proofs.seek.Tie as tie
 
@@ -20,7 +20,7 @@ returns-2 : tie.Need-returns-2 invariant-loop decreases-loop
 returns-2 c = omega arith
 
 returns-3 : tie.Need-returns-3 invariant-loop decreases-loop
-returns-3 c = rows-within _ _ _ _ _ _ c.before.before.before.before.before.before.grab.ensures c.before.progress.given.1
+returns-3 c = rows_within _ _ _ _ _ _ c.before.before.before.before.before.before.grab.ensures c.before.progress.given.1
 
 returns-4 : tie.Need-returns-4 invariant-loop decreases-loop
 returns-4 c = omega arith
@@ -28,8 +28,8 @@ returns-4 c = omega arith
 returns-5 : tie.Need-returns-5 invariant-loop decreases-loop
 returns-5 c = omega arith
 
-pub seek-spec : {M : Type 1} → statement M
-seek-spec =
+pub seek_spec : {M : Type 1} → statement M
+seek_spec =
     tie.close
     (tie.spec
     invariant-loop

@@ -6,6 +6,6 @@ use Rattle.frame_grabber.proofs.goes_on.Tie as tie
 returns : tie.Need-returns
 returns c = simp c.enum_told.given.1
 
-pub goes-on-spec : {M : Type 1} → statement M
-goes-on-spec =
+pub goes_on_spec : {M : Type 1} → statement M
+goes_on_spec =
     tie.close (tie.spec (λ c. search rules) (λ c. search rules) (λ c. search rules) returns (λ c. search rules) (λ c. search rules))

@@ -18,8 +18,8 @@ returns-4 c = simp c.enum-told2.given.1
 returns-5 : tie.Need-returns-5
 returns-5 c = simp (c.before.before.before.answer2.given.1, ← c.before.is-broken-line.ensures, c.if1.false)
 
-pub handed-over-spec : {M : Type 1} → statement M
-handed-over-spec =
+pub handed_over_spec : {M : Type 1} → statement M
+handed_over_spec =
     tie.close
     (tie.spec
     (λ c. search rules)

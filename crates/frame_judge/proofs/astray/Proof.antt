@@ -9,6 +9,6 @@ returns c = simp (c.refused.ensures, ← c.before.before.opens.ensures, c.before
 returns-2 : tie.Need-returns-2
 returns-2 c = simp (c.refused2.ensures, ← c.before.before.opens.ensures, c.before.if1.false)
 
-pub astray-spec : {M : Type 1} → statement M
-astray-spec =
+pub astray_spec : {M : Type 1} → statement M
+astray_spec =
     tie.close (tie.spec (λ c κs. search rules) (λ c κs. search rules) returns (λ c κs. search rules) returns-2)

@@ -9,5 +9,5 @@ returns c = simp (eq-eqb _ _ c.if1.true)
 returns-2 : tie.Need-returns-2
 returns-2 c = simp (ne_eqb _ _ c.if1.false)
 
-pub breaks-frame-spec : {M : Type 1} → statement M
-breaks-frame-spec = tie.close (tie.spec returns returns-2)
+pub breaks_frame_spec : {M : Type 1} → statement M
+breaks_frame_spec = tie.close (tie.spec returns returns-2)

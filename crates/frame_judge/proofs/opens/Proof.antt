@@ -10,5 +10,5 @@ returns c = simp (← c.before.number.ensures, eq-eqb _ _ c.if1.true)
 returns-2 : tie.Need-returns-2
 returns-2 c = simp (← c.before.number.ensures, ne_eqb _ _ c.if1.false)
 
-pub opens-spec : {M : Type 1} → statement M
-opens-spec = tie.close (tie.spec (λ c κs. search rules) returns returns-2)
+pub opens_spec : {M : Type 1} → statement M
+opens_spec = tie.close (tie.spec (λ c κs. search rules) returns returns-2)

@@ -10,5 +10,5 @@ returns c = simp (← c.before.before.last-place.ensures, lt-ltb _ _ c.before.if
 returns-2 : tie.Need-returns-2
 returns-2 c = simp (← c.before.last-place.ensures, le-ltb _ _ c.if1.false)
 
-pub take-due-spec : {M : Type 1} → statement M
-take-due-spec = tie.close (tie.spec (λ c κs. search rules) (λ c κs. search rules) (λ c. search rules) returns returns-2)
+pub take_due_spec : {M : Type 1} → statement M
+take_due_spec = tie.close (tie.spec (λ c κs. search rules) (λ c κs. search rules) (λ c. search rules) returns returns-2)

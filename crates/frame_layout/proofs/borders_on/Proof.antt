@@ -9,5 +9,5 @@ returns c = simp c.enum_told.given.1
 returns-2 : tie.Need-returns-2
 returns-2 c = simp c.enum-told2.given.1
 
-pub borders-on-spec : {M : Type 1} → statement M
-borders-on-spec = tie.close (tie.spec (λ c. search rules) (λ c. search rules) returns returns-2)
+pub borders_on_spec : {M : Type 1} → statement M
+borders_on_spec = tie.close (tie.spec (λ c. search rules) (λ c. search rules) returns returns-2)

@@ -15,8 +15,8 @@ returns-2 c = sym (lt-leb (c.before.before.args.kept + c.before.before.args.size
 returns-3 : tie.Need-returns-3
 returns-3 c = sym (le-leb (c.before.before.args.kept + c.before.before.args.size) c.before.before.args.room (omega arith))
 
-pub has-room-spec : {M : Type 1} → statement M
-has-room-spec =
+pub has_room_spec : {M : Type 1} → statement M
+has_room_spec =
     tie.close
     (tie.spec
     returns

@@ -9,8 +9,8 @@ returns c = simp c.enum_told.given.1
 returns-2 : tie.Need-returns-2
 returns-2 c = simp c.before.judge.given.1
 
-pub place-due-spec : {M : Type 1} → statement M
-place-due-spec =
+pub place_due_spec : {M : Type 1} → statement M
+place_due_spec =
     tie.close
     (tie.spec
     (λ c. search rules)

@@ -15,8 +15,8 @@ returns-3 c = simp c.enum-told3.given.1
 returns-4 : tie.Need-returns-4
 returns-4 c = simp c.before.last.given.1
 
-pub is-unfinished-spec : {M : Type 1} → statement M
-is-unfinished-spec =
+pub is_unfinished_spec : {M : Type 1} → statement M
+is_unfinished_spec =
     tie.close
     (tie.spec
     (λ c. search rules)

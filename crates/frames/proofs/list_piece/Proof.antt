@@ -6,11 +6,11 @@ use lib.ListN.{drop, length-drop, length}
 use lib.Seq.{length-take-le}
 use borrow.Author.Rules.{rules}
 use Rattle.stream.specs.Written.{nibbles}
-use Rattle.stream.specs.NibblesLaws.{nibbles-length}
+use Rattle.stream.specs.NibblesLaws.{nibbles_length}
 use Rattle.list_frames.specs.declared.FramesListed.{FramesListed}
 use Rattle.list_frames.specs.FrameLister.{listed_of}
-use Rattle.list_frames.specs.FrameListerLaws.{taken-within}
-use Rattle.text.specs.PutLaws.{front-within}
+use Rattle.list_frames.specs.FrameListerLaws.{taken_within}
+use Rattle.text.specs.PutLaws.{front_within}
 use Rattle.frames.proofs.list_piece.Statement.{statement}
 use Rattle.frames.proofs.list_piece.Tie as tie
 
@@ -21,60 +21,60 @@ abbrev decreases-loop : tie.decreases-loop
 decreases-loop piece out₀ l₀ at₀ out l at = 2 * length piece - at
 
 -- the rows of a call of `list` have room
-used-fits : (c : tie.After-list invariant-loop decreases-loop) → c.list.result.used ≤ length c.list.new.1.1.1.0
-used-fits c =
+used_fits : (c : tie.After-list invariant-loop decreases-loop) → c.list.result.used ≤ length c.list.new.1.1.1.0
+used_fits c =
     let l = c.before.before.before.loop in
     let w = drop l.at (nibbles c.before.before.before.before.before.before.args.piece.now) in
     let u = ap (λ (r : FramesListed). r.used) c.list.ensures.next in
-    front-within l.out (listed_of l.l (length l.out) w).text (record { count = u; leaves = c.list.ensures.leaves }) c.list.auto.1.1.1.0
+    front_within l.out (listed_of l.l (length l.out) w).text (record { count = u; leaves = c.list.ensures.leaves }) c.list.auto.1.1.1.0
 
 -- it takes no more nibbles than are left
-taken-fits : (c : tie.After-list invariant-loop decreases-loop) → c.before.before.before.loop.at + c.list.result.taken ≤ 2 * length c.before.before.before.before.before.before.args.piece.now
+taken_fits : (c : tie.After-list invariant-loop decreases-loop) → c.before.before.before.loop.at + c.list.result.taken ≤ 2 * length c.before.before.before.before.before.before.args.piece.now
 unfolding listed_of
-taken-fits c =
+taken_fits c =
     let l = c.before.before.before.loop in
     let s = nibbles c.before.before.before.before.before.before.args.piece.now in
     let t = ap (λ (r : FramesListed). r.taken) c.list.ensures.next in
-    let w = taken-within l.l (length l.out) (drop l.at s) in
-    omega (arith, t, w, length-drop l.at s, nibbles-length c.before.before.before.before.before.before.args.piece.now, l.invariant.0)
+    let w = taken_within l.l (length l.out) (drop l.at s) in
+    omega (arith, t, w, length-drop l.at s, nibbles_length c.before.before.before.before.before.before.args.piece.now, l.invariant.0)
 
-mul-loop : tie.Need-overflow-mul-loop invariant-loop decreases-loop
-mul-loop c = omega (arith, c.before.before.before.well-formed.1.0.1)
+mul_loop : tie.Need-overflow-mul-loop invariant-loop decreases-loop
+mul_loop c = omega (arith, c.before.before.before.well-formed.1.0.1)
 
-array-share-prefix-out : tie.Need-array-share-prefix-out invariant-loop decreases-loop
-array-share-prefix-out c = used-fits c.before.before
+array_share_prefix_out : tie.Need-array-share-prefix-out invariant-loop decreases-loop
+array_share_prefix_out c = used_fits c.before.before
 
-slice-aggregate-write : tie.Need-slice-aggregate-write invariant-loop decreases-loop
-slice-aggregate-write c = sym (length-take-le _ _ (used-fits c.before.before.before))
+slice_aggregate_write : tie.Need-slice-aggregate-write invariant-loop decreases-loop
+slice_aggregate_write c = sym (length-take-le _ _ (used_fits c.before.before.before))
 
 add_at : tie.Need-overflow-add-at invariant-loop decreases-loop
 add_at c =
     let listed = c.before.before.before.before.before.before.before.before in
-    omega (arith, taken-fits listed, listed.before.before.before.before.before.before.well-formed.1.0.1)
+    omega (arith, taken_fits listed, listed.before.before.before.before.before.before.well-formed.1.0.1)
 
 loop-less : tie.Need-loop-smaller invariant-loop decreases-loop
 loop-less c =
     let listed = c.before.before.before.before.before.before.before.before in
-    omega (arith, c.before.if2.false, taken-fits listed, listed.before.before.loop-test.true)
+    omega (arith, c.before.if2.false, taken_fits listed, listed.before.before.loop-test.true)
 
 loop-again : tie.Need-loop-preserved invariant-loop decreases-loop
 loop-again c =
     let listed = c.before.before.before.before.before.before.before.before in
-    (taken-fits listed, listed.before.before.before.loop.invariant.1 ∙ sym listed.list.auto.1.1.1.0)
+    (taken_fits listed, listed.before.before.before.loop.invariant.1 ∙ sym listed.list.auto.1.1.1.0)
 
-pub list-piece-spec : {M : Type 1} → statement M
-list-piece-spec =
+pub list_piece_spec : {M : Type 1} → statement M
+list_piece_spec =
     tie.close
     (tie.spec
     invariant-loop
     decreases-loop
     (λ c κs. search rules)
     (λ c. search rules)
-    mul-loop
+    mul_loop
     (λ c. search rules)
     (λ c κs. search rules)
-    array-share-prefix-out
-    slice-aggregate-write
+    array_share_prefix_out
+    slice_aggregate_write
     (λ c κs. search rules)
     (λ c κs. search rules)
     (λ c. search rules)

@@ -9,8 +9,8 @@ invariant-loop fd name turn₀ turns₀ turn turns = Unit {0}
 abbrev decreases-loop : tie.decreases-loop
 decreases-loop fd name turn₀ turns₀ turn turns = turns
 
-pub list-rest-spec : {M : Type 1} → statement M
-list-rest-spec =
+pub list_rest_spec : {M : Type 1} → statement M
+list_rest_spec =
     tie.close
     (tie.spec
     invariant-loop

@@ -12,8 +12,8 @@ returns-2 c = simp (c.before.before.before2.given.1, c.gap-answer.ensures)
 returns-3 : tie.Need-returns-3
 returns-3 c = simp (c.before.before.before3.given.1, c.gap-answer2.ensures)
 
-pub end-answer-spec : {M : Type 1} → statement M
-end-answer-spec =
+pub end_answer_spec : {M : Type 1} → statement M
+end_answer_spec =
     tie.close
     (tie.spec
     (λ c. search rules)

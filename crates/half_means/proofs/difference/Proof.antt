@@ -3,16 +3,16 @@ use Prim.Native.Nat.{◌*◌}
 use native.Mathlib.Omega.{arith}
 use borrow.Author.Rules.{rules}
 use Rattle.half_means.specs.HalfMeans.{difference}
-use Rattle.half_means.proofs.Signs.{minus-fits, minus_is}
+use Rattle.half_means.proofs.Signs.{minus_fits, minus_is}
 use Rattle.half_means.proofs.difference.Statement.{statement}
 use Rattle.half_means.proofs.difference.Tie as tie
 
-sub-result : tie.Need-overflow-sub-result
-sub-result c = minus-fits (64 * c.args.byte) c.args.sum (omega (arith, c.ranges.byte.fits)) (omega (arith, c.ranges.sum.fits))
+sub_result : tie.Need-overflow-sub-result
+sub_result c = minus_fits (64 * c.args.byte) c.args.sum (omega (arith, c.ranges.byte.fits)) (omega (arith, c.ranges.sum.fits))
 
 returns : tie.Need-returns
 unfolding difference
 returns c = minus_is (64 * c.args.byte) c.args.sum (omega (arith, c.ranges.byte.fits)) (omega (arith, c.ranges.sum.fits))
 
-pub difference-spec : {M : Type 1} → statement M
-difference-spec = tie.close (tie.spec (λ c. search rules) (λ c. search rules) (λ c. search rules) sub-result returns)
+pub difference_spec : {M : Type 1} → statement M
+difference_spec = tie.close (tie.spec (λ c. search rules) (λ c. search rules) (λ c. search rules) sub_result returns)

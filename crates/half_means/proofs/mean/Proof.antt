@@ -11,5 +11,5 @@ returns : tie.Need-returns
 unfolding of_int
 returns c = divided c.before.args.sum (lt_of_lt_of_le c.before.ranges.sum.fits (lit≤ tt))
 
-pub mean-spec : {M : Type 1} → statement M
-mean-spec = tie.close (tie.spec (λ c. search rules) (λ c. search rules) returns)
+pub mean_spec : {M : Type 1} → statement M
+mean_spec = tie.close (tie.spec (λ c. search rules) (λ c. search rules) returns)

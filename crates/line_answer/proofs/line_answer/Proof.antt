@@ -1,37 +1,37 @@
 -- 4 by the length; then decoding gives a number exactly where both bytes are good, else 5, and with a number the body decides.
-use Rattle.line_number.specs.LineNumber.{numberGood, numberFrom, decodeOf}
+use Rattle.line_number.specs.LineNumber.{number_good, number_from, decode_of}
 use mathlib.Core.Path.{◌≡◌, refl, sym, ◌∙◌}
 use mathlib.Core.Bool.{Bool, true, false, ◌&&◌, cond}
 use Prim.Native.Nat.{ℕ}
 use Rattle.line_number.specs.declared.Decoded.TheVariants.{Number, Bad}
 use native.Mathlib.Omega.{arith}
 use borrow.Author.Tests.{eq-eqb, ne_eqb}
-use Rattle.profile.specs.LayoutLaws.{body-small}
+use Rattle.profile.specs.LayoutLaws.{body_small}
 use Rattle.stream.specs.Answers.{require}
 use borrow.Author.Rules.{rules}
 use Rattle.line_answer.proofs.line_answer.Statement.{statement}
 use Rattle.line_answer.proofs.line_answer.Tie as tie
 
 -- what decoding says of the two bytes
-known : (a b n : ℕ) → decodeOf a b ≡ Number n → ((numberGood a && numberGood b) ≡ true) × (numberFrom a b ≡ n)
-known a b n h = by (numberGood a && numberGood b) h
+known : (a b n : ℕ) → decode_of a b ≡ Number n → ((number_good a && number_good b) ≡ true) × (number_from a b ≡ n)
+known a b n h = by (number_good a && number_good b) h
   where
-    by : (t : Bool) → cond t (Number (numberFrom a b)) Bad ≡ Number n → (t ≡ true) × (numberFrom a b ≡ n)
+    by : (t : Bool) → cond t (Number (number_from a b)) Bad ≡ Number n → (t ≡ true) × (number_from a b ≡ n)
     by true h = (refl, cc)
     by false h = (cc, cc)
 
-unknown : (a b : ℕ) → decodeOf a b ≡ Bad → (numberGood a && numberGood b) ≡ false
-unknown a b h = by (numberGood a && numberGood b) h
+unknown : (a b : ℕ) → decode_of a b ≡ Bad → (number_good a && number_good b) ≡ false
+unknown a b h = by (number_good a && number_good b) h
   where
-    by : (t : Bool) → cond t (Number (numberFrom a b)) Bad ≡ Bad → t ≡ false
+    by : (t : Bool) → cond t (Number (number_from a b)) Bad ≡ Bad → t ≡ false
     by true h = cc
     by false h = refl
 
-mul-wanted : tie.Need-overflow-mul-wanted
-mul-wanted c = omega (arith, c.body-length.ensures, body-small c.before.before.args.profile)
+mul_wanted : tie.Need-overflow-mul-wanted
+mul_wanted c = omega (arith, c.body-length.ensures, body_small c.before.before.args.profile)
 
-add-wanted : tie.Need-overflow-add-wanted
-add-wanted c = omega (arith, c.body-length.ensures, body-small c.before.before.args.profile)
+add_wanted : tie.Need-overflow-add-wanted
+add_wanted c = omega (arith, c.body-length.ensures, body_small c.before.before.args.profile)
 
 returns : tie.Need-returns
 unfolding require
@@ -51,14 +51,14 @@ returns-3 : tie.Need-returns-3
 unfolding require
 returns-3 c = simp (← c.before.body-length.ensures, ne_eqb _ _ c.if1.false)
 
-pub line-answer-spec : {M : Type 1} → statement M
-line-answer-spec =
+pub line_answer_spec : {M : Type 1} → statement M
+line_answer_spec =
     tie.close
     (tie.spec
     (λ c κs. search rules)
-    mul-wanted
+    mul_wanted
     (λ c. search rules)
-    add-wanted
+    add_wanted
     (λ c κs. search rules)
     (λ c. search rules)
     (λ c κs. search rules)

@@ -2,7 +2,7 @@
 use mathlib.Core.Path.{◌∙◌, ap}
 use native.Mathlib.Omega.{arith}
 use borrow.Author.Rules.{rules}
-use Rattle.line_code.specs.LineCode.{reading_of, readingNumbered}
+use Rattle.line_code.specs.LineCode.{reading_of, reading_numbered}
 use Rattle.line_code.proofs.Bytes.{entry}
 use Rattle.line_code.proofs.read.Statement.{statement}
 use Rattle.line_code.proofs.read.Tie as tie
@@ -11,7 +11,7 @@ returns : tie.Need-returns
 returns c =
     let row = c.before.before in
     c.reading-numbered.ensures
-    ∙ ap readingNumbered c.before.entry.ensures
+    ∙ ap reading_numbered c.before.entry.ensures
     ∙ entry _ _ _ row.row.ensures (omega arith)
     ∙ ap reading_of (omega arith)
 

@@ -2,7 +2,7 @@
 use mathlib.Core.Path.{◌≡◌, refl}
 use Prim.Native.Nat.{ℕ, zero, suc, ◌*◌, ◌%◌, ◌≤◌}
 use native.Mathlib.Omega.{arith}
-use Rattle.line_code.specs.LineCode.{kindNumbered, reservedOf, meaningOf, reading_of}
+use Rattle.line_code.specs.LineCode.{kind_numbered, reserved_of, meaning_of, reading_of}
 use Rattle.line_code.proofs.Bytes.{held}
 use Rattle.line_code.proofs.row.Statement.{statement}
 use Rattle.line_code.proofs.row.Tie as tie
@@ -17,15 +17,15 @@ beyond zero n e b = omega arith
 beyond (suc m) n e b = omega (arith, beyond m n e b.0, b.1)
 
 last : tie.Need-returns-32
-unfolding reading_of meaningOf kindNumbered reservedOf
+unfolding reading_of meaning_of kind_numbered reserved_of
 last c =
     let least = beyond 31 c.before.args.first c.before.requires c.match.rest in
     let e : c.before.args.first ≡ 0xF8 = omega (arith, least, c.before.requires) in
     held e refl
 
-pub row-spec : {M : Type 1} → statement M
-unfolding reading_of meaningOf kindNumbered reservedOf
-row-spec =
+pub row_spec : {M : Type 1} → statement M
+unfolding reading_of meaning_of kind_numbered reserved_of
+row_spec =
     tie.close
     (tie.spec
     (λ c. held c.match.keys1 refl)

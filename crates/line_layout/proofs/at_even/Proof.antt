@@ -10,5 +10,5 @@ returns c = simp (eq-eqb (c.before.args.place % 2) 1 c.if1.true)
 returns-2 : tie.Need-returns-2
 returns-2 c = simp (ne_eqb (c.before.args.place % 2) 1 c.if1.false)
 
-pub at-even-spec : {M : Type 1} → statement M
-at-even-spec = tie.close (tie.spec returns returns-2)
+pub at_even_spec : {M : Type 1} → statement M
+at_even_spec = tie.close (tie.spec returns returns-2)

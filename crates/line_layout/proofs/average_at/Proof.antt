@@ -2,29 +2,29 @@
 use mathlib.Core.Path.{sym}
 use native.Mathlib.Omega.{arith}
 use borrow.Author.Rules.{rules}
-use Rattle.profile.specs.LayoutLaws.{body-small, image-centred}
-use Rattle.line_layout.proofs.PlaceLaws.{averages-inside, average-places}
+use Rattle.profile.specs.LayoutLaws.{body_small, image_centred}
+use Rattle.line_layout.proofs.PlaceLaws.{averages_inside, average_places}
 use Rattle.line_layout.proofs.average_at.Statement.{statement}
 use Rattle.line_layout.proofs.average_at.Tie as tie
 
-add-within : tie.Need-overflow-add-within
-add-within c =
+add_within : tie.Need-overflow-add-within
+add_within c =
     let p = c.before.before.args.profile in
-    omega (arith, image-centred p, body-small p, averages-inside p)
+    omega (arith, image_centred p, body_small p, averages_inside p)
 
 returns : tie.Need-returns
 returns c =
     let a = c.before.before.before.before.args in
     simp (c.at-even.ensures, c.before.within.ensures, c.before.before.averages.ensures, c.before.before.before.image-start.ensures)
-    (sym (average-places a.profile a.place))
+    (sym (average_places a.profile a.place))
 
-pub average-at-spec : {M : Type 1} → statement M
-average-at-spec =
+pub average_at_spec : {M : Type 1} → statement M
+average_at_spec =
     tie.close
     (tie.spec
     (λ c κs. search rules)
     (λ c κs. search rules)
-    add-within
+    add_within
     (λ c κs. search rules)
     (λ c κs. search rules)
     returns)

@@ -4,8 +4,8 @@ use Prim.Native.Nat.{◌≤◌, ◌-◌}
 use borrow.Author.Rules.{rules}
 use lib.ListN.{length, drop}
 use Rattle.profile.specs.Layout.{rules, fits}
-use Rattle.profile.specs.LayoutLaws.{rules-length}
-use Rattle.line_layout.proofs.Fits.{fits-unequal, fits-step, fits-end}
+use Rattle.profile.specs.LayoutLaws.{rules_length}
+use Rattle.line_layout.proofs.Fits.{fits_unequal, fits_step, fits_end}
 use Rattle.line_layout.proofs.body_fits.Statement.{statement}
 use Rattle.line_layout.proofs.body_fits.Tie as tie
 
@@ -19,31 +19,31 @@ decreases-loop profile kind body i₀ i = length body - i
 returns : tie.Need-returns invariant-loop decreases-loop
 returns c =
     let a = c.before.before.before.args in
-    let e = c.before.body-length.ensures ∙ sym (rules-length a.profile a.kind) in
-    sym (fits-unequal (rules a.profile a.kind) a.body.now (λ q. c.if1.true (q ∙ sym e)))
+    let e = c.before.body-length.ensures ∙ sym (rules_length a.profile a.kind) in
+    sym (fits_unequal (rules a.profile a.kind) a.body.now (λ q. c.if1.true (q ∙ sym e)))
 
 loop-holds : tie.Need-loop-init invariant-loop decreases-loop
 loop-holds c =
     let a = c.before.before.before.args in
-    (search rules, c.if1.false ∙ c.before.body-length.ensures ∙ sym (rules-length a.profile a.kind), refl)
+    (search rules, c.if1.false ∙ c.before.body-length.ensures ∙ sym (rules_length a.profile a.kind), refl)
 
 loop-again : tie.Need-loop-preserved invariant-loop decreases-loop
 loop-again c =
     let l = c.before.before.before.before.before.loop.invariant in
-    (search rules, l.1, l.2 ∙ fits-step _ _ _ l.1 c.before.before.before.before.loop-test.true ∙ simp (← c.before.before.before.rule-at.ensures, ← c.before.allows.ensures, c.if2.true))
+    (search rules, l.1, l.2 ∙ fits_step _ _ _ l.1 c.before.before.before.before.loop-test.true ∙ simp (← c.before.before.before.rule-at.ensures, ← c.before.allows.ensures, c.if2.true))
 
 returns-2 : tie.Need-returns-2 invariant-loop decreases-loop
 returns-2 c =
     let l = c.before.before.before.before.before.loop.invariant in
-    sym (l.2 ∙ fits-step _ _ _ l.1 c.before.before.before.before.loop-test.true ∙ simp (← c.before.before.before.rule-at.ensures, ← c.before.allows.ensures, c.if2.false))
+    sym (l.2 ∙ fits_step _ _ _ l.1 c.before.before.before.before.loop-test.true ∙ simp (← c.before.before.before.rule-at.ensures, ← c.before.allows.ensures, c.if2.false))
 
 returns-3 : tie.Need-returns-3 invariant-loop decreases-loop
 returns-3 c =
     let l = c.before.loop.invariant in
-    sym (l.2 ∙ fits-end _ _ _ l.1 c.loop-test.false)
+    sym (l.2 ∙ fits_end _ _ _ l.1 c.loop-test.false)
 
-pub body-fits-spec : {M : Type 1} → statement M
-body-fits-spec =
+pub body_fits_spec : {M : Type 1} → statement M
+body_fits_spec =
     tie.close
     (tie.spec
     invariant-loop

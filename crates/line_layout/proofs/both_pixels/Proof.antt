@@ -9,5 +9,5 @@ returns c = simp (← c.before.before.is-pixel.ensures, c.before.if1.true, c.is-
 returns-2 : tie.Need-returns-2
 returns-2 c = simp (← c.before.is-pixel.ensures, c.if1.false)
 
-pub both-pixels-spec : {M : Type 1} → statement M
-both-pixels-spec = tie.close (tie.spec (λ c κs. search rules) (λ c κs. search rules) returns returns-2)
+pub both_pixels_spec : {M : Type 1} → statement M
+both_pixels_spec = tie.close (tie.spec (λ c κs. search rules) (λ c κs. search rules) returns returns-2)

@@ -21,8 +21,8 @@ returns-5 c = simp (c.before.before.before.enum-told2.given.1, c.before.enum-tol
 returns-6 : tie.Need-returns-6
 returns-6 c = simp (c.before.before.before.enum-told2.given.1, c.before.enum-told7.given.1, c.both-are5.ensures)
 
-pub gap-fits-spec : {M : Type 1} → statement M
-gap-fits-spec =
+pub gap_fits_spec : {M : Type 1} → statement M
+gap_fits_spec =
     tie.close
     (tie.spec
     (λ c. search rules)

@@ -15,8 +15,8 @@ returns-2 c = simp (← c.before.before.before.is-good.ensures, ← c.before.is-
 returns-3 : tie.Need-returns-3
 returns-3 c = simp (← c.before.is-good.ensures, c.if1.false)
 
-pub decode-spec : {M : Type 1} → statement M
-decode-spec =
+pub decode_spec : {M : Type 1} → statement M
+decode_spec =
     tie.close
     (tie.spec
     (λ c κs. search rules)

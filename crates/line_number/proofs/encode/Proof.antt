@@ -10,8 +10,8 @@ returns c = simp (lt-leb _ _ c.if1.true)
 returns-2 : tie.Need-returns-2
 returns-2 c = simp (le-leb _ _ c.before.before.if1.false, c.number-byte2.ensures, c.before.number-byte.ensures)
 
-pub encode-spec : {M : Type 1} → statement M
-encode-spec =
+pub encode_spec : {M : Type 1} → statement M
+encode_spec =
     tie.close
     (tie.spec
     returns

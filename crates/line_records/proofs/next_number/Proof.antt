@@ -10,5 +10,5 @@ returns c = none c.if1.true
 returns-2 : tie.Need-returns-2
 returns-2 c = some c.before.if1.false c.number.ensures.0 c.number.ensures.1
 
-pub next-number-spec : {M : Type 1} → statement M
-next-number-spec = tie.close (tie.spec returns (λ c κs. search rules) returns-2)
+pub next_number_spec : {M : Type 1} → statement M
+next_number_spec = tie.close (tie.spec returns (λ c κs. search rules) returns-2)

@@ -5,14 +5,14 @@ use borrow.Author.Rules.{rules}
 use Rattle.list.proofs.list_asked.Statement.{statement}
 use Rattle.list.proofs.list_asked.Tie as tie
 
-array-share-prefix-name : tie.Need-array-share-prefix-name
-array-share-prefix-name c = search rules
+array_share_prefix_name : tie.Need-array-share-prefix-name
+array_share_prefix_name c = search rules
 
-slice-aggregate-list-input : tie.Need-slice-aggregate-list-input
-slice-aggregate-list-input c = sym (length-take-le _ _ (array-share-prefix-name c.before))
+slice_aggregate_list_input : tie.Need-slice-aggregate-list-input
+slice_aggregate_list_input c = sym (length-take-le _ _ (array_share_prefix_name c.before))
 
-pub list-asked-spec : {M : Type 1} → statement M
-list-asked-spec =
+pub list_asked_spec : {M : Type 1} → statement M
+list_asked_spec =
     tie.close
     (tie.spec
     (λ c κs. search rules)
@@ -21,8 +21,8 @@ list-asked-spec =
     (λ c. search rules)
     (λ c. search rules)
     (λ c κs. search rules)
-    array-share-prefix-name
-    slice-aggregate-list-input
+    array_share_prefix_name
+    slice_aggregate_list_input
     (λ c κs. search rules)
     (λ c κs. search rules)
     (λ c. search rules))

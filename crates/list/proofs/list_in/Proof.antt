@@ -18,8 +18,8 @@ same-length-4 c =
     let read = piece.before.before.before.before.before.before.before.before.before.before in
     rest.list-rest.auto.1.1.1.0 ∙ read.read.auto.1.0
 
-pub list-in-spec : {M : Type 1} → statement M
-list-in-spec =
+pub list_in_spec : {M : Type 1} → statement M
+list_in_spec =
     tie.close
     (tie.spec
     (λ c κs. search rules)

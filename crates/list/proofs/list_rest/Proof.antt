@@ -17,8 +17,8 @@ loop-holds c = (search rules, search rules)
 loop-again : tie.Need-loop-preserved invariant-loop decreases-loop
 loop-again c = (search rules, search rules)
 
-pub list-rest-spec : {M : Type 1} → statement M
-list-rest-spec =
+pub list_rest_spec : {M : Type 1} → statement M
+list_rest_spec =
     tie.close
     (tie.spec
     invariant-loop

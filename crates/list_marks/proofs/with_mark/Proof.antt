@@ -9,5 +9,5 @@ returns c = simp (← c.before.before.is-answer.ensures, c.before.if1.true, c.on
 returns-2 : tie.Need-returns-2
 returns-2 c = simp (← c.before.is-answer.ensures, c.if1.false)
 
-pub with-mark-spec : {M : Type 1} → statement M
-with-mark-spec = tie.close (tie.spec (λ c κs. search rules) (λ c κs. search rules) returns returns-2)
+pub with_mark_spec : {M : Type 1} → statement M
+with_mark_spec = tie.close (tie.spec (λ c κs. search rules) (λ c κs. search rules) returns returns-2)

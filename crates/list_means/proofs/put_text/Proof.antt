@@ -15,7 +15,7 @@ returns-2 : tie.Need-returns-2
 unfolding text_of
 returns-2 c = simp c.before.before.before.before.before.awaits.given.1 c.before.before.put-answer.ensures
 
-pub put-text-spec : {M : Type 1} → statement M
-put-text-spec =
+pub put_text_spec : {M : Type 1} → statement M
+put_text_spec =
     tie.close
     (tie.spec (λ c. search rules) (λ c. search rules) (λ c κs. search rules) returns (λ c. search rules) returns-2)

@@ -16,8 +16,8 @@ returns-3 c =
     let setting = c.before.before.before.before.before in
     simp (setting.before.before.before.borders.given.1, setting.enum-told3.given.1) c.before.before.put3.ensures
 
-pub put-borders-spec : {M : Type 1} → statement M
-put-borders-spec =
+pub put_borders_spec : {M : Type 1} → statement M
+put_borders_spec =
     tie.close
     (tie.spec
     (λ c. search rules)

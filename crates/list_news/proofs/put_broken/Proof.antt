@@ -1,12 +1,12 @@
 -- The parts of the line, one after another.
 use borrow.Author.Rules.{rules}
 use Rattle.text.specs.PutLaws.{then}
-use Rattle.list_news.specs.NewsLines.{brokenLineOf}
+use Rattle.list_news.specs.NewsLines.{broken_line_of}
 use Rattle.list_news.proofs.put_broken.Statement.{statement}
 use Rattle.list_news.proofs.put_broken.Tie as tie
 
 returns : tie.Need-returns
-unfolding brokenLineOf
+unfolding broken_line_of
 returns c =
     let reason = c.before.before in
     let refusal = reason.before.before.before.before in
@@ -18,8 +18,8 @@ returns c =
     (then words.put.ensures
     (then mark.put-decimal.ensures (then colon.put2.ensures (then refusal.put-decimal2.ensures reason.put-reason.ensures))))
 
-pub put-broken-spec : {M : Type 1} → statement M
-put-broken-spec =
+pub put_broken_spec : {M : Type 1} → statement M
+put_broken_spec =
     tie.close
     (tie.spec
     (λ c κs. search rules)

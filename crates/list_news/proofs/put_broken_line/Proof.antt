@@ -10,8 +10,8 @@ returns c =
     let own = end.before.before.before.before.before in
     then own.before.before.before.before.put.ensures (then own.put-decimal.ensures end.put2.ensures)
 
-pub put-broken-line-spec : {M : Type 1} → statement M
-put-broken-line-spec =
+pub put_broken_line_spec : {M : Type 1} → statement M
+put_broken_line_spec =
     tie.close
     (tie.spec
     (λ c. search rules)

@@ -1,12 +1,12 @@
 -- The parts of the line, one after another.
 use borrow.Author.Rules.{rules}
 use Rattle.text.specs.PutLaws.{then}
-use Rattle.list_news.specs.NewsLines.{completeLine}
+use Rattle.list_news.specs.NewsLines.{complete_line}
 use Rattle.list_news.proofs.put_complete.Statement.{statement}
 use Rattle.list_news.proofs.put_complete.Tie as tie
 
 returns : tie.Need-returns
-unfolding completeLine
+unfolding complete_line
 returns c =
     let mark = c.before.before in
     let last = mark.before.before.before.before in
@@ -15,8 +15,8 @@ returns c =
     let frame = words.before.before.before.before.before in
     then frame.put-frame.ensures (then words.put.ensures (then borders.put-borders.ensures (then last.put2.ensures mark.put-decimal.ensures)))
 
-pub put-complete-spec : {M : Type 1} → statement M
-put-complete-spec =
+pub put_complete_spec : {M : Type 1} → statement M
+put_complete_spec =
     tie.close
     (tie.spec
     (λ c κs. search rules)

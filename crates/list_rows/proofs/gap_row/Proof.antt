@@ -9,6 +9,6 @@ returns c =
     let words = c.before.before in
     then words.before.before.before.before.before.put-decimal.ensures words.put.ensures
 
-pub gap-row-spec : {M : Type 1} → statement M
-gap-row-spec =
+pub gap_row_spec : {M : Type 1} → statement M
+gap_row_spec =
     tie.close (tie.spec (λ c κs. search rules) (λ c. search rules) (λ c κs. search rules) (λ c. search rules) returns)

@@ -3,18 +3,18 @@ use mathlib.Core.Path.{refl}
 use native.Mathlib.Omega.{arith}
 use borrow.Author.Tests.{lt-ltb, le-ltb}
 use borrow.Author.Rules.{rules}
-use Rattle.text.specs.PutLaws.{puts-front}
-use Rattle.list_rows.specs.Rows.{rowIfRoom}
+use Rattle.text.specs.PutLaws.{puts_front}
+use Rattle.list_rows.specs.Rows.{row_if_room}
 use Rattle.list_rows.proofs.header.Statement.{statement}
 use Rattle.list_rows.proofs.header.Tie as tie
 
 returns : tie.Need-returns
-unfolding rowIfRoom
+unfolding row_if_room
 returns c = simp (lt-ltb _ _ c.if1.true) (record { count = refl; leaves = refl })
 
 returns-2 : tie.Need-returns-2
-unfolding rowIfRoom
-returns-2 c = simp (le-ltb _ _ c.before.before.before.before.before.if1.false) (puts-front c.before.before.put.ensures (omega (arith, c.before.before.before.before.before.if1.false)))
+unfolding row_if_room
+returns-2 c = simp (le-ltb _ _ c.before.before.before.before.before.if1.false) (puts_front c.before.before.put.ensures (omega (arith, c.before.before.before.before.before.if1.false)))
 
-pub header-spec : {M : Type 1} → statement M
-header-spec = tie.close (tie.spec returns (λ c. search rules) (λ c κs. search rules) (λ c. search rules) returns-2)
+pub header_spec : {M : Type 1} → statement M
+header_spec = tie.close (tie.spec returns (λ c. search rules) (λ c κs. search rules) (λ c. search rules) returns-2)

@@ -11,8 +11,8 @@ returns c =
     let space = line.before.before.before.before in
     then space.before.before.before.before.before.put-decimal.ensures (then space.put.ensures (then line.put-line.ensures end.put2.ensures))
 
-pub line-row-spec : {M : Type 1} → statement M
-line-row-spec =
+pub line_row_spec : {M : Type 1} → statement M
+line_row_spec =
     tie.close
     (tie.spec
     (λ c κs. search rules)

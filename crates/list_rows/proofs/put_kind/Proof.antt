@@ -18,8 +18,8 @@ returns-4 c = simp c.before.before.before.before.before.enum-told4.given.1 c.bef
 returns-5 : tie.Need-returns-5
 returns-5 c = simp c.before.before.before.before.before.enum-told5.given.1 c.before.before.put5.ensures
 
-pub put-kind-spec : {M : Type 1} → statement M
-put-kind-spec =
+pub put_kind_spec : {M : Type 1} → statement M
+put_kind_spec =
     tie.close
     (tie.spec
     (λ c. search rules)

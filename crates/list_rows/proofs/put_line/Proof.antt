@@ -1,12 +1,12 @@
 -- Kind, number and note, one after another; the note by the facts' own test of repair.
 use borrow.Author.Rules.{rules}
 use Rattle.text.specs.PutLaws.{then}
-use Rattle.list_rows.specs.Rows.{lineWords}
+use Rattle.list_rows.specs.Rows.{line_words}
 use Rattle.list_rows.proofs.put_line.Statement.{statement}
 use Rattle.list_rows.proofs.put_line.Tie as tie
 
 returns : tie.Need-returns
-unfolding lineWords
+unfolding line_words
 returns c =
     let note = c.before.before in
     let second = note.before.before.before.before.before in
@@ -16,8 +16,8 @@ returns c =
     simp (← note.before.before.is-repaired.ensures)
     (then kind.put-kind.ensures (then first.put.ensures (then number.put-decimal.ensures (then second.put2.ensures note.put-note.ensures))))
 
-pub put-line-spec : {M : Type 1} → statement M
-put-line-spec =
+pub put_line_spec : {M : Type 1} → statement M
+put_line_spec =
     tie.close
     (tie.spec
     (λ c κs. search rules)

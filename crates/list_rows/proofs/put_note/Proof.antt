@@ -9,8 +9,8 @@ returns c = simp c.before.before.before.before.before.if1.true c.before.before.p
 returns-2 : tie.Need-returns-2
 returns-2 c = simp c.before.before.before.before.before.if1.false c.before.before.put2.ensures
 
-pub put-note-spec : {M : Type 1} → statement M
-put-note-spec =
+pub put_note_spec : {M : Type 1} → statement M
+put_note_spec =
     tie.close
     (tie.spec
     (λ c. search rules)

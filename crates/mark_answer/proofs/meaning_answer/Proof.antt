@@ -17,8 +17,8 @@ returns-3 c = simp c.enum-told2.given.1
 returns-4 : tie.Need-returns-4
 returns-4 c = simp c.enum-told3.given.1
 
-pub meaning-answer-spec : {M : Type 1} → statement M
-meaning-answer-spec =
+pub meaning_answer_spec : {M : Type 1} → statement M
+meaning_answer_spec =
     tie.close
     (tie.spec
     (λ c. search rules)

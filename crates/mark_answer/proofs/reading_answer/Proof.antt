@@ -9,5 +9,5 @@ returns c = simp (c.before.before.reading.given.1, c.meaning-answer.ensures)
 returns-2 : tie.Need-returns-2
 returns-2 c = simp c.enum_told.given.1
 
-pub reading-answer-spec : {M : Type 1} → statement M
-reading-answer-spec = tie.close (tie.spec (λ c. search rules) (λ c κs. search rules) (λ c. search rules) returns returns-2)
+pub reading_answer_spec : {M : Type 1} → statement M
+reading_answer_spec = tie.close (tie.spec (λ c. search rules) (λ c κs. search rules) (λ c. search rules) returns returns-2)

@@ -6,15 +6,15 @@ use mathlib.Core.Path.{◌≡◌, sym}
 use mathlib.Core.Bool.{Bool, true, false, cond}
 use mathlib.Core.List.{List}
 use lib.Dec.{eqb}
-use Rattle.mark_text.specs.MarkText.{body_at, bodyPlace}
+use Rattle.mark_text.specs.MarkText.{body_at, body_place}
 use borrow.Author.Rules.{rules}
 use Rattle.mark_text.proofs.store.Statement.{statement}
 use Rattle.mark_text.proofs.store.Tie as tie
 
 -- what is put past a list's end changes nothing
-either-out : (t : Bool) (b x y : List ℕ) → x ≡ b → y ≡ b → b ≡ cond t x y
-either-out true b x y e f = sym e
-either-out false b x y e f = sym f
+either_out : (t : Bool) (b x y : List ℕ) → x ≡ b → y ≡ b → b ≡ cond t x y
+either_out true b x y e f = sym e
+either_out false b x y e f = sym f
 
 returns : tie.Need-returns
 unfolding body_at
@@ -28,11 +28,11 @@ returns-3 : tie.Need-returns-3
 unfolding body_at
 returns-3 c =
     let a = c.before.before.before.before.args in
-    let i : ℕ = (a.place - bodyPlace) / 2 in
+    let i : ℕ = (a.place - body_place) / 2 in
     let b : List ℕ = a.body.now in
     let out = c.if3.true in
     simp (le-leb _ _ c.before.before.if1.false, lt-ltb _ _ c.before.if2.false)
-    (either-out (eqb (a.place % 2) 0) b _ _ (set_out b i _ out) (set_out b i _ out))
+    (either_out (eqb (a.place % 2) 0) b _ _ (set_out b i _ out) (set_out b i _ out))
 
 returns-4 : tie.Need-returns-4
 unfolding body_at

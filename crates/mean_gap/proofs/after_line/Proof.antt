@@ -6,8 +6,8 @@ use Rattle.mean_gap.proofs.after_line.Tie as tie
 returns-3 : tie.Need-returns-3
 returns-3 c = simp c.enum-told3.given.1
 
-pub after-line-spec : {M : Type 1} → statement M
-after-line-spec =
+pub after_line_spec : {M : Type 1} → statement M
+after_line_spec =
     tie.close
     (tie.spec
     (λ c. search rules)

@@ -5,7 +5,7 @@ use Prim.Native.Nat.{ℕ, ◌*◌}
 use Rattle.text.specs.Put.{Puts}
 use Rattle.text.specs.PutLaws.{then}
 use Rattle.half_means.specs.HalfMeans.{difference}
-use Rattle.mean_rows.specs.MeanRowsLaws.{signed-less, signed-more}
+use Rattle.mean_rows.specs.MeanRowsLaws.{signed_less, signed_more}
 use borrow.Author.Rules.{rules}
 use Rattle.mean_rows.proofs.put_difference.Statement.{statement}
 use Rattle.mean_rows.proofs.put_difference.Tie as tie
@@ -18,7 +18,7 @@ returns c =
     let test = sign.before.before.before in
     let a = test.before.before.args in
     subst (λ (v : List ℕ). Puts a.out.now a.at v number.put-decimal.result number.put-decimal.new.1.0)
-    (sym (signed-less (64 * a.byte) a.sum test.if1.true))
+    (sym (signed_less (64 * a.byte) a.sum test.if1.true))
     (then sign.put.ensures number.put-decimal.ensures)
 
 returns-2 : tie.Need-returns-2
@@ -28,11 +28,11 @@ returns-2 c =
     let test = number.before.before in
     let a = test.before.before.args in
     subst (λ (v : List ℕ). Puts a.out.now a.at v number.put-decimal2.result number.put-decimal2.new.1.0)
-    (sym (signed-more (64 * a.byte) a.sum test.if1.false))
+    (sym (signed_more (64 * a.byte) a.sum test.if1.false))
     number.put-decimal2.ensures
 
-pub put-difference-spec : {M : Type 1} → statement M
-put-difference-spec =
+pub put_difference_spec : {M : Type 1} → statement M
+put_difference_spec =
     tie.close
     (tie.spec
     (λ c. search rules)

@@ -1,12 +1,12 @@
 -- The three numbers, with a space after each.
 use Rattle.text.specs.PutLaws.{then}
-use Rattle.mean_rows.specs.MeanRows.{startWords}
+use Rattle.mean_rows.specs.MeanRows.{start_words}
 use borrow.Author.Rules.{rules}
 use Rattle.mean_rows.proofs.put_start.Statement.{statement}
 use Rattle.mean_rows.proofs.put_start.Tie as tie
 
 returns : tie.Need-returns
-unfolding startWords
+unfolding start_words
 returns c =
     let end = c.before.before in
     let second = end.before.before.before.before.before in
@@ -17,8 +17,8 @@ returns c =
     (then space.put.ensures
     (then first.put-decimal2.ensures (then middle.put2.ensures (then second.put-decimal3.ensures end.put3.ensures))))
 
-pub put-start-spec : {M : Type 1} → statement M
-put-start-spec =
+pub put_start_spec : {M : Type 1} → statement M
+put_start_spec =
     tie.close
     (tie.spec
     (λ c κs. search rules)

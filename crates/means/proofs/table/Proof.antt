@@ -5,14 +5,14 @@ use borrow.Author.Rules.{rules}
 use Rattle.means.proofs.table.Statement.{statement}
 use Rattle.means.proofs.table.Tie as tie
 
-array-share-prefix-name : tie.Need-array-share-prefix-name
-array-share-prefix-name c = search rules
+array_share_prefix_name : tie.Need-array-share-prefix-name
+array_share_prefix_name c = search rules
 
-slice-aggregate-write-rows : tie.Need-slice-aggregate-write-rows
-slice-aggregate-write-rows c = sym (length-take-le _ _ (array-share-prefix-name c.before))
+slice_aggregate_write_rows : tie.Need-slice-aggregate-write-rows
+slice_aggregate_write_rows c = sym (length-take-le _ _ (array_share_prefix_name c.before))
 
-pub table-spec : {M : Type 1} → statement M
-table-spec =
+pub table_spec : {M : Type 1} → statement M
+table_spec =
     tie.close
     (tie.spec
     (λ c κs. search rules)
@@ -20,8 +20,8 @@ table-spec =
     (λ c κs. search rules)
     (λ c. search rules)
     (λ c. search rules)
-    array-share-prefix-name
-    slice-aggregate-write-rows
+    array_share_prefix_name
+    slice_aggregate_write_rows
     (λ c κs. search rules)
     (λ c κs. search rules)
     (λ c. search rules))

@@ -5,21 +5,21 @@ use borrow.Author.Rules.{rules}
 use Rattle.means.proofs.write_header.Statement.{statement}
 use Rattle.means.proofs.write_header.Tie as tie
 
-array-share-prefix-out : tie.Need-array-share-prefix-out
-array-share-prefix-out c = search rules
+array_share_prefix_out : tie.Need-array-share-prefix-out
+array_share_prefix_out c = search rules
 
-slice-aggregate-write : tie.Need-slice-aggregate-write
-slice-aggregate-write c = sym (length-take-le _ _ (array-share-prefix-out c.before))
+slice_aggregate_write : tie.Need-slice-aggregate-write
+slice_aggregate_write c = sym (length-take-le _ _ (array_share_prefix_out c.before))
 
-pub write-header-spec : {M : Type 1} → statement M
-write-header-spec =
+pub write_header_spec : {M : Type 1} → statement M
+write_header_spec =
     tie.close
     (tie.spec
     (λ c κs. search rules)
     (λ c. search rules)
     (λ c κs. search rules)
     (λ c. search rules)
-    array-share-prefix-out
-    slice-aggregate-write
+    array_share_prefix_out
+    slice_aggregate_write
     (λ c κs. search rules)
     (λ c. search rules))

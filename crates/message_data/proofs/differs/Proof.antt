@@ -17,5 +17,5 @@ returns-3 : tie.Need-returns-3
 unfolding differs
 returns-3 c = simp (lt-ltb _ _ c.if1.false)
 
-pub differs-spec : {M : Type 1} → statement M
-differs-spec = tie.close (tie.spec (λ c. search rules) returns returns-2 returns-3)
+pub differs_spec : {M : Type 1} → statement M
+differs_spec = tie.close (tie.spec (λ c. search rules) returns returns-2 returns-3)

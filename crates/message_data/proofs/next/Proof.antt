@@ -12,5 +12,5 @@ returns-2 : tie.Need-returns-2
 unfolding next
 returns-2 c = simp c.if1.false
 
-pub next-spec : {M : Type 1} → statement M
-next-spec = tie.close (tie.spec (λ c. search rules) returns returns-2)
+pub next_spec : {M : Type 1} → statement M
+next_spec = tie.close (tie.spec (λ c. search rules) returns returns-2)

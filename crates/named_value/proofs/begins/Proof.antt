@@ -4,13 +4,13 @@ use Prim.Native.Nat.{◌≤◌, ◌-◌}
 use borrow.Author.Rules.{rules}
 use borrow.Author.Tests.{eq-eqb, ne_eqb}
 use lib.ListN.{length, drop}
-use Rattle.named_value.specs.Number.{firstWordIs}
-use Rattle.named_value.specs.NumberLaws.{starts-step, starts-short, starts-whole}
+use Rattle.named_value.specs.Number.{first_word_is}
+use Rattle.named_value.specs.NumberLaws.{starts_step, starts_short, starts_whole}
 use Rattle.named_value.proofs.begins.Statement.{statement}
 use Rattle.named_value.proofs.begins.Tie as tie
 
 abbrev invariant-loop : tie.invariant-loop
-invariant-loop line word i₀ i = (i ≤ length word) × (firstWordIs word line ≡ firstWordIs (drop i word) (drop i line))
+invariant-loop line word i₀ i = (i ≤ length word) × (first_word_is word line ≡ first_word_is (drop i word) (drop i line))
 
 abbrev decreases-loop : tie.decreases-loop
 decreases-loop line word i₀ i = length word - i
@@ -19,19 +19,19 @@ loop-holds : tie.Need-loop-init invariant-loop decreases-loop
 loop-holds c = (search rules, refl)
 
 returns : tie.Need-returns invariant-loop decreases-loop
-returns c = sym (c.before.before.loop.invariant.1 ∙ starts-short _ _ _ c.before.loop-test.true c.if1.true)
+returns c = sym (c.before.before.loop.invariant.1 ∙ starts_short _ _ _ c.before.loop-test.true c.if1.true)
 
 loop-again : tie.Need-loop-preserved invariant-loop decreases-loop
-loop-again c = (search rules, c.before.before.before.before.before.loop.invariant.1 ∙ starts-step _ _ _ c.before.before.before.before.loop-test.true c.before.before.before.if1.false ∙ simp (eq-eqb _ _ c.if2.true))
+loop-again c = (search rules, c.before.before.before.before.before.loop.invariant.1 ∙ starts_step _ _ _ c.before.before.before.before.loop-test.true c.before.before.before.if1.false ∙ simp (eq-eqb _ _ c.if2.true))
 
 returns-2 : tie.Need-returns-2 invariant-loop decreases-loop
-returns-2 c = sym (c.before.before.before.before.before.loop.invariant.1 ∙ starts-step _ _ _ c.before.before.before.before.loop-test.true c.before.before.before.if1.false ∙ simp (ne_eqb _ _ c.if2.false))
+returns-2 c = sym (c.before.before.before.before.before.loop.invariant.1 ∙ starts_step _ _ _ c.before.before.before.before.loop-test.true c.before.before.before.if1.false ∙ simp (ne_eqb _ _ c.if2.false))
 
 returns-3 : tie.Need-returns-3 invariant-loop decreases-loop
-returns-3 c = c.ends-word.ensures ∙ sym (c.before.before.loop.invariant.1 ∙ starts-whole _ _ _ c.before.loop-test.false)
+returns-3 c = c.ends-word.ensures ∙ sym (c.before.before.loop.invariant.1 ∙ starts_whole _ _ _ c.before.loop-test.false)
 
-pub begins-spec : {M : Type 1} → statement M
-begins-spec =
+pub begins_spec : {M : Type 1} → statement M
+begins_spec =
     tie.close
     (tie.spec
     invariant-loop

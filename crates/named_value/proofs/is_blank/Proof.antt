@@ -1,20 +1,20 @@
 -- Each blank is tried, in the order of the definition.
 use borrow.Author.Tests.{eq-eqb, ne_eqb}
-use Rattle.named_value.specs.Number.{isBlank}
+use Rattle.named_value.specs.Number.{is_blank}
 use Rattle.named_value.proofs.is_blank.Statement.{statement}
 use Rattle.named_value.proofs.is_blank.Tie as tie
 
 returns : tie.Need-returns
-unfolding isBlank
+unfolding is_blank
 returns c = simp (eq-eqb _ _ c.if1.true)
 
 returns-2 : tie.Need-returns-2
-unfolding isBlank
+unfolding is_blank
 returns-2 c = simp (ne_eqb _ _ c.before.if1.false, eq-eqb _ _ c.if2.true)
 
 returns-3 : tie.Need-returns-3
-unfolding isBlank
+unfolding is_blank
 returns-3 c = simp (ne_eqb _ _ c.before.if1.false, ne_eqb _ _ c.if2.false)
 
-pub is-blank-spec : {M : Type 1} → statement M
-is-blank-spec = tie.close (tie.spec returns returns-2 returns-3)
+pub is_blank_spec : {M : Type 1} → statement M
+is_blank_spec = tie.close (tie.spec returns returns-2 returns-3)

@@ -6,5 +6,5 @@ use Rattle.period_faults.proofs.is_long.Tie as tie
 returns : tie.Need-returns
 returns c = simp c.before.most-period.ensures
 
-pub is-long-spec : {M : Type 1} → statement M
-is-long-spec = tie.close (tie.spec (λ c κs. search rules) returns)
+pub is_long_spec : {M : Type 1} → statement M
+is_long_spec = tie.close (tie.spec (λ c κs. search rules) returns)

@@ -10,5 +10,5 @@ returns c = simp (eq-eqb _ _ c.before.if1.true)
 returns-2 : tie.Need-returns-2
 returns-2 c = simp (ne_eqb _ _ c.if1.false)
 
-pub is-odd-spec : {M : Type 1} → statement M
-is-odd-spec = tie.close (tie.spec returns returns-2)
+pub is_odd_spec : {M : Type 1} → statement M
+is_odd_spec = tie.close (tie.spec returns returns-2)

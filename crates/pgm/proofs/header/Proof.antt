@@ -1,5 +1,5 @@
 -- The header, digit by digit: each is its number's, and each number has three.
-use Rattle.picture_file.specs.PictureFileLaws.{header-digits}
+use Rattle.picture_file.specs.PictureFileLaws.{header_digits}
 use borrow.Author.Rules.{rules}
 use Rattle.pgm.proofs.header.Statement.{statement}
 use Rattle.pgm.proofs.header.Tie as tie
@@ -9,7 +9,7 @@ returns c =
     let fourth = c.before.before.before.before.before in
     let first = fourth.before.before.before in
     simp (
-      header-digits first.before.before.args.format,
+      header_digits first.before.before.args.format,
       c.digit9.ensures,
       c.before.digit8.ensures,
       c.before.before.digit7.ensures,
@@ -22,8 +22,8 @@ returns c =
       first.before.height.ensures,
     )
 
-pub header-spec : {M : Type 1} → statement M
-header-spec =
+pub header_spec : {M : Type 1} → statement M
+header_spec =
     tie.close
     (tie.spec
     (λ c κs. search rules)

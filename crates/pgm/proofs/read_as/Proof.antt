@@ -26,12 +26,12 @@ returns-2 c =
 returns-3 : tie.Need-returns-3
 unfolding require
 returns-3 c =
-    let size-there = c.before.before.before.before.before.before.before.before.size in
-    let test-1 = c.before.before.before.before.before.before.before.if1 in
+    let size_there = c.before.before.before.before.before.before.before.before.size in
+    let test_1 = c.before.before.before.before.before.before.before.if1 in
     let a = c.before.before.before.before.before.before.before.before.before.before.before.args in
     let n = c.before.before.copy.ensures.0 in
     fills _ _ a.body.now _ _
-    (simp (eq-eqb _ (size a.format) (test-1.false ∙ size-there.ensures), ← c.before.before.before.before.before.before.all-pixels.ensures, c.before.before.before.before.before.if2.true, le-leb _ _ c.before.before.before.before.if3.false, n))
+    (simp (eq-eqb _ (size a.format) (test_1.false ∙ size_there.ensures), ← c.before.before.before.before.before.before.all-pixels.ensures, c.before.before.before.before.before.if2.true, le-leb _ _ c.before.before.before.before.if3.false, n))
     (sym n)
     (c.before.before.copy.ensures.1 ∙ ap (λ (l : List ℕ). l ++ drop (length a.body.now) a.rows.now) (take-length a.body.now) ∙ ap (λ (m : ℕ). a.body.now ++ drop m a.rows.now) (sym n))
 
@@ -41,8 +41,8 @@ returns-4 c =
     refuses _ _ _
     (simp (eq-eqb _ (size c.before.before.before.before.before.before.args.format) (c.before.before.if1.false ∙ c.before.before.before.size.ensures), ← c.before.all-pixels.ensures, c.if2.false))
 
-pub read-as-spec : {M : Type 1} → statement M
-read-as-spec =
+pub read_as_spec : {M : Type 1} → statement M
+read_as_spec =
     tie.close
     (tie.spec
     (λ c κs. search rules)

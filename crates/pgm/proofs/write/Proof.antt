@@ -3,24 +3,24 @@ use mathlib.Core.Path.{sym, ◌∙◌}
 use borrow.Author.Tests.{eq-eqb, ne_eqb}
 use Rattle.lent_buffer.specs.FilledLaws.{refuses}
 use Rattle.picture_file.specs.declared.Format.TheVariants.{Bordered, Plain}
-use Rattle.picture_file.specs.PictureFile.{size, either, writeOf}
+use Rattle.picture_file.specs.PictureFile.{size, either, write_of}
 use borrow.Author.Rules.{rules}
 use Rattle.pgm.proofs.write.Statement.{statement}
 use Rattle.pgm.proofs.write.Tie as tie
 
 returns : tie.Need-returns
-unfolding writeOf either
+unfolding write_of either
 returns c = simp (eq-eqb _ (size Bordered) (c.before.before.before.before.if1.true ∙ c.before.before.before.before.before.size.ensures)) c.before.before.write_as.ensures
 
 returns-2 : tie.Need-returns-2
-unfolding writeOf either
+unfolding write_of either
 returns-2 c =
-    let size-there = c.before.before.before.before.before.before.before.size in
-    simp (ne_eqb _ (size Bordered) (λ e. c.before.before.before.before.before.before.if1.false (e ∙ sym size-there.ensures)), eq-eqb _ (size Plain) (c.before.before.before.before.if2.true ∙ c.before.before.before.before.before.size2.ensures))
+    let size_there = c.before.before.before.before.before.before.before.size in
+    simp (ne_eqb _ (size Bordered) (λ e. c.before.before.before.before.before.before.if1.false (e ∙ sym size_there.ensures)), eq-eqb _ (size Plain) (c.before.before.before.before.if2.true ∙ c.before.before.before.before.before.size2.ensures))
     c.before.before.write-as2.ensures
 
 returns-3 : tie.Need-returns-3
-unfolding writeOf either
+unfolding write_of either
 returns-3 c =
     refuses _ _ _
     (simp (ne_eqb _ (size Bordered) (λ e. c.before.before.if1.false (e ∙ sym c.before.before.before.size.ensures)), ne_eqb _ (size Plain) (λ e. c.if2.false (e ∙ sym c.before.size2.ensures))))

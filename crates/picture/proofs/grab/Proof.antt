@@ -5,20 +5,20 @@ use borrow.Author.Rules.{rules}
 use Rattle.picture.proofs.grab.Statement.{statement}
 use Rattle.picture.proofs.grab.Tie as tie
 
-array-share-prefix-rows : tie.Need-array-share-prefix-rows
-array-share-prefix-rows c = search rules
+array_share_prefix_rows : tie.Need-array-share-prefix-rows
+array_share_prefix_rows c = search rules
 
-slice-aggregate-write : tie.Need-slice-aggregate-write
-slice-aggregate-write c = sym (length-take-le _ _ (array-share-prefix-rows c.before))
+slice_aggregate_write : tie.Need-slice-aggregate-write
+slice_aggregate_write c = sym (length-take-le _ _ (array_share_prefix_rows c.before))
 
-pub grab-spec : {M : Type 1} → statement M
-grab-spec =
+pub grab_spec : {M : Type 1} → statement M
+grab_spec =
     tie.close
     (tie.spec
     (λ c. search rules)
     (λ c κs. search rules)
     (λ c. search rules)
-    array-share-prefix-rows
-    slice-aggregate-write
+    array_share_prefix_rows
+    slice_aggregate_write
     (λ c κs. search rules)
     (λ c. search rules))

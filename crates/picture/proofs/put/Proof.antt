@@ -5,11 +5,11 @@ use borrow.Author.Rules.{rules}
 use Rattle.picture.proofs.put.Statement.{statement}
 use Rattle.picture.proofs.put.Tie as tie
 
-slice-aggregate-send-2 : tie.Need-slice-aggregate-send-2
-slice-aggregate-send-2 c = sym (length-take-le _ _ c.before.before.before.if1.false)
+slice_aggregate_send_2 : tie.Need-slice-aggregate-send-2
+slice_aggregate_send_2 c = sym (length-take-le _ _ c.before.before.before.if1.false)
 
-slice-aggregate-save : tie.Need-slice-aggregate-save
-slice-aggregate-save c = sym (length-take-le _ _ c.before.before.if1.false)
+slice_aggregate_save : tie.Need-slice-aggregate-save
+slice_aggregate_save c = sym (length-take-le _ _ c.before.before.if1.false)
 
 pub put_spec : {M : Type 1} → statement M
 put_spec =
@@ -17,9 +17,9 @@ put_spec =
     (tie.spec
     (λ c. search rules)
     (λ c. search rules)
-    slice-aggregate-send-2
+    slice_aggregate_send_2
     (λ c κs. search rules)
     (λ c. search rules)
-    slice-aggregate-save
+    slice_aggregate_save
     (λ c κs. search rules)
     (λ c. search rules))

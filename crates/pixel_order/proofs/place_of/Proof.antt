@@ -13,5 +13,5 @@ returns-2 : tie.Need-returns-2
 unfolding place_of
 returns-2 c = simp (ne_eqb _ 1 c.if1.false)
 
-pub place-of-spec : {M : Type 1} → statement M
-place-of-spec = tie.close (tie.spec (λ c. search rules) returns (λ c. search rules) returns-2)
+pub place_of_spec : {M : Type 1} → statement M
+place_of_spec = tie.close (tie.spec (λ c. search rules) returns (λ c. search rules) returns-2)

@@ -5,7 +5,7 @@ use native.Mathlib.Omega.{arith}
 use borrow.Author.Rules.{rules}
 use lib.ListN.{length, length-set}
 use Rattle.profile.specs.Profile.{width}
-use Rattle.pixel_order.specs.PixelOrderLaws.{source-inside}
+use Rattle.pixel_order.specs.PixelOrderLaws.{source_inside}
 use Rattle.pixel_order.proofs.Putting.{filled, put_next, put_all}
 use Rattle.pixel_order.proofs.put.Statement.{statement}
 use Rattle.pixel_order.proofs.put.Tie as tie
@@ -19,8 +19,8 @@ decreases-loop way from to₀ i₀ to i = width - i
 loop-holds : tie.Need-loop-init invariant-loop decreases-loop
 loop-holds c = (search rules, refl, refl)
 
-shared-slice-read-to : tie.Need-shared-slice-read-to invariant-loop decreases-loop
-shared-slice-read-to c = omega (arith, source-inside c.before.before.before.before.before.before.args.way c.before.before.before.loop.i c.before.before.loop-test.true, c.before.source.ensures)
+shared_slice_read_to : tie.Need-shared-slice-read-to invariant-loop decreases-loop
+shared_slice_read_to c = omega (arith, source_inside c.before.before.before.before.before.before.args.way c.before.before.before.loop.i c.before.before.loop-test.true, c.before.source.ensures)
 
 loop-again : tie.Need-loop-preserved invariant-loop decreases-loop
 loop-again c =
@@ -41,7 +41,7 @@ put_spec =
     decreases-loop
     loop-holds
     (λ c κs. search rules)
-    shared-slice-read-to
+    shared_slice_read_to
     (λ c. search rules)
     (λ c. search rules)
     (λ c. search rules)

@@ -15,5 +15,5 @@ returns-3 c =
     let b = c.before.before.args.byte in
     simp (le-leb 1 b (omega arith), le-leb b 254 (omega arith))
 
-pub is-pixel-spec : {M : Type 1} → statement M
-is-pixel-spec = tie.close (tie.spec returns returns-2 returns-3)
+pub is_pixel_spec : {M : Type 1} → statement M
+is_pixel_spec = tie.close (tie.spec returns returns-2 returns-3)

@@ -1,6 +1,6 @@
 -- The mark's answer is judged with what has left the window; the buffer follows that answer, and so does what the next mark keeps of it.
 use mathlib.Core.Path.{refl}
-use Rattle.mark_answer.specs.SoundLaws.{legible-body}
+use Rattle.mark_answer.specs.SoundLaws.{legible_body}
 use borrow.Author.Rules.{rules}
 use Rattle.reader.proofs.complete.Statement.{statement}
 use Rattle.reader.proofs.complete.Tie as tie
@@ -14,11 +14,11 @@ returns c =
       next = simp (c.Open-after.ensures, mark.at_mark.ensures.leaves, l, k);
       keeps = refl;
       says = simp (mark.at_mark.ensures.says, l, k);
-      leaves = simp (c.before.before.before.hand-out.ensures, mark.at_mark.ensures.says, l, k, legible-body);
+      leaves = simp (c.before.before.before.hand-out.ensures, mark.at_mark.ensures.says, l, k, legible_body);
     }
 
-pub complete-spec : {M : Type 1} → statement M
-complete-spec =
+pub complete_spec : {M : Type 1} → statement M
+complete_spec =
     tie.close
     (tie.spec
     (λ c κs. search rules)

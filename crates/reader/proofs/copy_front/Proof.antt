@@ -34,8 +34,8 @@ returns c =
     let l = c.before.loop in
     l.invariant.1 ∙ ap (λ (k : ℕ). copied a.to.now a.from.now k) (le_antisymm l.invariant.0 c.loop-test.false)
 
-pub copy-front-spec : {M : Type 1} → statement M
-copy-front-spec =
+pub copy_front_spec : {M : Type 1} → statement M
+copy_front_spec =
     tie.close
     (tie.spec
     invariant-loop

@@ -16,7 +16,7 @@ returns-3 c = λ b. simp (le-leb _ _ c.before.before.before.if1.false, lt-leb _ 
 returns-4 : tie.Need-returns-4
 returns-4 c = λ b. simp (le-leb _ _ c.before.before.if1.false, lt-leb _ _ c.before.if2.false, ne_eqb _ _ c.if3.false)
 
-pub marked-fits-spec : {M : Type 1} → statement M
-marked-fits-spec =
+pub marked_fits_spec : {M : Type 1} → statement M
+marked_fits_spec =
     tie.close
     (tie.spec returns (λ c κs. search rules) returns-2 (λ c. search rules) (λ c. search rules) (λ c κs. search rules) returns-3 returns-4)

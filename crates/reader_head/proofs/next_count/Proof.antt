@@ -13,5 +13,5 @@ returns-2 : tie.Need-returns-2
 unfolding bump
 returns-2 c = simp (le-ltb _ _ c.if1.false)
 
-pub next-count-spec : {M : Type 1} → statement M
-next-count-spec = tie.close (tie.spec (λ c. search rules) returns returns-2)
+pub next_count_spec : {M : Type 1} → statement M
+next_count_spec = tie.close (tie.spec (λ c. search rules) returns returns-2)

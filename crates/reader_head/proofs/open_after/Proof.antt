@@ -6,5 +6,5 @@ use Rattle.reader_head.proofs.open_after.Tie as tie
 returns : tie.Need-returns
 returns c = simp c.nothing.ensures
 
-pub open-after-spec : {M : Type 1} → statement M
-open-after-spec = tie.close (tie.spec (λ c κs. search rules) returns)
+pub open_after_spec : {M : Type 1} → statement M
+open_after_spec = tie.close (tie.spec (λ c κs. search rules) returns)

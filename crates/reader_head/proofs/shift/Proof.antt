@@ -6,5 +6,5 @@ use Rattle.reader_head.proofs.shift.Tie as tie
 returns : tie.Need-returns
 returns c = simp (c.leave-kept.ensures, c.before.slide.ensures, c.before.before.next-count.ensures)
 
-pub shift-spec : {M : Type 1} → statement M
-shift-spec = tie.close (tie.spec (λ c κs. search rules) (λ c κs. search rules) (λ c κs. search rules) returns)
+pub shift_spec : {M : Type 1} → statement M
+shift_spec = tie.close (tie.spec (λ c κs. search rules) (λ c κs. search rules) (λ c κs. search rules) returns)

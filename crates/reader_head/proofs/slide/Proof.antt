@@ -9,5 +9,5 @@ returns : tie.Need-returns
 unfolding slide
 returns c = refl
 
-pub slide-spec : {M : Type 1} → statement M
-slide-spec = tie.close (tie.spec (λ c. search rules) (λ c. search rules) (λ c. search rules) returns)
+pub slide_spec : {M : Type 1} → statement M
+slide_spec = tie.close (tie.spec (λ c. search rules) (λ c. search rules) (λ c. search rules) returns)

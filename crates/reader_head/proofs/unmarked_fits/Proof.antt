@@ -10,5 +10,5 @@ returns c = simp (lt-leb _ _ c.if1.true)
 returns-2 : tie.Need-returns-2
 returns-2 c = simp (le-leb _ _ c.before.if1.false, c.aged.ensures)
 
-pub unmarked-fits-spec : {M : Type 1} → statement M
-unmarked-fits-spec = tie.close (tie.spec returns (λ c κs. search rules) returns-2)
+pub unmarked_fits_spec : {M : Type 1} → statement M
+unmarked_fits_spec = tie.close (tie.spec returns (λ c κs. search rules) returns-2)

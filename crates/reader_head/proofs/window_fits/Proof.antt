@@ -9,8 +9,8 @@ returns c = simp (c.before.enum_told.given.1, c.unmarked-fits.ensures)
 returns-2 : tie.Need-returns-2
 returns-2 c = simp (c.before.before.at.given.1, c.marked-fits.ensures c.before.before.at.given.0.0)
 
-pub window-fits-spec : {M : Type 1} → statement M
-window-fits-spec =
+pub window_fits_spec : {M : Type 1} → statement M
+window_fits_spec =
     tie.close
     (tie.spec
     (λ c. search rules)

@@ -2,22 +2,22 @@
 use mathlib.Core.Path.{sym, ap, ◌∙◌}
 use borrow.Author.Rules.{rules}
 use Rattle.line_code.specs.declared.Meaning.{Meaning}
-use Rattle.reason.specs.Explanation.{meaningReason}
+use Rattle.reason.specs.Explanation.{meaning_reason}
 use Rattle.reason.proofs.meaning_reason.Statement.{statement}
 use Rattle.reason.proofs.meaning_reason.Tie as tie
 
 returns : tie.Need-returns
 returns c =
     let a = c.before.before.before.before.args in
-    c.end-mark-reason.ensures ∙ sym (ap (λ (m : Meaning). meaningReason a.profile a.before m a.text.now a.next) c.before.enum_told.given.1)
+    c.end-mark-reason.ensures ∙ sym (ap (λ (m : Meaning). meaning_reason a.profile a.before m a.text.now a.next) c.before.enum_told.given.1)
 
 returns-2 : tie.Need-returns-2
 returns-2 c =
     let a = c.before.before.before.before.before.args in
-    c.line-reason.ensures ∙ sym (ap (λ (m : Meaning). meaningReason a.profile a.before m a.text.now a.next) c.before.before.m.given.1)
+    c.line-reason.ensures ∙ sym (ap (λ (m : Meaning). meaning_reason a.profile a.before m a.text.now a.next) c.before.before.m.given.1)
 
-pub meaning-reason-spec : {M : Type 1} → statement M
-meaning-reason-spec =
+pub meaning_reason_spec : {M : Type 1} → statement M
+meaning_reason_spec =
     tie.close
     (tie.spec
     (λ c. search rules)

@@ -2,12 +2,12 @@
 use mathlib.Core.Path.{sym, ap₂, ◌∙◌}
 use borrow.Author.Rules.{rules}
 use Rattle.profile.specs.Layout.{allows}
-use Rattle.reason.proofs.Steps.{gap-short, two_good, two-second, two-first}
+use Rattle.reason.proofs.Steps.{gap_short, two_good, two_second, two_first}
 use Rattle.reason.proofs.two_bytes_reason.Statement.{statement}
 use Rattle.reason.proofs.two_bytes_reason.Tie as tie
 
 returns : tie.Need-returns
-returns c = sym (gap-short c.before.before.args.kind c.before.before.args.gap.now c.if1.true)
+returns c = sym (gap_short c.before.before.args.kind c.before.before.args.gap.now c.if1.true)
 
 returns-2 : tie.Need-returns-2
 returns-2 c =
@@ -30,7 +30,7 @@ returns-3 c =
     let bytes = rule.before in
     let long = bytes.before.before in
     let a = long.before.before.args in
-    sym (two-second a.kind a.gap.now long.if1.false
+    sym (two_second a.kind a.gap.now long.if1.false
     (ap₂ allows (sym rule.gap-rule.ensures) (sym bytes.before.pair-at.ensures) ∙ sym first.before.allows.ensures ∙ first.if2.true)
     (ap₂ allows (sym rule.gap-rule.ensures) (sym bytes.pair-at2.ensures) ∙ sym second.before.allows2.ensures ∙ second.if3.false))
 
@@ -41,11 +41,11 @@ returns-4 c =
     let bytes = rule.before in
     let long = bytes.before.before in
     let a = long.before.before.args in
-    sym (two-first a.kind a.gap.now long.if1.false
+    sym (two_first a.kind a.gap.now long.if1.false
     (ap₂ allows (sym rule.gap-rule.ensures) (sym bytes.before.pair-at.ensures) ∙ sym first.before.allows.ensures ∙ first.if2.false))
 
-pub two-bytes-reason-spec : {M : Type 1} → statement M
-two-bytes-reason-spec =
+pub two_bytes_reason_spec : {M : Type 1} → statement M
+two_bytes_reason_spec =
     tie.close
     (tie.spec
     returns

@@ -9,5 +9,5 @@ returns c = simp (← c.before.is-blank.ensures, c.if1.true)
 returns-2 : tie.Need-returns-2
 returns-2 c = simp (← c.before.is-blank.ensures, c.if1.false)
 
-pub end-after-spec : {M : Type 1} → statement M
-end-after-spec = tie.close (tie.spec (λ c κs. search rules) returns returns-2)
+pub end_after_spec : {M : Type 1} → statement M
+end_after_spec = tie.close (tie.spec (λ c κs. search rules) returns returns-2)

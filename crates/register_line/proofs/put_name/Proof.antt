@@ -11,17 +11,17 @@ returns c =
     let args = c.before.before.before.before.before.before.before.args in
     simp (take_all args.end args.line.now c.before.before.before.before.if1.true) c.before.before.put.ensures
 
-slice-aggregate-put : tie.Need-slice-aggregate-put
-slice-aggregate-put c = sym (length-take-le c.before.before.before.before.args.end c.before.before.before.before.args.line.now (omega (arith, c.before.if1.false)))
+slice_aggregate_put : tie.Need-slice-aggregate-put
+slice_aggregate_put c = sym (length-take-le c.before.before.before.before.args.end c.before.before.before.before.args.line.now (omega (arith, c.before.if1.false)))
 
-pub put-name-spec : {M : Type 1} → statement M
-put-name-spec =
+pub put_name_spec : {M : Type 1} → statement M
+put_name_spec =
     tie.close
     (tie.spec
     (λ c κs. search rules)
     (λ c. search rules)
     returns
-    slice-aggregate-put
+    slice_aggregate_put
     (λ c κs. search rules)
     (λ c. search rules)
     (λ c. search rules))

@@ -2,31 +2,31 @@
 use mathlib.Core.Path.{refl}
 use borrow.Author.Rules.{rules}
 use Rattle.text.specs.PutLaws.{then}
-use Rattle.register_line.specs.Line.{textBy, refusedBy, sensorBy}
+use Rattle.register_line.specs.Line.{text_by, refused_by, sensor_by}
 use Rattle.register_line.proofs.tell_bare.Statement.{statement}
 use Rattle.register_line.proofs.tell_bare.Tie as tie
 
 returns : tie.Need-returns
-unfolding textBy refusedBy sensorBy
+unfolding text_by refused_by sensor_by
 returns c =
     let told = c.before.before.before.before.before in
     simp (← told.before.before.read.ensures, told.asked.given.1) (record { leaves = refl; refuses = refl; tells = c.before.before.put-message.ensures })
 
 returns-2 : tie.Need-returns-2
-unfolding textBy refusedBy sensorBy
+unfolding text_by refused_by sensor_by
 returns-2 c =
     let first = c.before.before.before.before.before.before in
     let told = first.before.before.before in
     simp (← told.before.before.read.ensures, told.asked2.given.1) (record { leaves = refl; refuses = refl; tells = then first.put-message2.ensures c.before.before.put-message3.ensures })
 
 returns-3 : tie.Need-returns-3
-unfolding textBy refusedBy sensorBy
+unfolding text_by refused_by sensor_by
 returns-3 c =
     let told = c.before.before.before.before.before in
     simp (← told.before.before.read.ensures, told.asked3.given.1) (record { leaves = refl; refuses = refl; tells = c.before.before.put-beyond.ensures })
 
 returns-4 : tie.Need-returns-4
-unfolding textBy refusedBy sensorBy
+unfolding text_by refused_by sensor_by
 returns-4 c =
     let told = c.before.before.before.before in
     simp (← told.before.before.read.ensures, told.enum_told.given.1) (record { leaves = refl; refuses = refl; tells = c.before.before.put-no-gain.ensures })
@@ -36,8 +36,8 @@ returns-5 c =
     let told = c.before.before.before.before in
     simp (← told.before.before.read.ensures, told.enum-told2.given.1) c.before.before.explain.ensures
 
-pub tell-bare-spec : {M : Type 1} → statement M
-tell-bare-spec =
+pub tell_bare_spec : {M : Type 1} → statement M
+tell_bare_spec =
     tie.close
     (tie.spec
     (λ c κs. search rules)

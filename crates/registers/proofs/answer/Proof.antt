@@ -12,8 +12,8 @@ invariant-loop piece kept₀ turn₀ i₀ kept turn i = (i ≤ length piece) × 
 abbrev decreases-loop : tie.decreases-loop
 decreases-loop piece kept₀ turn₀ i₀ kept turn i = length piece - i
 
-pub answer-spec : {M : Type 1} → statement M
-answer-spec =
+pub answer_spec : {M : Type 1} → statement M
+answer_spec =
     tie.close
     (tie.spec
     invariant-loop

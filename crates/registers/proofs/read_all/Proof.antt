@@ -11,8 +11,8 @@ invariant-loop fd name kept₀ turn₀ turns₀ kept turn turns = 4096 ≡ lengt
 abbrev decreases-loop : tie.decreases-loop
 decreases-loop fd name kept₀ turn₀ turns₀ kept turn turns = turns
 
-pub read-all-spec : {M : Type 1} → statement M
-read-all-spec =
+pub read_all_spec : {M : Type 1} → statement M
+read_all_spec =
     tie.close
     (tie.spec
     invariant-loop

@@ -5,14 +5,14 @@ use borrow.Author.Rules.{rules}
 use Rattle.registers.proofs.read_asked.Statement.{statement}
 use Rattle.registers.proofs.read_asked.Tie as tie
 
-array-share-prefix-name : tie.Need-array-share-prefix-name
-array-share-prefix-name c = search rules
+array_share_prefix_name : tie.Need-array-share-prefix-name
+array_share_prefix_name c = search rules
 
-slice-aggregate-read-all : tie.Need-slice-aggregate-read-all
-slice-aggregate-read-all c = sym (length-take-le _ _ (array-share-prefix-name c.before))
+slice_aggregate_read_all : tie.Need-slice-aggregate-read-all
+slice_aggregate_read_all c = sym (length-take-le _ _ (array_share_prefix_name c.before))
 
-pub read-asked-spec : {M : Type 1} → statement M
-read-asked-spec =
+pub read_asked_spec : {M : Type 1} → statement M
+read_asked_spec =
     tie.close
     (tie.spec
     (λ c κs. search rules)
@@ -21,8 +21,8 @@ read-asked-spec =
     (λ c κs. search rules)
     (λ c. search rules)
     (λ c. search rules)
-    array-share-prefix-name
-    slice-aggregate-read-all
+    array_share_prefix_name
+    slice_aggregate_read_all
     (λ c κs. search rules)
     (λ c κs. search rules)
     (λ c. search rules))

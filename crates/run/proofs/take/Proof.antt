@@ -2,8 +2,8 @@
 use native.Mathlib.Omega.{arith}
 use lib.ListN.{length}
 use borrow.Author.Rules.{rules}
-use Rattle.reader.specs.Reader.{readerOf}
-use Rattle.reader.proofs.Taking.{take-goes, gives_as}
+use Rattle.reader.specs.Reader.{reader_of}
+use Rattle.reader.proofs.Taking.{take_goes, gives_as}
 use Rattle.run.proofs.take.Statement.{statement}
 use Rattle.run.proofs.take.Tie as tie
 
@@ -13,7 +13,7 @@ returns c =
     let s = t.before.before.before.before.before in
     let a = s.args in
     gives_as
-    (take-goes (readerOf a.h a.body.now) a.nibble (length a.buffer.now) s.requires.2 (omega (arith, s.requires.0)) s.requires.1)
+    (take_goes (reader_of a.h a.body.now) a.nibble (length a.buffer.now) s.requires.2 (omega (arith, s.requires.0)) s.requires.1)
     t.take.ensures
 
 pub take_spec : {M : Type 1} → statement M

@@ -7,7 +7,7 @@ use native.Mathlib.Omega.{arith}
 use lib.ListN.{length}
 use borrow.Author.Rules.{rules}
 use Rattle.run_ahead.specs.Parts.{Leads}
-use Rattle.run_ahead.proofs.Pairs.{head, Stands, Turn, turn, reads, fewer, stands-next, leads-before, leads-here, leads-on, here, reaches, ended}
+use Rattle.run_ahead.proofs.Pairs.{head, Stands, Turn, turn, reads, fewer, stands_next, leads_before, leads_here, leads_on, here, reaches, ended}
 use Rattle.run_ahead.proofs.before_body.Statement.{statement}
 use Rattle.run_ahead.proofs.before_body.Tie as tie
 
@@ -25,7 +25,7 @@ returns c = let a = c.before.before.before.args in (λ B. here a.s.now a.h B a.f
 loop-holds : tie.Need-loop-init invariant-loop decreases-loop
 loop-holds c =
     let a = c.before.before.before.before.before.before.args in (
-      λ B. leads-here a.s.now a.h B a.from,
+      λ B. leads_here a.s.now a.h B a.from,
       record { small = search rules; from_on = search rules; up_to = search rules; within = search rules },
       search rules,
       omega arith,
@@ -38,11 +38,11 @@ there : (c : tie.Then2 invariant-loop decreases-loop)
     Turn a.s.now a.from c.before.before.before.before.sooner.result l.window l.i
 there c = turn c.before.before.loop.invariant.1 c.before.is-pair.ensures c.if2.true
 
-slide-byte-requires : tie.Need-slide-byte-requires invariant-loop decreases-loop
-slide-byte-requires c κs = reads (there c.before.before)
+slide_byte_requires : tie.Need-slide-byte-requires invariant-loop decreases-loop
+slide_byte_requires c κs = reads (there c.before.before)
 
-add-i : tie.Need-overflow-add-i invariant-loop decreases-loop
-add-i c = omega (arith, (reads (there c.before.before.before)).0)
+add_i : tie.Need-overflow-add-i invariant-loop decreases-loop
+add_i c = omega (arith, (reads (there c.before.before.before)).0)
 
 loop-less : tie.Need-loop-smaller invariant-loop decreases-loop
 loop-less c = fewer (there c.before.before.before)
@@ -53,8 +53,8 @@ loop-again c =
     let t = there c.before.before.before in
     let f = t.fits in (
       λ B. simp (c.slide-byte.ensures, c.before.keep-byte.ensures, c.before.before.top_byte.ensures)
-          (leads-on _ _ B _ _ B _ _ B _ (l.invariant.0 B) (leads-before _ _ l.count l.auto B t (omega arith) l.invariant.2)),
-      stands-next t c.slide-byte.ensures,
+          (leads_on _ _ B _ _ B _ _ B _ (l.invariant.0 B) (leads_before _ _ l.count l.auto B t (omega arith) l.invariant.2)),
+      stands_next t c.slide-byte.ensures,
       omega arith,
       omega arith,
       omega arith,
@@ -75,8 +75,8 @@ returns-2 c =
     (part_end a.s.now _ _ _ _ l.i first.before.before.if1.false l.invariant.4 first.sooner.ensures.3) in
     (λ B. reaches (l.invariant.0 B) l.invariant.1 through, l.invariant.2)
 
-pub before-body-spec : {M : Type 1} → statement M
-before-body-spec =
+pub before_body_spec : {M : Type 1} → statement M
+before_body_spec =
     tie.close
     (tie.spec
     invariant-loop
@@ -89,9 +89,9 @@ before-body-spec =
     (λ c κs. search rules)
     (λ c κs. search rules)
     (λ c κs. search rules)
-    slide-byte-requires
+    slide_byte_requires
     (λ c. search rules)
-    add-i
+    add_i
     loop-less
     loop-again
     returns-2)

@@ -4,7 +4,7 @@ use Prim.Native.Nat.{ℕ, ◌+◌, ◌*◌, ◌-◌, ◌%◌, ◌≤◌, ◌<◌
 use native.Mathlib.Omega.{arith}
 use borrow.Author.Rules.{rules}
 use Rattle.run_ahead.specs.Blocks.{NibblesFrom, Far, FarOn}
-use Rattle.run_ahead.proofs.Blocks.{far_none, far-more}
+use Rattle.run_ahead.proofs.Blocks.{far_none, far_more}
 use Rattle.run_ahead.proofs.far_pairs.Statement.{statement}
 use Rattle.run_ahead.proofs.far_pairs.Tie as tie
 
@@ -20,8 +20,8 @@ returns c = ((λ l. absurd (omega arith)), omega arith)
 returns-2 : tie.Need-returns-2 invariant-loop decreases-loop
 returns-2 c = ((λ l. absurd (omega arith)), omega arith)
 
-most-of-requires : tie.Need-most-of-requires invariant-loop decreases-loop
-most-of-requires c κs = let first = c.before.before.before in omega (arith, first.requires.0, first.requires.1, c.before.if1.false)
+most_of_requires : tie.Need-most-of-requires invariant-loop decreases-loop
+most_of_requires c κs = let first = c.before.before.before in omega (arith, first.requires.0, first.requires.1, c.before.if1.false)
 
 returns-3 : tie.Need-returns-3 invariant-loop decreases-loop
 returns-3 c = ((λ l. absurd (omega arith)), omega arith)
@@ -30,8 +30,8 @@ behind : (c : tie.Else3 invariant-loop decreases-loop)
     → let a = c.before.before.before.before.before.args in NibblesFrom a.s.now (a.from - 8) 8
 behind c x u v = omega (arith, c.before.most-of.ensures x u v, c.if3.false)
 
-window-from-requires : tie.Need-window-from-requires invariant-loop decreases-loop
-window-from-requires c κs =
+window_from_requires : tie.Need-window-from-requires invariant-loop decreases-loop
+window_from_requires c κs =
     let first = c.before.before.before.before.before in
     (omega (arith, first.requires.0, first.requires.1, c.before.before.before.if1.false), behind c)
 
@@ -52,28 +52,28 @@ loop-holds c =
       omega arith,
     )
 
-mul-loop : tie.Need-overflow-mul-loop invariant-loop decreases-loop
-mul-loop c = omega (arith, c.loop.invariant.0.up_to)
+mul_loop : tie.Need-overflow-mul-loop invariant-loop decreases-loop
+mul_loop c = omega (arith, c.loop.invariant.0.up_to)
 
-sub-loop-2 : tie.Need-overflow-sub-loop-2 invariant-loop decreases-loop
-sub-loop-2 c = omega (arith, c.loop.invariant.0.up_to)
+sub_loop_2 : tie.Need-overflow-sub-loop-2 invariant-loop decreases-loop
+sub_loop_2 c = omega (arith, c.loop.invariant.0.up_to)
 
-mul-is-far : tie.Need-overflow-mul-is-far invariant-loop decreases-loop
-mul-is-far c = omega (arith, c.before.loop.invariant.0.up_to)
+mul_is_far : tie.Need-overflow-mul-is-far invariant-loop decreases-loop
+mul_is_far c = omega (arith, c.before.loop.invariant.0.up_to)
 
-add-is-far : tie.Need-overflow-add-is-far invariant-loop decreases-loop
-add-is-far c = omega (arith, c.before.loop.invariant.0.up_to)
+add_is_far : tie.Need-overflow-add-is-far invariant-loop decreases-loop
+add_is_far c = omega (arith, c.before.loop.invariant.0.up_to)
 
-is-far-requires : tie.Need-is-far-requires invariant-loop decreases-loop
-is-far-requires c κs =
+is_far_requires : tie.Need-is-far-requires invariant-loop decreases-loop
+is_far_requires c κs =
     let first = c.before.before.before.before.before.before.before.before.before in
     let f = c.before.loop.invariant.0 in (
       omega (arith, c.loop-test.true, first.requires.0, f.behind),
       λ x u v. f.far.small x (omega (arith, u)) (omega (arith, v)),
     )
 
-add-n : tie.Need-overflow-add-n invariant-loop decreases-loop
-add-n c = omega (arith, c.before.before.before.loop.invariant.0.up_to)
+add_n : tie.Need-overflow-add-n invariant-loop decreases-loop
+add_n c = omega (arith, c.before.before.before.loop.invariant.0.up_to)
 
 loop-less : tie.Need-loop-smaller invariant-loop decreases-loop
 loop-less c = omega (arith, c.before.before.loop-test.true)
@@ -89,7 +89,7 @@ loop-again c =
         up_to = omega (arith, c.before.before.loop-test.true);
         shown = f.shown;
         far = subst (Far a.stray a.s.now (a.from - 8)) (let z : 2 * l.n + 32 ≡ 2 * (l.n + 16) = omega arith in z)
-            (far-more a.s.now (a.from - 8) (2 * l.n) (a.from - 8 + 2 * l.n) 32 refl f.far (c.before.is-far.ensures c.if5.true));
+            (far_more a.s.now (a.from - 8) (2 * l.n) (a.from - 8 + 2 * l.n) 32 refl f.far (c.before.is-far.ensures c.if5.true));
       },
       omega (arith, l.invariant.1),
     )
@@ -100,8 +100,8 @@ returns-5 c = let v = c.before.before.before.loop.invariant in ((λ l. v.0), v.1
 returns-6 : tie.Need-returns-6 invariant-loop decreases-loop
 returns-6 c = let v = c.before.loop.invariant in ((λ l. v.0), v.1)
 
-pub far-pairs-spec : {M : Type 1} → statement M
-far-pairs-spec =
+pub far_pairs_spec : {M : Type 1} → statement M
+far_pairs_spec =
     tie.close
     (tie.spec
     invariant-loop
@@ -109,18 +109,18 @@ far-pairs-spec =
     returns
     (λ c. search rules)
     returns-2
-    most-of-requires
+    most_of_requires
     returns-3
-    window-from-requires
+    window_from_requires
     returns-4
     loop-holds
     (λ c. search rules)
-    mul-loop
-    sub-loop-2
-    mul-is-far
-    add-is-far
-    is-far-requires
-    add-n
+    mul_loop
+    sub_loop_2
+    mul_is_far
+    add_is_far
+    is_far_requires
+    add_n
     loop-less
     loop-again
     returns-5

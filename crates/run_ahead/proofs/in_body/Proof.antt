@@ -8,11 +8,11 @@ use native.Mathlib.Omega.{arith}
 use lib.ListN.{length, set, length-set}
 use borrow.Author.Rules.{rules}
 use Rattle.profile.specs.Profile.{longest}
-use Rattle.run_ahead.specs.Ahead.{pastBody}
+use Rattle.run_ahead.specs.Ahead.{past_body}
 use Rattle.run_ahead.specs.Parts.{Leads, strayed}
 use Rattle.run_ahead.specs.Blocks.{FarOn}
-use Rattle.run_ahead.proofs.Pairs.{head, Stands, Turn, turn, reads, fewer, stands-next, leads-in, leads-here, leads-on, here, reaches, ended}
-use Rattle.run_ahead.proofs.Blocks.{packed-length, leads-blocks-in, behind-small, last-small, stands-past}
+use Rattle.run_ahead.proofs.Pairs.{head, Stands, Turn, turn, reads, fewer, stands_next, leads_in, leads_here, leads_on, here, reaches, ended}
+use Rattle.run_ahead.proofs.Blocks.{packed_length, leads_blocks_in, behind_small, last_small, stands_past}
 use Rattle.run_ahead.proofs.in_body.Statement.{statement}
 use Rattle.run_ahead.proofs.in_body.Tie as tie
 
@@ -34,12 +34,12 @@ module _ {from end place j i : ℕ} (q : Placed from end place j i) where
   fits_in n l = omega (arith, q.later, q.pairs, q.ends, q.room)
 
   -- the part's own end, or the run's
-  part_end : (s : List ℕ) → i ≤ end → (end ≡ length s) ⊎ (end ≡ from + 2 * (longest - place)) → (end ≡ length s) ⊎ (end + (14 + 2 * j) ≡ i + pastBody)
+  part_end : (s : List ℕ) → i ≤ end → (end ≡ length s) ⊎ (end ≡ from + 2 * (longest - place)) → (end ≡ length s) ⊎ (end + (14 + 2 * j) ≡ i + past_body)
   part_end s l (inl a) = inl a
   part_end s l (inr a) = inr (omega (arith, q.later, q.pairs, q.room, at_most l))
 
-whole-bytes : (j : ℕ) → pastBody % 2 ≡ (14 + 2 * j) % 2
-whole-bytes j = omega arith
+whole_bytes : (j : ℕ) → past_body % 2 ≡ (14 + 2 * j) % 2
+whole_bytes j = omega arith
 
 abbrev invariant-loop : tie.invariant-loop
 invariant-loop body₀ s from profile at kept place end window₀ stray₀ j₀ i₀ wait₀ body window stray j i wait =
@@ -55,7 +55,7 @@ returns c = let a = c.before.before.before.before.args in here a.s.now a.h _ a.f
 loop-holds : tie.Need-loop-init invariant-loop decreases-loop
 loop-holds c =
     let a = c.before.before.before.before.before.before.before.args in (
-      leads-here a.s.now _ _ a.from,
+      leads_here a.s.now _ _ a.from,
       record { small = search rules; from_on = search rules; up_to = search rules; within = search rules },
       search rules,
       record { later = search rules; pairs = omega arith; ends = omega arith; room = omega arith },
@@ -68,24 +68,24 @@ there : (c : tie.Then2 invariant-loop decreases-loop)
     Turn a.s.now a.from c.before.before.before.sooner.result l.window l.i
 there c = turn c.before.before.loop.invariant.1 c.before.is-pair.ensures c.if2.true
 
-slice-write-body : tie.Need-slice-write-body invariant-loop decreases-loop
-slice-write-body c =
+slice_write_body : tie.Need-slice-write-body invariant-loop decreases-loop
+slice_write_body c =
     let l = c.before.before.before.loop in
     omega (arith, fits_in l.invariant.3 1 (there c.before).fits, l.invariant.2)
 
-slide-byte-requires : tie.Need-slide-byte-requires invariant-loop decreases-loop
-slide-byte-requires c κs = reads (there c.before.before)
+slide_byte_requires : tie.Need-slide-byte-requires invariant-loop decreases-loop
+slide_byte_requires c κs = reads (there c.before.before)
 
-add-j : tie.Need-overflow-add-j invariant-loop decreases-loop
-add-j c =
+add_j : tie.Need-overflow-add-j invariant-loop decreases-loop
+add_j c =
     let l = c.before.before.before.before.before.loop in
     omega (arith, fits_in l.invariant.3 1 (there c.before.before.before).fits)
 
-add-i : tie.Need-overflow-add-i invariant-loop decreases-loop
-add-i c = omega (arith, (reads (there c.before.before.before)).0)
+add_i : tie.Need-overflow-add-i invariant-loop decreases-loop
+add_i c = omega (arith, (reads (there c.before.before.before)).0)
 
-sub-wait : tie.Need-overflow-sub-wait invariant-loop decreases-loop
-sub-wait c = omega (arith, c.before.before.before.before.before.loop.invariant.4)
+sub_wait : tie.Need-overflow-sub-wait invariant-loop decreases-loop
+sub_wait c = omega (arith, c.before.before.before.before.before.loop.invariant.4)
 
 -- after a pair
 paired : (c : tie.After-slide-byte invariant-loop decreases-loop)
@@ -101,16 +101,16 @@ paired c =
     let t = there c.before.before.before in
     let fits = fits_in l.invariant.3 1 t.fits in (
       simp (c.slide-byte.ensures, c.before.stray-after.ensures, c.before.before.top_byte.ensures)
-          (leads-on _ _ _ _ _ _ _ _ _ _ l.invariant.0
-          (leads-in _ _ (14 + 2 * l.j) (strayed kept l.stray) l.body t l.j _ refl (omega (arith, fits)) (omega (arith, l.invariant.2)) (omega arith))),
-      stands-next t c.slide-byte.ensures,
+          (leads_on _ _ _ _ _ _ _ _ _ _ l.invariant.0
+          (leads_in _ _ (14 + 2 * l.j) (strayed kept l.stray) l.body t l.j _ refl (omega (arith, fits)) (omega (arith, l.invariant.2)) (omega arith))),
+      stands_next t c.slide-byte.ensures,
       simp length-set l.invariant.2,
       placed_on l.invariant.3 1,
       omega arith,
     )
 
-far-pairs-requires : tie.Need-far-pairs-requires invariant-loop decreases-loop
-far-pairs-requires c κs = let st = (paired c.before).1 in (st.within, st.up_to)
+far_pairs_requires : tie.Need-far-pairs-requires invariant-loop decreases-loop
+far_pairs_requires c κs = let st = (paired c.before).1 in (st.within, st.up_to)
 
 -- a block stands there
 block : (c : tie.Then4 invariant-loop decreases-loop)
@@ -122,37 +122,37 @@ block c = c.before.far-pairs.ensures.0 c.if4.true
 room : (c : tie.Then4 invariant-loop decreases-loop) → let pair = c.before.before.before in pair.before.before.before.before.before.loop.j + 1 + c.before.far-pairs.result ≤ longest
 room c = fits_in (paired c.before.before.before).3 c.before.far-pairs.result (block c).up_to
 
-sub-pack : tie.Need-overflow-sub-pack invariant-loop decreases-loop
-sub-pack c = (block c).behind
+sub_pack : tie.Need-overflow-sub-pack invariant-loop decreases-loop
+sub_pack c = (block c).behind
 
-pack-requires : tie.Need-pack-requires invariant-loop decreases-loop
-pack-requires c κs =
+pack_requires : tie.Need-pack-requires invariant-loop decreases-loop
+pack_requires c κs =
     let p = paired c.before.before.before.before in
     let l = c.before.before.before.before.before.before.before.before.before.loop in
     let b = block c.before in (
       omega (arith, b.up_to, b.behind, p.1.within),
       simp length-set (omega (arith, room c.before, l.invariant.2)),
-      behind-small b,
+      behind_small b,
       c.before.before.far-pairs.ensures.1,
     )
 
-add-j-2 : tie.Need-overflow-add-j-2 invariant-loop decreases-loop
-add-j-2 c = omega (arith, room c.before.before.before.before)
+add_j_2 : tie.Need-overflow-add-j-2 invariant-loop decreases-loop
+add_j_2 c = omega (arith, room c.before.before.before.before)
 
-mul-i : tie.Need-overflow-mul-i invariant-loop decreases-loop
-mul-i c = omega (arith, (block c.before.before.before.before).up_to)
+mul_i : tie.Need-overflow-mul-i invariant-loop decreases-loop
+mul_i c = omega (arith, (block c.before.before.before.before).up_to)
 
-add-i-2 : tie.Need-overflow-add-i-2 invariant-loop decreases-loop
-add-i-2 c = omega (arith, (block c.before.before.before.before).up_to)
+add_i_2 : tie.Need-overflow-add-i-2 invariant-loop decreases-loop
+add_i_2 c = omega (arith, (block c.before.before.before.before).up_to)
 
-sub-window-from : tie.Need-overflow-sub-window-from invariant-loop decreases-loop
-sub-window-from c = omega (arith, (block c.before.before.before.before).behind)
+sub_window_from : tie.Need-overflow-sub-window-from invariant-loop decreases-loop
+sub_window_from c = omega (arith, (block c.before.before.before.before).behind)
 
-window-from-requires : tie.Need-window-from-requires invariant-loop decreases-loop
-window-from-requires c κs =
+window_from_requires : tie.Need-window-from-requires invariant-loop decreases-loop
+window_from_requires c κs =
     let at = c.before.before.before.before in
     let b = block at in
-    (omega (arith, b.up_to, b.behind, (paired at.before.before.before).1.within), last-small b)
+    (omega (arith, b.up_to, b.behind, (paired at.before.before.before).1.within), last_small b)
 
 loop-less : tie.Need-loop-smaller invariant-loop decreases-loop
 loop-less c =
@@ -171,10 +171,10 @@ loop-again c =
     let b = block at in
     let B = set l.body l.j pair.before.before.top_byte.result in
     let t = strayed a.h.kept pair.before.stray-after.result in
-    let many = leads-blocks-in a.h.profile a.h.at t b p.1.within B (l.j + 1) (room at) (omega (arith, p.2)) in (
-      simp (c.window-from.ensures, c.before.before.before.pack.ensures) (leads-on _ _ _ _ _ _ _ _ _ _ p.0 many),
-      stands-past b p.1 c.window-from.ensures,
-      ap length c.before.before.before.pack.ensures ∙ packed-length B (l.j + 1) a.s.now (l.i + 2 - 8) n ∙ p.2,
+    let many = leads_blocks_in a.h.profile a.h.at t b p.1.within B (l.j + 1) (room at) (omega (arith, p.2)) in (
+      simp (c.window-from.ensures, c.before.before.before.pack.ensures) (leads_on _ _ _ _ _ _ _ _ _ _ p.0 many),
+      stands_past b p.1 c.window-from.ensures,
+      ap length c.before.before.before.pack.ensures ∙ packed_length B (l.j + 1) a.s.now (l.i + 2 - 8) n ∙ p.2,
       placed_on p.3 n,
       omega arith,
     )
@@ -191,14 +191,14 @@ loop-less-3 c = fewer (there c.before.before.before.before)
 loop-again-3 : tie.Need-loop-preserved-3 invariant-loop decreases-loop
 loop-again-3 c = let p = paired c.before in (p.0, p.1, p.2, p.3, omega (arith, c.if3.false))
 
-cast-count : tie.Need-overflow-cast-count invariant-loop decreases-loop
-cast-count c = let l = c.before.before.loop in omega (arith, at_most l.invariant.3 l.invariant.1.up_to)
+cast_count : tie.Need-overflow-cast-count invariant-loop decreases-loop
+cast_count c = let l = c.before.before.loop in omega (arith, at_most l.invariant.3 l.invariant.1.up_to)
 
-mul-count : tie.Need-overflow-mul-count invariant-loop decreases-loop
-mul-count c = let l = c.before.before.loop in omega (arith, at_most l.invariant.3 l.invariant.1.up_to)
+mul_count : tie.Need-overflow-mul-count invariant-loop decreases-loop
+mul_count c = let l = c.before.before.loop in omega (arith, at_most l.invariant.3 l.invariant.1.up_to)
 
-add-count : tie.Need-overflow-add-count invariant-loop decreases-loop
-add-count c = let l = c.before.before.loop in omega (arith, at_most l.invariant.3 l.invariant.1.up_to)
+add_count : tie.Need-overflow-add-count invariant-loop decreases-loop
+add_count c = let l = c.before.before.loop in omega (arith, at_most l.invariant.3 l.invariant.1.up_to)
 
 same_length : tie.Need-same-length invariant-loop decreases-loop
 same_length c = let l = c.before.before.loop in omega arith
@@ -211,11 +211,11 @@ returns-2 c =
     reaches
     (subst (λ (n : ℕ). Leads a.s.now (head a.h.profile a.h.at n a.h.window a.h.kept) a.body.now a.from (head a.h.profile a.h.at (14 + 2 * l.j) l.window (strayed a.h.kept l.stray)) l.body l.i) e l.invariant.0)
     l.invariant.1
-    (ended pastBody (14 + 2 * l.j) l.invariant.1 c.before.is-pair.ensures c.if2.false (whole-bytes l.j)
+    (ended past_body (14 + 2 * l.j) l.invariant.1 c.before.is-pair.ensures c.if2.false (whole_bytes l.j)
     (part_end l.invariant.3 a.s.now l.invariant.1.up_to c.before.before.before.sooner.ensures.3))
 
-pub in-body-spec : {M : Type 1} → statement M
-in-body-spec =
+pub in_body_spec : {M : Type 1} → statement M
+in_body_spec =
     tie.close
     (tie.spec
     invariant-loop
@@ -229,28 +229,28 @@ in-body-spec =
     loop-holds
     (λ c κs. search rules)
     (λ c κs. search rules)
-    slice-write-body
+    slice_write_body
     (λ c κs. search rules)
-    slide-byte-requires
-    add-j
-    add-i
-    sub-wait
-    far-pairs-requires
-    sub-pack
-    pack-requires
-    add-j-2
-    mul-i
-    add-i-2
-    sub-window-from
-    window-from-requires
+    slide_byte_requires
+    add_j
+    add_i
+    sub_wait
+    far_pairs_requires
+    sub_pack
+    pack_requires
+    add_j_2
+    mul_i
+    add_i_2
+    sub_window_from
+    window_from_requires
     loop-less
     loop-again
     loop-less-2
     loop-again-2
     loop-less-3
     loop-again-3
-    cast-count
-    mul-count
-    add-count
+    cast_count
+    mul_count
+    add_count
     same_length
     returns-2)

@@ -7,8 +7,8 @@ use native.Mathlib.Omega.{arith}
 use lib.ListN.{get_or}
 use borrow.Author.Rules.{rules}
 use Rattle.run_ahead.specs.Blocks.{NibblesFrom}
-use Rattle.run_ahead.proofs.Pairs.{lt-or-ge}
-use Rattle.run_ahead.proofs.Blocks.{not-both}
+use Rattle.run_ahead.proofs.Pairs.{lt_or_ge}
+use Rattle.run_ahead.proofs.Blocks.{not_both}
 use Rattle.run_ahead.proofs.is_far.Statement.{statement}
 use Rattle.run_ahead.proofs.is_far.Tie as tie
 
@@ -20,16 +20,16 @@ nibbles c x u v =
     ⊎_elim
     (λ (d : x < k + 8). first.requires.1 x u d)
     (λ (d : k + 8 ≤ x). omega (arith, c.before.most-of.ensures x d (omega (arith, v)), c.if1.false))
-    (lt-or-ge x (k + 8))
+    (lt_or_ge x (k + 8))
 
 returns : tie.Need-returns
-returns c = not-both
+returns c = not_both
 
-least-gap-requires : tie.Need-least-gap-requires
-least-gap-requires c κs = (c.before.before.before.requires.0, nibbles c)
+least_gap_requires : tie.Need-least-gap-requires
+least_gap_requires c κs = (c.before.before.before.requires.0, nibbles c)
 
 returns-2 : tie.Need-returns-2
-returns-2 c = not-both
+returns-2 c = not_both
 
 returns-3 : tie.Need-returns-3
 returns-3 c = λ e. record {
@@ -38,13 +38,13 @@ returns-3 c = λ e. record {
   same = inl c.if3.true;
 }
 
-most-off-requires : tie.Need-most-off-requires
-most-off-requires c κs =
+most_off_requires : tie.Need-most-off-requires
+most_off_requires c κs =
     let first = c.before.before.before.before.before.before in
     (omega (arith, first.requires.0), λ x u v. nibbles c.before.before.before x u (omega (arith, v)))
 
 returns-4 : tie.Need-returns-4
-returns-4 c = not-both
+returns-4 c = not_both
 
 returns-5 : tie.Need-returns-5
 returns-5 c = λ e. record {
@@ -53,16 +53,16 @@ returns-5 c = λ e. record {
   same = inr (λ x u v. omega (arith, c.before.most-off.ensures x u v, c.if4.false));
 }
 
-pub is-far-spec : {M : Type 1} → statement M
-is-far-spec =
+pub is_far_spec : {M : Type 1} → statement M
+is_far_spec =
     tie.close
     (tie.spec
     (λ c. search rules)
     (λ c κs. search rules)
     returns
-    least-gap-requires
+    least_gap_requires
     returns-2
     returns-3
-    most-off-requires
+    most_off_requires
     returns-4
     returns-5)

@@ -3,7 +3,7 @@ use Prim.Native.Nat.{ℕ, ◌+◌, ◌-◌, ◌≤◌, ◌<◌}
 use native.Mathlib.Omega.{arith}
 use lib.ListN.{get_or}
 use borrow.Author.Rules.{rules}
-use Rattle.run_ahead.proofs.Blocks.{more-below}
+use Rattle.run_ahead.proofs.Blocks.{more_below}
 use Rattle.run_ahead.proofs.most_of.Statement.{statement}
 use Rattle.run_ahead.proofs.most_of.Tie as tie
 
@@ -22,14 +22,14 @@ loop-again c =
     let a = c.before.before.before.before.before.args in
     let e = c.at_least_lem.ensures in (
       omega arith,
-      more-below (λ (x : ℕ). get_or a.s.now x 0 ≤ c.at_least_lem.result) a.i l.k (λ x u v. omega (arith, l.invariant.1 x u v, e.0)) e.1,
+      more_below (λ (x : ℕ). get_or a.s.now x 0 ≤ c.at_least_lem.result) a.i l.k (λ x u v. omega (arith, l.invariant.1 x u v, e.0)) e.1,
     )
 
 returns : tie.Need-returns invariant-loop decreases-loop
 returns c = λ x u v. c.before.loop.invariant.1 x u (omega arith)
 
-pub most-of-spec : {M : Type 1} → statement M
-most-of-spec =
+pub most_of_spec : {M : Type 1} → statement M
+most_of_spec =
     tie.close
     (tie.spec
     invariant-loop

@@ -3,7 +3,7 @@ use Prim.Native.Nat.{ℕ, ◌+◌, ◌-◌, ◌≤◌, ◌<◌}
 use native.Mathlib.Omega.{arith}
 use lib.ListN.{get_or}
 use borrow.Author.Rules.{rules}
-use Rattle.run_ahead.proofs.Blocks.{more-below}
+use Rattle.run_ahead.proofs.Blocks.{more_below}
 use Rattle.run_ahead.proofs.most_off.Statement.{statement}
 use Rattle.run_ahead.proofs.most_off.Tie as tie
 
@@ -16,8 +16,8 @@ decreases-loop s i most₀ k₀ most k = 32 - k
 loop-holds : tie.Need-loop-init invariant-loop decreases-loop
 loop-holds c = (omega arith, λ x a b. absurd (omega arith))
 
-sub-at-least : tie.Need-overflow-sub-at-least invariant-loop decreases-loop
-sub-at-least c =
+sub_at_least : tie.Need-overflow-sub-at-least invariant-loop decreases-loop
+sub_at_least c =
     let l = c.before.before.loop in
     let first = c.before.before.before.before in
     omega (arith, first.requires.1 (first.args.i + l.k) (omega arith) (omega arith))
@@ -28,14 +28,14 @@ loop-again c =
     let a = c.before.before.before.before.before.args in
     let e = c.at_least_lem.ensures in (
       omega arith,
-      more-below (λ (x : ℕ). 15 ≤ get_or a.s.now x 0 + c.at_least_lem.result) a.i l.k (λ x u v. omega (arith, l.invariant.1 x u v, e.0)) (omega (arith, e.1)),
+      more_below (λ (x : ℕ). 15 ≤ get_or a.s.now x 0 + c.at_least_lem.result) a.i l.k (λ x u v. omega (arith, l.invariant.1 x u v, e.0)) (omega (arith, e.1)),
     )
 
 returns : tie.Need-returns invariant-loop decreases-loop
 returns c = λ x u v. c.before.loop.invariant.1 x u (omega arith)
 
-pub most-off-spec : {M : Type 1} → statement M
-most-off-spec =
+pub most_off_spec : {M : Type 1} → statement M
+most_off_spec =
     tie.close
     (tie.spec
     invariant-loop
@@ -43,7 +43,7 @@ most-off-spec =
     loop-holds
     (λ c. search rules)
     (λ c. search rules)
-    sub-at-least
+    sub_at_least
     (λ c κs. search rules)
     (λ c. search rules)
     (λ c. search rules)

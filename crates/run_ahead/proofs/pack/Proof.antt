@@ -5,13 +5,13 @@ use Prim.Native.Nat.{ℕ, ◌+◌, ◌*◌, ◌-◌, ◌%◌, ◌≤◌, ◌<◌
 use native.Mathlib.Omega.{arith}
 use lib.ListN.{length}
 use borrow.Author.Rules.{rules}
-use Rattle.run_ahead.specs.Blocks.{packedInto}
-use Rattle.run_ahead.proofs.Blocks.{packed-on, packed-length}
+use Rattle.run_ahead.specs.Blocks.{packed_into}
+use Rattle.run_ahead.proofs.Blocks.{packed_on, packed_length}
 use Rattle.run_ahead.proofs.pack.Statement.{statement}
 use Rattle.run_ahead.proofs.pack.Tie as tie
 
 abbrev invariant-loop : tie.invariant-loop
-invariant-loop s i body₀ j n k₀ body k = (k ≤ n) × (k % 16 ≡ 0) × (body ≡ packedInto body₀ j s i k) × (length body ≡ length body₀)
+invariant-loop s i body₀ j n k₀ body k = (k ≤ n) × (k % 16 ≡ 0) × (body ≡ packed_into body₀ j s i k) × (length body ≡ length body₀)
 
 abbrev decreases-loop : tie.decreases-loop
 decreases-loop s i body₀ j n k₀ body k = n - k
@@ -22,8 +22,8 @@ loop-holds c = (omega arith, refl, refl, refl)
 more_left : (n k : ℕ) → k < n → n % 16 ≡ 0 → k % 16 ≡ 0 → k + 16 ≤ n
 more_left n k a b c = omega arith
 
-pack-block-requires : tie.Need-pack-block-requires invariant-loop decreases-loop
-pack-block-requires c κs =
+pack_block_requires : tie.Need-pack-block-requires invariant-loop decreases-loop
+pack_block_requires c κs =
     let first = c.before.before.before.before.before in
     let l = c.before.before.loop in
     let more = more_left first.args.n l.k c.before.loop-test.true first.requires.3 l.invariant.1 in (
@@ -32,8 +32,8 @@ pack-block-requires c κs =
       λ x u v. first.requires.2 x (omega (arith, u)) (omega (arith, v, more)),
     )
 
-add-k : tie.Need-overflow-add-k invariant-loop decreases-loop
-add-k c =
+add_k : tie.Need-overflow-add-k invariant-loop decreases-loop
+add_k c =
     let first = c.before.before.before.before.before.before.before.before in
     let l = c.before.before.before.before.before.loop in
     omega (arith, more_left first.args.n l.k c.before.before.before.before.loop-test.true first.requires.3 l.invariant.1)
@@ -50,18 +50,18 @@ loop-again c =
     let s = a.s.now in (
       more_left a.n l.k c.before.before.before.before.loop-test.true first.requires.3 l.invariant.1,
       omega (arith, l.invariant.1),
-      e ∙ ap (λ (b : List ℕ). packedInto b (a.j + l.k) s (a.i + 2 * l.k) 16) l.invariant.2 ∙ packed-on a.body.now a.j s a.i l.k 16,
-      ap length e ∙ packed-length l.body (a.j + l.k) s (a.i + 2 * l.k) 16 ∙ l.invariant.3,
+      e ∙ ap (λ (b : List ℕ). packed_into b (a.j + l.k) s (a.i + 2 * l.k) 16) l.invariant.2 ∙ packed_on a.body.now a.j s a.i l.k 16,
+      ap length e ∙ packed_length l.body (a.j + l.k) s (a.i + 2 * l.k) 16 ∙ l.invariant.3,
     )
 
 returns : tie.Need-returns invariant-loop decreases-loop
 returns c =
     let l = c.before.loop in
     let a = c.before.before.before.before.args in
-    l.invariant.2 ∙ ap (packedInto a.body.now a.j a.s.now a.i) (let z : l.k ≡ a.n = omega arith in z)
+    l.invariant.2 ∙ ap (packed_into a.body.now a.j a.s.now a.i) (let z : l.k ≡ a.n = omega arith in z)
 
-pub pack-spec : {M : Type 1} → statement M
-pack-spec =
+pub pack_spec : {M : Type 1} → statement M
+pack_spec =
     tie.close
     (tie.spec
     invariant-loop
@@ -70,8 +70,8 @@ pack-spec =
     (λ c. search rules)
     (λ c. search rules)
     (λ c. search rules)
-    pack-block-requires
-    add-k
+    pack_block_requires
+    add_k
     loop-less
     loop-again
     (λ c. search rules)

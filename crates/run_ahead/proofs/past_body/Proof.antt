@@ -5,11 +5,11 @@ use Prim.Native.Nat.{ℕ, ◌+◌, ◌-◌, ◌≤◌, ◌<◌}
 use native.Mathlib.Omega.{arith}
 use lib.ListN.{length}
 use borrow.Author.Rules.{rules}
-use Rattle.reader_head.specs.HeadLaws.{bump-more}
+use Rattle.reader_head.specs.HeadLaws.{bump_more}
 use Rattle.run_ahead.specs.Parts.{Leads, strayed}
 use Rattle.run_ahead.specs.Blocks.{FarOn}
-use Rattle.run_ahead.proofs.Pairs.{head, Stands, Turn, turn, reads, fewer, stands-next, leads-past, leads-here, leads-on, leads-to-end}
-use Rattle.run_ahead.proofs.Blocks.{later_more, leads-blocks-past, last-small, stands-past}
+use Rattle.run_ahead.proofs.Pairs.{head, Stands, Turn, turn, reads, fewer, stands_next, leads_past, leads_here, leads_on, leads_to_end}
+use Rattle.run_ahead.proofs.Blocks.{later_more, leads_blocks_past, last_small, stands_past}
 use Rattle.run_ahead.proofs.past_body.Statement.{statement}
 use Rattle.run_ahead.proofs.past_body.Tie as tie
 
@@ -24,7 +24,7 @@ decreases-loop s from profile at kept end count₀ window₀ stray₀ i₀ wait�
 loop-holds : tie.Need-loop-init invariant-loop decreases-loop
 loop-holds c =
     let a = c.before.before.args in (
-      λ B. leads-here a.s.now a.h B a.from,
+      λ B. leads_here a.s.now a.h B a.from,
       record { small = search rules; from_on = search rules; up_to = search rules; within = search rules },
       search rules,
       omega arith,
@@ -36,14 +36,14 @@ there : (c : tie.Then1 invariant-loop decreases-loop)
     Turn a.s.now a.from (length a.s.now) l.window l.i
 there c = turn c.before.before.loop.invariant.1 c.before.is-pair.ensures c.if1.true
 
-slide-byte-requires : tie.Need-slide-byte-requires invariant-loop decreases-loop
-slide-byte-requires c κs = reads (there c.before.before)
+slide_byte_requires : tie.Need-slide-byte-requires invariant-loop decreases-loop
+slide_byte_requires c κs = reads (there c.before.before)
 
-add-i : tie.Need-overflow-add-i invariant-loop decreases-loop
-add-i c = omega (arith, (reads (there c.before.before.before.before.before)).0)
+add_i : tie.Need-overflow-add-i invariant-loop decreases-loop
+add_i c = omega (arith, (reads (there c.before.before.before.before.before)).0)
 
-sub-wait : tie.Need-overflow-sub-wait invariant-loop decreases-loop
-sub-wait c = omega (arith, c.before.before.before.before.before.before.before.loop.invariant.3)
+sub_wait : tie.Need-overflow-sub-wait invariant-loop decreases-loop
+sub_wait c = omega (arith, c.before.before.before.before.before.before.before.loop.invariant.3)
 
 -- after a pair
 paired : (c : tie.After-next-count2 invariant-loop decreases-loop)
@@ -56,14 +56,14 @@ paired c =
     let kept = c.before.before.before.before.before.before.before.before.before.before.args.h.kept in
     let t = there c.before.before.before.before.before in (
       λ B. simp (c.before.before.slide-byte.ensures, c.before.before.before.stray-after.ensures, c.before.before.before.before.top_byte.ensures, c.next-count2.ensures, c.before.next-count.ensures)
-          (leads-on _ _ B _ _ B _ _ B _ (l.invariant.0 B) (leads-past _ _ l.count (strayed kept l.stray) B t l.invariant.2)),
-      stands-next t c.before.before.slide-byte.ensures,
-      omega (arith, c.next-count2.ensures, c.before.next-count.ensures, bump-more l.count, bump-more c.before.next-count.result),
+          (leads_on _ _ B _ _ B _ _ B _ (l.invariant.0 B) (leads_past _ _ l.count (strayed kept l.stray) B t l.invariant.2)),
+      stands_next t c.before.before.slide-byte.ensures,
+      omega (arith, c.next-count2.ensures, c.before.next-count.ensures, bump_more l.count, bump_more c.before.next-count.result),
       omega arith,
     )
 
-far-pairs-requires : tie.Need-far-pairs-requires invariant-loop decreases-loop
-far-pairs-requires c κs = let st = (paired c.before).1 in (st.within, st.up_to)
+far_pairs_requires : tie.Need-far-pairs-requires invariant-loop decreases-loop
+far_pairs_requires c κs = let st = (paired c.before).1 in (st.within, st.up_to)
 
 -- a block stands there
 block : (c : tie.Then3 invariant-loop decreases-loop)
@@ -72,20 +72,20 @@ block : (c : tie.Then3 invariant-loop decreases-loop)
     FarOn pair.before.before.slide-byte.result pair.before.before.before.stray-after.result s (pair.before.before.before.before.before.before.before.loop.i + 2) (length s) c.before.far-pairs.result
 block c = c.before.far-pairs.ensures.0 c.if3.true
 
-later-count-requires : tie.Need-later-count-requires invariant-loop decreases-loop
-later-count-requires c κs = omega (arith, (block c).up_to)
+later_count_requires : tie.Need-later-count-requires invariant-loop decreases-loop
+later_count_requires c κs = omega (arith, (block c).up_to)
 
-mul-i : tie.Need-overflow-mul-i invariant-loop decreases-loop
-mul-i c = omega (arith, (block c.before).up_to)
+mul_i : tie.Need-overflow-mul-i invariant-loop decreases-loop
+mul_i c = omega (arith, (block c.before).up_to)
 
-add-i-2 : tie.Need-overflow-add-i-2 invariant-loop decreases-loop
-add-i-2 c = omega (arith, (block c.before).up_to)
+add_i_2 : tie.Need-overflow-add-i-2 invariant-loop decreases-loop
+add_i_2 c = omega (arith, (block c.before).up_to)
 
-sub-window-from : tie.Need-overflow-sub-window-from invariant-loop decreases-loop
-sub-window-from c = omega (arith, (block c.before).behind)
+sub_window_from : tie.Need-overflow-sub-window-from invariant-loop decreases-loop
+sub_window_from c = omega (arith, (block c.before).behind)
 
-window-from-requires : tie.Need-window-from-requires invariant-loop decreases-loop
-window-from-requires c κs = let b = block c.before in (omega (arith, b.up_to, b.behind), last-small b)
+window_from_requires : tie.Need-window-from-requires invariant-loop decreases-loop
+window_from_requires c κs = let b = block c.before in (omega (arith, b.up_to, b.behind), last_small b)
 
 loop-less : tie.Need-loop-smaller invariant-loop decreases-loop
 loop-less c =
@@ -103,8 +103,8 @@ loop-again c =
     let b = block at in
     let t = strayed h.kept pair.before.before.before.stray-after.result in (
       λ B. simp (c.window-from.ensures, c.before.later-count.ensures)
-          (leads-on _ _ B _ _ B _ _ B _ (p.0 B) (leads-blocks-past h.profile h.at t b p.1.within B count p.2)),
-      stands-past b p.1 c.window-from.ensures,
+          (leads_on _ _ B _ _ B _ _ B _ (p.0 B) (leads_blocks_past h.profile h.at t b p.1.within B count p.2)),
+      stands_past b p.1 c.window-from.ensures,
       omega (arith, p.2, c.before.later-count.ensures, later_more at.before.far-pairs.result count),
       omega arith,
     )
@@ -122,10 +122,10 @@ loop-again-3 : tie.Need-loop-preserved-3 invariant-loop decreases-loop
 loop-again-3 c = let p = paired c.before in (p.0, p.1, p.2, omega (arith, c.if2.false))
 
 returns : tie.Need-returns invariant-loop decreases-loop
-returns c = let l = c.before.before.loop in λ B. leads-to-end _ _ _ _ _ _ _ (l.invariant.0 B) (sym c.before.is-pair.ensures ∙ c.if1.false)
+returns c = let l = c.before.before.loop in λ B. leads_to_end _ _ _ _ _ _ _ (l.invariant.0 B) (sym c.before.is-pair.ensures ∙ c.if1.false)
 
-pub past-body-spec : {M : Type 1} → statement M
-past-body-spec =
+pub past_body_spec : {M : Type 1} → statement M
+past_body_spec =
     tie.close
     (tie.spec
     invariant-loop
@@ -134,17 +134,17 @@ past-body-spec =
     (λ c κs. search rules)
     (λ c κs. search rules)
     (λ c κs. search rules)
-    slide-byte-requires
+    slide_byte_requires
     (λ c κs. search rules)
     (λ c κs. search rules)
-    add-i
-    sub-wait
-    far-pairs-requires
-    later-count-requires
-    mul-i
-    add-i-2
-    sub-window-from
-    window-from-requires
+    add_i
+    sub_wait
+    far_pairs_requires
+    later_count_requires
+    mul_i
+    add_i_2
+    sub_window_from
+    window_from_requires
     loop-less
     loop-again
     loop-less-2

@@ -11,5 +11,5 @@ returns c = (search rules, search rules, search rules, inl refl)
 returns-2 : tie.Need-returns-2
 returns-2 c = (search rules, search rules, search rules, inr refl)
 
-pub sooner-spec : {M : Type 1} → statement M
-sooner-spec = tie.close (tie.spec (λ c. search rules) returns (λ c. search rules) returns-2)
+pub sooner_spec : {M : Type 1} → statement M
+sooner_spec = tie.close (tie.spec (λ c. search rules) returns (λ c. search rules) returns-2)

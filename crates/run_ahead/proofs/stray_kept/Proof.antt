@@ -6,5 +6,5 @@ use Rattle.run_ahead.proofs.stray_kept.Tie as tie
 returns : tie.Need-returns
 returns c = simp (c.before.enum_told.given.1, c.stray-after.ensures)
 
-pub stray-kept-spec : {M : Type 1} → statement M
-stray-kept-spec = tie.close (tie.spec (λ c. search rules) (λ c κs. search rules) (λ c. search rules) returns (λ c. search rules))
+pub stray_kept_spec : {M : Type 1} → statement M
+stray_kept_spec = tie.close (tie.spec (λ c. search rules) (λ c κs. search rules) (λ c. search rules) returns (λ c. search rules))

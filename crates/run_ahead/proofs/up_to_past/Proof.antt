@@ -3,7 +3,7 @@
 use mathlib.Core.List.{[]}
 use native.Mathlib.Omega.{arith}
 use borrow.Author.Rules.{rules}
-use Rattle.run_ahead.proofs.Pairs.{led-to, reached-end, odd-count, past-it, even-count}
+use Rattle.run_ahead.proofs.Pairs.{led_to_lem, reached_end, odd_count, past_it, even_count}
 use Rattle.run_ahead.proofs.up_to_past.Statement.{statement}
 use Rattle.run_ahead.proofs.up_to_past.Tie as tie
 
@@ -14,7 +14,7 @@ returns c =
     record {
       within = first.requires.0;
       all = λ l. absurd (omega (arith, l, c.if1.true));
-      rest = λ l h i e. past-it a.s.now a.h a.body.now a.from first.requires.1 l e;
+      rest = λ l h i e. past_it a.s.now a.h a.body.now a.from first.requires.1 l e;
     }
 
 returns-2 : tie.Need-returns-2
@@ -23,7 +23,7 @@ returns-2 c =
     let a = first.args in
     record {
       within = first.requires.0;
-      all = λ l. odd-count a.s.now a.h a.body.now a.from l c.if2.true;
+      all = λ l. odd_count a.s.now a.h a.body.now a.from l c.if2.true;
       rest = λ l h i e. absurd (omega (arith, l, c.before.before.if1.false));
     }
 
@@ -35,12 +35,12 @@ returns-3 c =
     let before = c.before.before.before.before-body.ensures.0 a.body.now in
     record {
       within = before.within;
-      all = λ l. even-count a.s.now a.h a.body.now a.from first.requires.1 (let z = even.if2.false in omega arith) (reached-end before c.if3.true);
+      all = λ l. even_count a.s.now a.h a.body.now a.from first.requires.1 (let z = even.if2.false in omega arith) (reached_end before c.if3.true);
       rest = λ l h i e. absurd (omega (arith, l, c.if3.true));
     }
 
-in-body-requires : tie.Need-in-body-requires
-in-body-requires c κs = let e = c.before.before.before.before.before-body.ensures in ((e.0 []).within, e.1, search rules, c.before.if3.false)
+in_body_requires : tie.Need-in-body-requires
+in_body_requires c κs = let e = c.before.before.before.before.before-body.ensures in ((e.0 []).within, e.1, search rules, c.before.if3.false)
 
 returns-4 : tie.Need-returns-4
 returns-4 c =
@@ -54,19 +54,19 @@ returns-4 c =
     let body = c.before.before.in_Body.ensures in
     record {
       within = body.within;
-      all = λ l. even-count s a.h B a.from first.requires.1 (omega arith) (led-to _ _ _ _ _ _ _ _ _ _ before.leads (reached-end body l));
-      rest = λ l h i e. even-count s a.h B a.from first.requires.1 (omega arith)
-          (led-to _ _ _ _ _ _ _ _ _ _ before.leads (led-to _ _ _ _ _ _ _ _ _ _ body.leads e));
+      all = λ l. even_count s a.h B a.from first.requires.1 (omega arith) (led_to_lem _ _ _ _ _ _ _ _ _ _ before.leads (reached_end body l));
+      rest = λ l h i e. even_count s a.h B a.from first.requires.1 (omega arith)
+          (led_to_lem _ _ _ _ _ _ _ _ _ _ before.leads (led_to_lem _ _ _ _ _ _ _ _ _ _ body.leads e));
     }
 
-pub up-to-past-spec : {M : Type 1} → statement M
-up-to-past-spec =
+pub up_to_past_spec : {M : Type 1} → statement M
+up_to_past_spec =
     tie.close
     (tie.spec
     returns
     returns-2
     (λ c κs. search rules)
     returns-3
-    in-body-requires
+    in_body_requires
     (λ c. search rules)
     returns-4)

@@ -49,8 +49,8 @@ use denote.Triple.Walked.{says, Stays, stay_none, walk_of, Goes-none, Walks, end
 use denote.Exit.{yes}
 use Rattle.saved_setting.specs.declared.SavedSetting.{SavedSetting}
 use Rattle.saved_setting.specs.declared.Held.{Held}
-use Rattle.saved_setting.specs.SavedSettings.{heldReply, foundIn}
-use Rattle.saved_held.proofs.Lent.{arr, arr-vals, arr-val, Eights, tells, array-in, array_back}
+use Rattle.saved_setting.specs.SavedSettings.{held_reply, found_in}
+use Rattle.saved_held.proofs.Lent.{arr, arr_vals, arr_val, Eights, tells, array_in, array_back}
 use Rattle.saved_setting.specs.contracts.SavedSetting as S
 use Rattle.saved_setting.proofs.SavedSetting.TheLaws as S'
 use Rattle.saved_setting.specs.contracts.Held as F
@@ -82,15 +82,15 @@ module _ {M : Type 1} {𝓤 : Ura M} (𝓛 : Logic 𝓤) (mem : Memory → SProp
   room = subst (Room S.the_row) (sym long) (lit< tt, lit< tt)
 
   abbrev at : Vals f.signature tt
-  at = (arr-vals ys, (vint w16 v ∷ [], tt))
+  at = (arr_vals ys, (vint w16 v ∷ [], tt))
 
   abbrev Post : Val → SProp 𝓤
   Post = (walk_of 𝓛 f.ended stayed (f.clauses 𝓛 mem run)).post ((tt, tt, tt, (ys, (v, tt)), at), tt)
 
-  typed-array : (zs : List SavedSetting) → Eights zs → Holds (has_ty (ty_array S'.mir 8) (arr-val zs)) × WT (arr-val zs)
-  typed-array zs zis = ((Array-Lawful 𝓛 S.the_row (LL.lawful S.the_type S'.the_laws 𝓛) 8).typed zs _ zis).0
+  typed_array : (zs : List SavedSetting) → Eights zs → Holds (has_ty (ty_array S'.mir 8) (arr_val zs)) × WT (arr_val zs)
+  typed_array zs zis = ((Array-Lawful 𝓛 S.the_row (LL.lawful S.the_type S'.the_laws 𝓛) 8).typed zs _ zis).0
 
-  exits : (r : Held) (w : Val) → heldReply r ≡ foundIn ys v
+  exits : (r : Held) (w : Val) → held_reply r ≡ found_in ys v
       → ent 𝓤 (⋆ 𝓛 (‵ ftrue ∷ ‵ (owns (arr ∷ u16 ∷ []) (ys, (v, tt)) at) ∷ ‵ ((F.the_row).own_val r (w ∷ [])) ∷ [])) (Post w)
   exits r w said =
       qed 𝓛 (‵ ftrue ∷ ‵ (owns (arr ∷ u16 ∷ []) (ys, (v, tt)) at) ∷ ‵ ((F.the_row).own_val r (w ∷ [])) ∷ []) ∵
@@ -101,12 +101,12 @@ module _ {M : Type 1} {𝓤 : Ura M} (𝓛 : Logic 𝓤) (mem : Memory → SProp
   abbrev x : ℕ → GName → Bor (List SavedSetting)
   x l δ = record { ref_ptr = (l, 0); now = ys }
 
-  abbrev to-find : ℕ → ℕ → GName → (Find 𝓛 mem run).Ghost
-  to-find l ν δ = (((ν ∷ [], tt), (full_share, tt), tt, (x l δ, (v, tt)), (slice_val (l, 0) (length ys) ∷ [], (vint w16 v ∷ [], tt))), tt)
+  abbrev to_find : ℕ → ℕ → GName → (Find 𝓛 mem run).Ghost
+  to_find l ν δ = (((ν ∷ [], tt), (full_share, tt), tt, (x l δ, (v, tt)), (slice_val (l, 0) (length ys) ∷ [], (vint w16 v ∷ [], tt))), tt)
 
   goes_in : (l ν : ℕ) (δ : GName)
       → ent 𝓤 (sep 𝓤 (A.lft (ν ∷ []) full_share) (sem 𝓛 ((ShrSlice (named 0) (ν ∷ []) S.the_row).own_val (x l δ) (slice_val (l, 0)
-      (length ys) ∷ [])))) ((Find 𝓛 mem run).pre (to-find l ν δ))
+      (length ys) ∷ [])))) ((Find 𝓛 mem run).pre (to_find l ν δ))
   goes_in l ν δ =
       qed 𝓛 (‵ (flft (ν ∷ []) full_share) ∷ ‵ ((ShrSlice (named 0) (ν ∷ []) S.the_row).own_val (x l δ) (slice_val (l, 0)
       (length ys) ∷ [])) ∷ []) ∵ nothing ! $ move ! (1 ∷ 0 ∷ []) $ join ! $
@@ -114,34 +114,34 @@ module _ {M : Type 1} {𝓤 : Ura M} (𝓛 : Logic 𝓤) (mem : Memory → SProp
       frame ! $ done !
 
   said_of : (l ν : ℕ) (δ : GName) (r : Held)
-      → ent 𝓤 (ensured 𝓛 find.ended (find.clauses 𝓛 mem run) (ν ∷ [], tt) (x l δ, (v, tt)) tt r) (fact 𝓤 (heldReply r ≡ foundIn ys v))
-  said_of l ν δ r = ex_e 𝓤 _ (λ ws. snd∗ 𝓤 (sem 𝓛 (lasts find.ended (ν ∷ [], tt) (x l δ, (v, tt)) ws)) (fact 𝓤 (heldReply r ≡ foundIn ys v)))
+      → ent 𝓤 (ensured 𝓛 find.ended (find.clauses 𝓛 mem run) (ν ∷ [], tt) (x l δ, (v, tt)) tt r) (fact 𝓤 (held_reply r ≡ found_in ys v))
+  said_of l ν δ r = ex_e 𝓤 _ (λ ws. snd∗ 𝓤 (sem 𝓛 (lasts find.ended (ν ∷ [], tt) (x l δ, (v, tt)) ws)) (fact 𝓤 (held_reply r ≡ found_in ys v)))
 
   module _ (C : Calls 𝓤 H) (Λ : Loops 𝓤 H) (fm : FmC 𝓤 H 𝓛.laws C) (known : Triple 𝓤 (C #saved-lent·find) (Find 𝓛 mem run)) where
-    walk : ent 𝓤 (on_entry 𝓛 f.signature tt tt (ys, (v, tt)) at) (WpFn 𝓤 H C Λ code.function (arr-val ys ∷ vint w16 v ∷ []) Post)
+    walk : ent 𝓤 (on_entry 𝓛 f.signature tt tt (ys, (v, tt)) at) (WpFn 𝓤 H C Λ code.function (arr_val ys ∷ vint w16 v ∷ []) Post)
     walk =
-        qed 𝓛 (‵ ftrue ∷ ‵ (owns (arr ∷ u16 ∷ []) (ys, (v, tt)) at) ∷ []) ∵ enter ! C Λ code.function (arr-val ys ∷ vint w16 v ∷ []) _ $
+        qed 𝓛 (‵ ftrue ∷ ‵ (owns (arr ∷ u16 ∷ []) (ys, (v, tt)) at) ∷ []) ∵ enter ! C Λ code.function (arr_val ys ∷ vint w16 v ∷ []) _ $
         alloc1 ! (λ l0. alloc1 ! (λ l1. alloc1 ! (λ l2. alloc1 ! (λ l3. alloc1 ! (λ l4. alloc1 ! (λ l5. alloc0 ! $ params1 ! $
-        pass1 ! (init ! 8 refl (typed-array ys is)) $ pass1 ! (init ! 6 refl (tt, record { fits = gv.1 })) $ pass0 ! $
-        assigns ! (of_opd ! (load ! (from ! (stop !)) (look ! 8 refl))) (from ! (stop !)) (init ! 4 refl (typed-array ys is)) $
+        pass1 ! (init ! 8 refl (typed_array ys is)) $ pass1 ! (init ! 6 refl (tt, record { fits = gv.1 })) $ pass0 ! $
+        assigns ! (of_opd ! (load ! (from ! (stop !)) (look ! 8 refl))) (from ! (stop !)) (init ! 4 refl (typed_array ys is)) $
         assigns ! (addr ! (from ! (stop !))) (from ! (stop !)) (init ! 2 refl (tt, tt)) $
         assigns ! (agg ! (and_then ! (load ! (from ! (stop !)) (look ! 2 refl)) (and_then ! (lit ! tt) (no_more !)))) (from ! (stop !))
         (init ! 0 refl (tt, (tt, (record { fits = lit< tt }, tt)))) $
         rewrite ! 0 (λ (m : ℕ). ‵ (fat full_share (slice_ty (ty_ref erased imm (pointee (S.the_row).written))) l5 0 (slice_val (l3, 0) m)))
         (sym long) refl $
         -- the array is lent, to be read, for a lifetime ν of the call
-        move ! (4 ∷ []) $ array-in ! ys l3 is $ use1 𝓛 (‵ (row S.the_row full_share ys l3 0)) (whole_out 𝓛 S.the_row ys l3 0) $
+        move ! (4 ∷ []) $ array_in ! ys l3 is $ use1 𝓛 (‵ (row S.the_row full_share ys l3 0)) (whole_out 𝓛 S.the_row ys l3 0) $
         feq_i ! ℕ (length ys) (length ys) refl $ fjoin ! $ lft_new ! tt (λ ν. move ! (1 ∷ []) $
         use1 𝓛 (later (some (λ (δ : GName). ‵ ((ShrSlice (named 0) (ν ∷ []) S.the_row).own_val (x l3 δ) (slice_val (l3, 0)
         (length ys) ∷ [])) ⊛ ‵ (flent (ν ∷ []) ((arr_parts (Memory.shares S.the_row) (length ys)).part full_share ys l3 0)))))
         (lends_shr_slice 𝓛 S.the_row (named 0) (ν ∷ []) full_share ys l3 0 room) $ await ! tt $ pick ! (λ δ. split ! $
-        move ! (2 ∷ 0 ∷ []) $ use2 𝓛 (raw ((Find 𝓛 mem run).pre (to-find l3 ν δ))) (goes_in l3 ν δ) $
-        calls_at ! fm (Find 𝓛 mem run) known (to-find l3 ν δ) (and_then ! (load ! (from ! (stop !)) (look ! 2 refl))
+        move ! (2 ∷ 0 ∷ []) $ use2 𝓛 (raw ((Find 𝓛 mem run).pre (to_find l3 ν δ))) (goes_in l3 ν δ) $
+        calls_at ! fm (Find 𝓛 mem run) known (to_find l3 ν δ) (and_then ! (load ! (from ! (stop !)) (look ! 2 refl))
         (and_then ! (load ! (from ! (stop !)) (look ! 7 refl)) (no_more !))) (λ w.
         use1 𝓛 (later (some (λ (r : Held). ((‵ (flft (ν ∷ []) full_share) ⊛ ‵ ftrue) ⊛ ‵ ((F.the_row).own_val r (w
         ∷ []))) ⊛ raw (ensured 𝓛 find.ended (find.clauses 𝓛 mem run) (ν ∷ [], tt) (x l3 δ, (v, tt)) tt r)))) (id⊢ 𝓤 _) $ await ! tt $
         pick ! (λ r.
-        split ! $ move ! (1 ∷ []) $ use1 𝓛 (raw (fact 𝓤 (heldReply r ≡ foundIn ys v))) (said_of l3 ν δ r) $ heard ! (heldReply r ≡ foundIn ys v) (λ said. split ! $
+        split ! $ move ! (1 ∷ []) $ use1 𝓛 (raw (fact 𝓤 (held_reply r ≡ found_in ys v))) (said_of l3 ν δ r) $ heard ! (held_reply r ≡ found_in ys v) (λ said. split ! $
         move ! (1 ∷ []) $ peeks ! F.the_row (Is F.the_row) (shows 𝓛 F.the_row) r (w ∷ []) (λ ris.
         land ! (from ! (stop !)) (init ! 12 refl ((EL.lawful F.the_type F'.the_laws 𝓛 tt).typed r _ ris).0) $ move ! (1 ∷ []) $ split ! $
         lft_end ! tt $ move ! (0 ∷ 3 ∷ []) $ lent_back ! tt $ fsplit ! $ move ! (1 ∷ []) $
@@ -154,16 +154,16 @@ module _ {M : Type 1} {𝓤 : Ura M} (𝓛 : Logic 𝓤) (mem : Memory → SProp
 module _ {M : Type 1} {𝓤 : Ura M} (𝓛 : Logic 𝓤) (mem : Memory → SProp 𝓤) (run : Routine → Fun 𝓤) where
   open 𝓛 use {H}
 
-  find-held-walks : (C : Calls 𝓤 H) (Λ : Loops 𝓤 H) → FmC 𝓤 H 𝓛.laws C → Triple 𝓤 (C #saved-lent·find) (Find 𝓛 mem run)
+  find_held_walks : (C : Calls 𝓤 H) (Λ : Loops 𝓤 H) → FmC 𝓤 H 𝓛.laws C → Triple 𝓤 (C #saved-lent·find) (Find 𝓛 mem run)
       → Walks 𝓛 f.ended stayed (WpFn 𝓤 H C Λ code.function) (f.clauses 𝓛 mem run)
-  find-held-walks C Λ fm known = walked 𝓛 f.ended stayed (f.clauses 𝓛 mem run) (WpFn 𝓤 H C Λ code.function)
-      (λ κs. (arr-vals, (uint_vals w16, tt))) (λ κs. (tells, (uint_Tells w16, tt)))
+  find_held_walks C Λ fm known = walked 𝓛 f.ended stayed (f.clauses 𝓛 mem run) (WpFn 𝓤 H C Λ code.function)
+      (λ κs. (arr_vals, (uint_vals w16, tt))) (λ κs. (tells, (uint_Tells w16, tt)))
       (λ κs qs bounds a g are. via 𝓤 _ (fst∗ 𝓤 _ (emp 𝓤)) (walk 𝓛 mem run a.0 a.1.0 are.0 are.1.0 C Λ fm known))
 
-find-held-meets : {M : Type 1} {𝓤 : Ura M} (𝓛 : Logic 𝓤) (mem : Memory → SProp 𝓤) (run : Routine
+find_held_meets : {M : Type 1} {𝓤 : Ura M} (𝓛 : Logic 𝓤) (mem : Memory → SProp 𝓤) (run : Routine
     → Fun 𝓤) (𝓣 : Tables 𝓤 𝓛.H) → Triple 𝓤 (𝓣.C #saved-lent·find) (Find 𝓛 mem run)
     → Meets 𝓛 f.signature (WpFn 𝓤 𝓛.H 𝓣.C 𝓣.Λ code.function) (f.spec 𝓛 mem run)
-find-held-meets {𝓤 = 𝓤} 𝓛 mem run 𝓣 known =
+find_held_meets {𝓤 = 𝓤} 𝓛 mem run 𝓣 known =
     walk_Meets 𝓛 f.ended stayed (
       Goes-none 𝓛 0 (λ _. arr) yes (λ κs x f. refl),
       (
@@ -171,14 +171,14 @@ find-held-meets {𝓤 = 𝓤} 𝓛 mem run 𝓣 known =
         tt,
       ),
     ) (f.clauses 𝓛 mem run)
-    (WpFn 𝓤 𝓛.H 𝓣.C 𝓣.Λ code.function) (WpFn-mono 𝓤 𝓛.H 𝓛.laws 𝓣 code.function) (find-held-walks 𝓛 mem run 𝓣.C 𝓣.Λ
+    (WpFn 𝓤 𝓛.H 𝓣.C 𝓣.Λ code.function) (WpFn-mono 𝓤 𝓛.H 𝓛.laws 𝓣 code.function) (find_held_walks 𝓛 mem run 𝓣.C 𝓣.Λ
     (fm_of 𝓤 𝓛.H 𝓛.laws 𝓣) known)
 
-pub find-held-spec : {M : Type 1} → stated.statement M
+pub find_held_spec : {M : Type 1} → stated.statement M
 unfolding code.routine tables_of
-find-held-spec 𝓤 𝓛 𝓜 𝓡 =
+find_held_spec 𝓤 𝓛 𝓜 𝓡 =
     entered 𝓤 𝓛.H (triple_of 𝓛 f.signature (f.spec 𝓛 𝓜.mem 𝓡.run))
     (tables 𝓤 𝓛.H 𝓜 𝓡 code.env).C (tables 𝓤 𝓛.H 𝓜 𝓡 code.env).Λ #held-settings·find-held code.function (code.unfolded 𝓤 𝓛.H 𝓜 𝓡)
-    (find-held-meets 𝓛 𝓜.mem 𝓡.run (tables_of 𝓤 𝓛.H 𝓜 (tables 𝓤 𝓛.H 𝓜 𝓡 code.env))
+    (find_held_meets 𝓛 𝓜.mem 𝓡.run (tables_of 𝓤 𝓛.H 𝓜 (tables 𝓤 𝓛.H 𝓜 𝓡 code.env))
     (cited 𝓤 𝓛.H (Find 𝓛 𝓜.mem
-    𝓡.run) 𝓜 𝓡 code.env #saved-lent·find find-def.routine code.calls-saved-lent::find (find-thm.met 𝓤 𝓛 𝓜 𝓡)))
+    𝓡.run) 𝓜 𝓡 code.env #saved-lent·find find-def.routine code.calls_saved_lent::find (find-thm.met 𝓤 𝓛 𝓜 𝓡)))

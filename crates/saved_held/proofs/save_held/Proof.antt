@@ -35,9 +35,9 @@ use denote.Exit.{yes}
 use Rattle.saved_setting.specs.declared.SavedSetting.{SavedSetting}
 use Rattle.saved_setting.specs.declared.Wanted.{Wanted}
 use Rattle.saved_setting.specs.declared.Saved.{Saved}
-use Rattle.saved_setting.specs.SavedSettings.{savedWanted, Leaves}
-use Rattle.saved_held.proofs.Lent.{arr, arr-vals, arr-val, Eights, tells}
-use Rattle.saved_held.proofs.HeldChange.{after, after-val, after_is, lent, Slice, Came, held-change}
+use Rattle.saved_setting.specs.SavedSettings.{saved_wanted, Leaves}
+use Rattle.saved_held.proofs.Lent.{arr, arr_vals, arr_val, Eights, tells}
+use Rattle.saved_held.proofs.HeldChange.{after, after_val, after_is, lent, Slice, Came, held_change}
 use Rattle.saved_setting.specs.contracts.Wanted as G
 use Rattle.saved_setting.proofs.Wanted.TheLaws as G'
 use Rattle.saved_setting.specs.contracts.Saved as K
@@ -56,22 +56,22 @@ use Rattle.saved_held.proofs.save_held.Code as code
 abbrev stayed : Stays (f.ended).signature.params (f.ended).kept
 stayed = (stay_none (λ _. arr) yes, (stay_none (λ _. G.the_row) yes, tt))
 
-abbrev arg-vals : Wanted → List Val
-arg-vals = LL.vals G.the_type G'.the_laws
+abbrev arg_vals : Wanted → List Val
+arg_vals = LL.vals G.the_type G'.the_laws
 
 module _ {M : Type 1} {𝓤 : Ura M} (𝓛 : Logic 𝓤) (mem : Memory → SProp 𝓤) (run : Routine → Fun 𝓤) where
   abbrev Callee : Contract 𝓤
   Callee = triple_of 𝓛 callee.signature (callee.spec 𝓛 mem run)
 
 module _ {M : Type 1} {𝓤 : Ura M} (𝓛 : Logic 𝓤) (mem : Memory → SProp 𝓤) (run : Routine → Fun 𝓤)
-    (ys : List SavedSetting) (v : Wanted) (is : Eights ys) (gv : Is G.the_row v (arg-vals v)) where
+    (ys : List SavedSetting) (v : Wanted) (is : Eights ys) (gv : Is G.the_row v (arg_vals v)) where
   open 𝓛 use {H}
 
   abbrev Said : Saved → List SavedSetting → Type 0
-  Said r zs = Leaves (savedWanted ys v) r zs
+  Said r zs = Leaves (saved_wanted ys v) r zs
 
   abbrev at : Vals f.signature tt
-  at = (arr-vals ys, (arg-vals v, tt))
+  at = (arr_vals ys, (arg_vals v, tt))
 
   abbrev Post : Val → SProp 𝓤
   Post = (walk_of 𝓛 f.ended stayed (f.clauses 𝓛 mem run)).post ((tt, tt, tt, (ys, (v, tt)), at), tt)
@@ -80,20 +80,20 @@ module _ {M : Type 1} {𝓤 : Ura M} (𝓛 : Logic 𝓤) (mem : Memory → SProp
   arg_typed = ((LL.lawful G.the_type G'.the_laws 𝓛).typed v _ gv).0
 
   exits : (r : Saved) (zs : List SavedSetting) → Said r zs → Is K.the_row r (EL.vals K.the_type K'.the_laws r) → Eights zs
-      → ent 𝓤 (on_entry 𝓛 f.signature tt tt (ys, (v, tt)) at) (Post (after-val r zs))
+      → ent 𝓤 (on_entry 𝓛 f.signature tt tt (ys, (v, tt)) at) (Post (after_val r zs))
   exits r zs said ris zis =
       qed 𝓛 (‵ ftrue ∷ ‵ (owns (arr ∷ G.the_row ∷ []) (ys, (v, tt)) at) ∷ []) ∵
-      suffices ! _ (ends_at 𝓛 f.ended stayed (f.clauses 𝓛 mem run) ((tt, tt, tt, (ys, (v, tt)), at), tt) (after-val r zs) (after r zs)
+      suffices ! _ (ends_at 𝓛 f.ended stayed (f.clauses 𝓛 mem run) ((tt, tt, tt, (ys, (v, tt)), at), tt) (after_val r zs) (after r zs)
       (tt, (tt, tt)) (tt, (tt, tt))) $ says ! said $ frame ! $ frame ! $
       owned ! R.the_row (Is R.the_row) (LL.makes R.the_type R'.the_plain 𝓛) (after r zs) _ (after_is r zs ris zis) $ done !
 
   -- what is passed to `save`, and what it gives
-  abbrev to-callee : ℕ → ℕ → GName → (Callee 𝓛 mem run).Ghost
-  to-callee l ν δ =
-      (((ν ∷ [], tt), (full_share, tt), tt, (lent ys l δ, (v, tt)), (slice_val (l, 0) (length ys) ∷ [], (arg-vals v, tt))), tt)
+  abbrev to_callee : ℕ → ℕ → GName → (Callee 𝓛 mem run).Ghost
+  to_callee l ν δ =
+      (((ν ∷ [], tt), (full_share, tt), tt, (lent ys l δ, (v, tt)), (slice_val (l, 0) (length ys) ∷ [], (arg_vals v, tt))), tt)
 
   goes_in : (l ν : ℕ) (δ : GName) → ent 𝓤 (sep 𝓤 (sem 𝓛 (flft (ν ∷ []) full_share)) (sem 𝓛 (Slice 𝓛 ys l ν δ)))
-      ((Callee 𝓛 mem run).pre (to-callee l ν δ))
+      ((Callee 𝓛 mem run).pre (to_callee l ν δ))
   goes_in l ν δ =
       qed 𝓛 (‵ (flft (ν ∷ []) full_share) ∷ ‵ (Slice 𝓛 ys l ν δ) ∷ []) ∵ nothing ! $ move ! (1 ∷ 0 ∷ []) $ join ! $
       nothing ! $ owned ! G.the_row (Is G.the_row) (LL.makes G.the_type G'.the_plain 𝓛) v _ gv $ fjoin ! $
@@ -102,9 +102,9 @@ module _ {M : Type 1} {𝓤 : Ura M} (𝓛 : Logic 𝓤) (mem : Memory → SProp
   abbrev Gives : ℕ → GName → Val → Saved → SProp 𝓤
   Gives ν δ w r = ex 𝓤 (Came 𝓛 ys Said ν δ w r)
 
-  got : (l ν : ℕ) (δ : GName) (w : Val) → ent 𝓤 ((Callee 𝓛 mem run).post (to-callee l ν δ) w) (H.⇛ (ex 𝓤 (Gives ν δ w)))
+  got : (l ν : ℕ) (δ : GName) (w : Val) → ent 𝓤 ((Callee 𝓛 mem run).post (to_callee l ν δ) w) (H.⇛ (ex 𝓤 (Gives ν δ w)))
   got l ν δ w =
-      qed 𝓛 (raw ((Callee 𝓛 mem run).post (to-callee l ν δ) w) ∷ []) ∵ updating ! $
+      qed 𝓛 (raw ((Callee 𝓛 mem run).post (to_callee l ν δ) w) ∷ []) ∵ updating ! $
       use1 𝓛 (later (some (λ (r : Saved). ((‵ (flft (ν ∷ []) full_share) ⊛ ‵ ftrue) ⊛ ‵ ((K.the_row).own_val r (w ∷ [])))
       ⊛ raw (ensured 𝓛 callee.ended (callee.clauses 𝓛 mem run) (ν ∷ [], tt) (lent ys l δ, (v, tt)) tt r)))) (id⊢ 𝓤 _) $
       await ! tt $ pick ! (λ r. split ! $ move ! (1 ∷ []) $
@@ -115,35 +115,35 @@ module _ {M : Type 1} {𝓤 : Ura M} (𝓛 : Logic 𝓤) (mem : Memory → SProp
 
   module _ (C : Calls 𝓤 H) (Λ : Loops 𝓤 H) (fm : FmC 𝓤 H 𝓛.laws C) (known : Triple 𝓤 (C #saved-lent·save) (Callee 𝓛 mem run)) where
     walk : ent 𝓤 (on_entry 𝓛 f.signature tt tt (ys, (v, tt)) at)
-        (WpFn 𝓤 H C Λ code.function (arr-val ys ∷ LL.val G.the_type G'.the_laws v ∷ []) Post)
-    walk = held-change 𝓛 ys is (fsep ((G.the_row).own_val v (arg-vals v)) ftrue) #saved-lent·save G'.mir (LL.val G.the_type G'.the_laws v)
+        (WpFn 𝓤 H C Λ code.function (arr_val ys ∷ LL.val G.the_type G'.the_laws v ∷ []) Post)
+    walk = held_change 𝓛 ys is (fsep ((G.the_row).own_val v (arg_vals v)) ftrue) #saved-lent·save G'.mir (LL.val G.the_type G'.the_laws v)
         arg_typed C Λ fm Said
-        (λ l ν δ. (Callee 𝓛 mem run).post (to-callee l ν δ)) (λ l ν δ. via 𝓤 _ (goes_in l ν δ) (known (to-callee l ν δ))) got Post exits
+        (λ l ν δ. (Callee 𝓛 mem run).post (to_callee l ν δ)) (λ l ν δ. via 𝓤 _ (goes_in l ν δ) (known (to_callee l ν δ))) got Post exits
 
 module _ {M : Type 1} {𝓤 : Ura M} (𝓛 : Logic 𝓤) (mem : Memory → SProp 𝓤) (run : Routine → Fun 𝓤) where
   open 𝓛 use {H}
 
-  save-held-walks : (C : Calls 𝓤 H) (Λ : Loops 𝓤 H) → FmC 𝓤 H 𝓛.laws C → Triple 𝓤 (C #saved-lent·save) (Callee 𝓛 mem run)
+  save_held_walks : (C : Calls 𝓤 H) (Λ : Loops 𝓤 H) → FmC 𝓤 H 𝓛.laws C → Triple 𝓤 (C #saved-lent·save) (Callee 𝓛 mem run)
       → Walks 𝓛 f.ended stayed (WpFn 𝓤 H C Λ code.function) (f.clauses 𝓛 mem run)
-  save-held-walks C Λ fm known =
-      walked 𝓛 f.ended stayed (f.clauses 𝓛 mem run) (WpFn 𝓤 H C Λ code.function) (λ κs. (arr-vals, (arg-vals, tt)))
+  save_held_walks C Λ fm known =
+      walked 𝓛 f.ended stayed (f.clauses 𝓛 mem run) (WpFn 𝓤 H C Λ code.function) (λ κs. (arr_vals, (arg_vals, tt)))
       (λ κs. (tells, (LL.tells G.the_type G'.the_laws, tt)))
       (λ κs qs bounds a g are. via 𝓤 _ (fst∗ 𝓤 _ (emp 𝓤)) (walk 𝓛 mem run a.0 a.1.0 are.0 are.1.0 C Λ fm known))
 
-save-held-meets : {M : Type 1} {𝓤 : Ura M} (𝓛 : Logic 𝓤) (mem : Memory → SProp 𝓤) (run : Routine → Fun 𝓤)
+save_held_meets : {M : Type 1} {𝓤 : Ura M} (𝓛 : Logic 𝓤) (mem : Memory → SProp 𝓤) (run : Routine → Fun 𝓤)
     (𝓣 : Tables 𝓤 𝓛.H) → Triple 𝓤 (𝓣.C #saved-lent·save) (Callee 𝓛 mem run)
     → Meets 𝓛 f.signature (WpFn 𝓤 𝓛.H 𝓣.C 𝓣.Λ code.function) (f.spec 𝓛 mem run)
-save-held-meets {𝓤 = 𝓤} 𝓛 mem run 𝓣 known =
+save_held_meets {𝓤 = 𝓤} 𝓛 mem run 𝓣 known =
     walk_Meets 𝓛 f.ended stayed
     (Goes-none 𝓛 0 (λ _. arr) yes (λ κs x f. refl), (Goes-none 𝓛 0 (λ _. G.the_row) yes (λ κs x f. refl), tt)) (f.clauses 𝓛 mem run)
     (WpFn 𝓤 𝓛.H 𝓣.C 𝓣.Λ code.function) (WpFn-mono 𝓤 𝓛.H 𝓛.laws 𝓣 code.function)
-    (save-held-walks 𝓛 mem run 𝓣.C 𝓣.Λ (fm_of 𝓤 𝓛.H 𝓛.laws 𝓣) known)
+    (save_held_walks 𝓛 mem run 𝓣.C 𝓣.Λ (fm_of 𝓤 𝓛.H 𝓛.laws 𝓣) known)
 
-pub save-held-spec : {M : Type 1} → stated.statement M
+pub save_held_spec : {M : Type 1} → stated.statement M
 unfolding code.routine tables_of
-save-held-spec 𝓤 𝓛 𝓜 𝓡 =
+save_held_spec 𝓤 𝓛 𝓜 𝓡 =
     entered 𝓤 𝓛.H (triple_of 𝓛 f.signature (f.spec 𝓛 𝓜.mem 𝓡.run))
     (tables 𝓤 𝓛.H 𝓜 𝓡 code.env).C (tables 𝓤 𝓛.H 𝓜 𝓡 code.env).Λ #held-settings·save-held code.function (code.unfolded 𝓤 𝓛.H 𝓜 𝓡)
-    (save-held-meets 𝓛 𝓜.mem 𝓡.run (tables_of 𝓤 𝓛.H 𝓜 (tables 𝓤 𝓛.H 𝓜 𝓡 code.env))
-    (cited 𝓤 𝓛.H (Callee 𝓛 𝓜.mem 𝓡.run) 𝓜 𝓡 code.env #saved-lent·save callee-def.routine code.calls-saved-lent::save
+    (save_held_meets 𝓛 𝓜.mem 𝓡.run (tables_of 𝓤 𝓛.H 𝓜 (tables 𝓤 𝓛.H 𝓜 𝓡 code.env))
+    (cited 𝓤 𝓛.H (Callee 𝓛 𝓜.mem 𝓡.run) 𝓜 𝓡 code.env #saved-lent·save callee-def.routine code.calls_saved_lent::save
     (callee-thm.met 𝓤 𝓛 𝓜 𝓡)))

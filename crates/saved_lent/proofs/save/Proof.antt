@@ -43,10 +43,10 @@ use Rattle.saved_setting.specs.declared.Saved.TheVariants.{Refused}
 use Rattle.saved_setting.specs.declared.Wanted.{Wanted}
 use Rattle.saved_setting.specs.contracts.Wanted as G
 use Rattle.saved_setting.proofs.Wanted.TheLaws as G'
-use Rattle.saved_setting.specs.SavedSettings.{places_of, savedWanted, Leaves}
-use Rattle.saved_setting.specs.SavedSettingsLaws.{wanted-refused}
+use Rattle.saved_setting.specs.SavedSettings.{places_of, saved_wanted, Leaves}
+use Rattle.saved_setting.specs.SavedSettingsLaws.{wanted_refused}
 use Rattle.saved_lent.proofs.Copies.{Goods}
-use Rattle.saved_lent.proofs.Change.{Entry, Had, refused-is, eight_is, change}
+use Rattle.saved_lent.proofs.Change.{Entry, Had, refused_is, eight_is, change}
 use Rattle.saved_setting.specs.contracts.SavedSetting as S
 use Rattle.saved_setting.specs.contracts.EightPlaces as E
 use Rattle.saved_setting.proofs.EightPlaces.TheLaws as E'
@@ -68,51 +68,51 @@ Arg = Wanted
 abbrev arg : RattleType
 arg = G.the_row
 
-abbrev arg-vals : Arg → List Val
-arg-vals = LL.vals G.the_type G'.the_laws
+abbrev arg_vals : Arg → List Val
+arg_vals = LL.vals G.the_type G'.the_laws
 
-abbrev arg-val : Arg → Val
-arg-val = LL.val G.the_type G'.the_laws
+abbrev arg_val : Arg → Val
+arg_val = LL.val G.the_type G'.the_laws
 
 abbrev stayed : Stays (f.ended).signature.params (f.ended).kept
 stayed = (stay_slice (0 ∷ []) tt (plain (λ _. S.the_row)), (stay_none (λ _. arg) yes, tt))
 
 -- what `save_in` says of its outcome
 abbrev Said : Arg → EightPlaces → SavedPlaces → Type 0
-Said v e r = Leaves (savedWanted (places_of e) v) r.answer (places_of r.places)
+Said v e r = Leaves (saved_wanted (places_of e) v) r.answer (places_of r.places)
 
 module _ {M : Type 1} {𝓤 : Ura M} (𝓛 : Logic 𝓤) (mem : Memory → SProp 𝓤) (run : Routine → Fun 𝓤) where
   abbrev Callee : Contract 𝓤
   Callee = triple_of 𝓛 callee.signature (callee.spec 𝓛 mem run)
 
 module _ {M : Type 1} {𝓤 : Ura M} (𝓛 : Logic 𝓤) (mem : Memory → SProp 𝓤) (run : Routine
-    → Fun 𝓤) (κ : Lft) (q : Share) (b o : ℕ) (γ : GName) (v : Arg) (gv : Is arg v (arg-vals v)) where
+    → Fun 𝓤) (κ : Lft) (q : Share) (b o : ℕ) (γ : GName) (v : Arg) (gv : Is arg v (arg_vals v)) where
   open 𝓛 use {H}
 
   abbrev x : List SavedSetting → MutBor (List SavedSetting) × (Arg × Unit {0})
   x ys = (record { ref_ptr = (b, o); ghost_name = γ; now = ys }, (v, tt))
 
   abbrev at : List SavedSetting → Vals f.signature (κ, tt)
-  at ys = (slice_val (b, o) (length ys) ∷ [], (arg-vals v, tt))
+  at ys = (slice_val (b, o) (length ys) ∷ [], (arg_vals v, tt))
 
   abbrev Post : List SavedSetting → Val → SProp 𝓤
   Post ys = (walk_of 𝓛 f.ended stayed (f.clauses 𝓛 mem run)).post (((κ, tt), (q, tt), tt, x ys, at ys), tt)
 
-  exits-short : (ys : List SavedSetting) → (length ys ≡ 8 → ⊥)
-      → ent 𝓤 (Entry 𝓛 κ q b o γ (fsep (arg.own v (arg-vals v)) ftrue) ys) (Post ys (EL.val K.the_type K'.the_laws (Refused 37)))
-  exits-short ys other =
+  exits_short : (ys : List SavedSetting) → (length ys ≡ 8 → ⊥)
+      → ent 𝓤 (Entry 𝓛 κ q b o γ (fsep (arg.own v (arg_vals v)) ftrue) ys) (Post ys (EL.val K.the_type K'.the_laws (Refused 37)))
+  exits_short ys other =
       qed 𝓛 ((‵ (flft κ q) ⊛ ‵ ftrue) ∷ ‵ (owns (MutSlice (named 0) κ S.the_row ∷ arg ∷ []) (x ys) (at ys)) ∷ []) ∵
       suffices ! _ (ends_at 𝓛 f.ended stayed (f.clauses 𝓛 mem run) (((κ, tt), (q, tt), tt, x ys, at ys), tt)
-      (EL.val K.the_type K'.the_laws (Refused 37)) (Refused 37) (ys, (tt, tt)) (refl, (tt, tt))) $ says ! (wanted-refused ys other v) $
-      frame ! $ frame ! $ owned ! K.the_row (Is K.the_row) (EL.makes K.the_type K'.the_plain 𝓛) (Refused 37) _ refused-is $ done !
+      (EL.val K.the_type K'.the_laws (Refused 37)) (Refused 37) (ys, (tt, tt)) (refl, (tt, tt))) $ says ! (wanted_refused ys other v) $
+      frame ! $ frame ! $ owned ! K.the_row (Is K.the_row) (EL.makes K.the_type K'.the_plain 𝓛) (Refused 37) _ refused_is $ done !
 
-  exits-eight : (e : EightPlaces) (r : SavedPlaces) → Room S.the_row 8 → Said v e r
+  exits_eight : (e : EightPlaces) (r : SavedPlaces) → Room S.the_row 8 → Said v e r
       → Is K.the_row r.answer (EL.vals K.the_type K'.the_laws r.answer)
-      → ent 𝓤 (Had 𝓛 κ q b o γ (fsep (arg.own v (arg-vals v)) ftrue) (places_of r.places)) (Post (places_of e)
+      → ent 𝓤 (Had 𝓛 κ q b o γ (fsep (arg.own v (arg_vals v)) ftrue) (places_of r.places)) (Post (places_of e)
       (EL.val K.the_type K'.the_laws r.answer))
-  exits-eight e r gn said is =
+  exits_eight e r gn said is =
       qed 𝓛 (‵ (fobs γ ((coded_holeys S.the_row).code (heres S.the_row (places_of r.places)))) ∷ ‵ (fbor κ (Lent S.the_row 8 b o γ)) ∷ ‵ (flft κ q)
-      ∷ ‵ (fsep (arg.own v (arg-vals v)) ftrue) ∷ []) ∵
+      ∷ ‵ (fsep (arg.own v (arg_vals v)) ftrue) ∷ []) ∵
       suffices ! _ (ends_at 𝓛 f.ended stayed (f.clauses 𝓛 mem run) (((κ, tt), (q, tt), tt, x (places_of e), at (places_of e)), tt)
       (EL.val K.the_type K'.the_laws r.answer) r.answer (places_of r.places, (tt, tt)) (refl, (tt, tt))) $ says ! said $
       nothing ! $ move ! (3 ∷ 0 ∷ []) $ join ! $ frame ! $ fjoin ! $
@@ -120,10 +120,10 @@ module _ {M : Type 1} {𝓤 : Ura M} (𝓛 : Logic 𝓤) (mem : Memory → SProp
       owned ! K.the_row (Is K.the_row) (EL.makes K.the_type K'.the_plain 𝓛) r.answer _ is $ done !
 
   -- what is passed to `save_in`, and what it gives
-  abbrev to-callee : EightPlaces → (Callee 𝓛 mem run).Ghost
-  to-callee e = ((tt, tt, tt, (e, (v, tt)), (LL.vals E.the_type E'.the_laws e, (arg-vals v, tt))), tt)
+  abbrev to_callee : EightPlaces → (Callee 𝓛 mem run).Ghost
+  to_callee e = ((tt, tt, tt, (e, (v, tt)), (LL.vals E.the_type E'.the_laws e, (arg_vals v, tt))), tt)
 
-  goes_in : (e : EightPlaces) → Goods e → ent 𝓤 (emp 𝓤) ((Callee 𝓛 mem run).pre (to-callee e))
+  goes_in : (e : EightPlaces) → Goods e → ent 𝓤 (emp 𝓤) ((Callee 𝓛 mem run).pre (to_callee e))
   goes_in e g =
       qed 𝓛 [] ∵ nothing ! $ owned ! arg (Is arg) (LL.makes G.the_type G'.the_plain 𝓛) v _ gv $ fjoin ! $
       owned ! E.the_row (Is E.the_row) (LL.makes E.the_type E'.the_plain 𝓛) e _ (eight_is e g) $ fjoin ! $
@@ -136,39 +136,39 @@ module _ {M : Type 1} {𝓤 : Ura M} (𝓛 : Logic 𝓤) (mem : Memory → SProp
   abbrev Gives : EightPlaces → Val → SavedPlaces → SProp 𝓤
   Gives e w r = sep 𝓤 (sem 𝓛 ((O.the_row).own_val r (w ∷ []))) (fact 𝓤 (Said v e r))
 
-  got : (e : EightPlaces) (w : Val) → ent 𝓤 ((Callee 𝓛 mem run).post (to-callee e) w) (H.⇛ (ex 𝓤 (Gives e w)))
+  got : (e : EightPlaces) (w : Val) → ent 𝓤 ((Callee 𝓛 mem run).post (to_callee e) w) (H.⇛ (ex 𝓤 (Gives e w)))
   got e w =
-      qed 𝓛 (raw ((Callee 𝓛 mem run).post (to-callee e) w) ∷ []) ∵ updating ! $
+      qed 𝓛 (raw ((Callee 𝓛 mem run).post (to_callee e) w) ∷ []) ∵ updating ! $
       use1 𝓛 (later (some (λ (r : SavedPlaces). (‵ ftrue ⊛ ‵ ((O.the_row).own_val r (w
       ∷ []))) ⊛ raw (ensured 𝓛 callee.ended (callee.clauses 𝓛 mem run) tt (e, (v, tt)) tt r)))) (id⊢ 𝓤 _) $ await ! tt $ pick ! (λ r.
       split ! $ split ! $ drop ! $ move ! (1 ∷ []) $ use1 𝓛 (raw (fact 𝓤 (Said v e r))) (said_of e r) $ at_once ! $ show ! (Gives e w) r $
       move ! (1 ∷ 0 ∷ []) $ done !)
 
-  arg_typed : Holds (has_ty G'.mir (arg-val v)) × WT (arg-val v)
+  arg_typed : Holds (has_ty G'.mir (arg_val v)) × WT (arg_val v)
   arg_typed = ((LL.lawful G.the_type G'.the_laws 𝓛).typed v _ gv).0
 
   module _ (C : Calls 𝓤 H) (Λ : Loops 𝓤 H) (fm : FmC 𝓤 H 𝓛.laws C) (known : Triple 𝓤 (C #saved-places·save-in) (Callee 𝓛 mem run)) where
     walk : (ys : List SavedSetting) → Room S.the_row (length ys)
         → ent 𝓤 (on_entry 𝓛 f.signature (κ, tt) (q, tt) (x ys) (at ys)) (WpFn 𝓤 H C Λ code.function (slice_val (b, o)
-        (length ys) ∷ arg-val v ∷ []) (Post ys))
-    walk = change 𝓛 κ q b o γ (fsep (arg.own v (arg-vals v)) ftrue) #saved-places·save-in G'.mir (arg-val v) arg_typed C Λ fm (Said v)
-        (λ e. (Callee 𝓛 mem run).post (to-callee e))
-        (λ e g. via 𝓤 _ (goes_in e g) (known (to-callee e))) got Post exits-short exits-eight
+        (length ys) ∷ arg_val v ∷ []) (Post ys))
+    walk = change 𝓛 κ q b o γ (fsep (arg.own v (arg_vals v)) ftrue) #saved-places·save-in G'.mir (arg_val v) arg_typed C Λ fm (Said v)
+        (λ e. (Callee 𝓛 mem run).post (to_callee e))
+        (λ e g. via 𝓤 _ (goes_in e g) (known (to_callee e))) got Post exits_short exits_eight
 
 module _ {M : Type 1} {𝓤 : Ura M} (𝓛 : Logic 𝓤) (mem : Memory → SProp 𝓤) (run : Routine → Fun 𝓤) where
   open 𝓛 use {H}
 
-  save-walks : (C : Calls 𝓤 H) (Λ : Loops 𝓤 H) → FmC 𝓤 H 𝓛.laws C → Triple 𝓤 (C #saved-places·save-in) (Callee 𝓛 mem run)
+  save_walks : (C : Calls 𝓤 H) (Λ : Loops 𝓤 H) → FmC 𝓤 H 𝓛.laws C → Triple 𝓤 (C #saved-places·save-in) (Callee 𝓛 mem run)
       → Walks 𝓛 f.ended stayed (WpFn 𝓤 H C Λ code.function) (f.clauses 𝓛 mem run)
-  save-walks C Λ fm known = walked 𝓛 f.ended stayed (f.clauses 𝓛 mem run) (WpFn 𝓤 H C Λ code.function) (λ κs. (mut_slice_vals, (arg-vals, tt)))
+  save_walks C Λ fm known = walked 𝓛 f.ended stayed (f.clauses 𝓛 mem run) (WpFn 𝓤 H C Λ code.function) (λ κs. (mut_slice_vals, (arg_vals, tt)))
       (λ κs. (mut_slice_Tells (named 0) κs.0 S.the_row, (LL.tells G.the_type G'.the_laws, tt)))
       (λ κs qs bounds a _ are. via 𝓤 _ (fst∗ 𝓤 _ (emp 𝓤)) (walk 𝓛 mem run κs.0 qs.0 a.0.ptr.0 a.0.ptr.1 a.0.name a.1.0
       are.1.0 C Λ fm known a.0.now are.0.0.1))
 
-save-meets : {M : Type 1} {𝓤 : Ura M} (𝓛 : Logic 𝓤) (mem : Memory → SProp 𝓤) (run : Routine
+save_meets : {M : Type 1} {𝓤 : Ura M} (𝓛 : Logic 𝓤) (mem : Memory → SProp 𝓤) (run : Routine
     → Fun 𝓤) (𝓣 : Tables 𝓤 𝓛.H) → Triple 𝓤 (𝓣.C #saved-places·save-in) (Callee 𝓛 mem run)
     → Meets 𝓛 f.signature (WpFn 𝓤 𝓛.H 𝓣.C 𝓣.Λ code.function) (f.spec 𝓛 mem run)
-save-meets {𝓤 = 𝓤} 𝓛 mem run 𝓣 known =
+save_meets {𝓤 = 𝓤} 𝓛 mem run 𝓣 known =
     walk_Meets 𝓛 f.ended stayed (
       Goes-slice 𝓛 1 0 tt (plain (λ _. S.the_row)),
       (
@@ -176,14 +176,14 @@ save-meets {𝓤 = 𝓤} 𝓛 mem run 𝓣 known =
         tt,
       ),
     ) (f.clauses 𝓛 mem run)
-    (WpFn 𝓤 𝓛.H 𝓣.C 𝓣.Λ code.function) (WpFn-mono 𝓤 𝓛.H 𝓛.laws 𝓣 code.function) (save-walks 𝓛 mem run 𝓣.C 𝓣.Λ
+    (WpFn 𝓤 𝓛.H 𝓣.C 𝓣.Λ code.function) (WpFn-mono 𝓤 𝓛.H 𝓛.laws 𝓣 code.function) (save_walks 𝓛 mem run 𝓣.C 𝓣.Λ
     (fm_of 𝓤 𝓛.H 𝓛.laws 𝓣) known)
 
-pub save-spec : {M : Type 1} → stated.statement M
+pub save_spec : {M : Type 1} → stated.statement M
 unfolding code.routine tables_of
-save-spec 𝓤 𝓛 𝓜 𝓡 =
+save_spec 𝓤 𝓛 𝓜 𝓡 =
     entered 𝓤 𝓛.H (triple_of 𝓛 f.signature (f.spec 𝓛 𝓜.mem 𝓡.run))
     (tables 𝓤 𝓛.H 𝓜 𝓡 code.env).C (tables 𝓤 𝓛.H 𝓜 𝓡 code.env).Λ #saved-lent·save code.function (code.unfolded 𝓤 𝓛.H 𝓜 𝓡)
-    (save-meets 𝓛 𝓜.mem 𝓡.run (tables_of 𝓤 𝓛.H 𝓜 (tables 𝓤 𝓛.H 𝓜 𝓡 code.env))
+    (save_meets 𝓛 𝓜.mem 𝓡.run (tables_of 𝓤 𝓛.H 𝓜 (tables 𝓤 𝓛.H 𝓜 𝓡 code.env))
     (cited 𝓤 𝓛.H (Callee 𝓛 𝓜.mem
-    𝓡.run) 𝓜 𝓡 code.env #saved-places·save-in callee-def.routine code.calls-saved-places::save-in (callee-thm.met 𝓤 𝓛 𝓜 𝓡)))
+    𝓡.run) 𝓜 𝓡 code.env #saved-places·save-in callee-def.routine code.calls_saved_places::save-in (callee-thm.met 𝓤 𝓛 𝓜 𝓡)))

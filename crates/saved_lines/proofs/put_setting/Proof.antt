@@ -1,6 +1,6 @@
 -- The five numbers, each after its name, and a newline, one after another.
 use borrow.Author.Rules.{rules}
-use Rattle.text.specs.PutLaws.{then, puts-length}
+use Rattle.text.specs.PutLaws.{then, puts_length}
 use Rattle.saved_lines.proofs.put_setting.Statement.{statement}
 use Rattle.saved_lines.proofs.put_setting.Tie as tie
 
@@ -18,10 +18,10 @@ returns c =
     (then gain.put-field4.ensures (then divisor.put-field5.ensures end.put.ensures))))
 
 same_length : tie.Need-same-length
-same_length c = puts-length (returns c)
+same_length c = puts_length (returns c)
 
-pub put-setting-spec : {M : Type 1} → statement M
-put-setting-spec =
+pub put_setting_spec : {M : Type 1} → statement M
+put_setting_spec =
     tie.close
     (tie.spec
     (λ c. search rules)

@@ -4,14 +4,14 @@ use Prim.Native.Nat.{◌≤◌, ◌-◌}
 use native.Mathlib.Omega.{arith}
 use borrow.Author.Rules.{rules}
 use Rattle.text.specs.Put.{Puts}
-use Rattle.text.specs.PutLaws.{then, puts_none, puts-length}
-use Rattle.saved_lines.specs.SavedLines.{placeLines, settingsText}
+use Rattle.text.specs.PutLaws.{then, puts_none, puts_length}
+use Rattle.saved_lines.specs.SavedLines.{place_lines, settings_text}
 use Rattle.saved_lines.specs.SavedLinesLaws.{lines_more}
 use Rattle.saved_lines.proofs.put_settings.Statement.{statement}
 use Rattle.saved_lines.proofs.put_settings.Tie as tie
 
 abbrev invariant-loop : tie.invariant-loop
-invariant-loop out₀ at list next₀ i₀ out next i = (i ≤ 8) × (Puts out₀ at (placeLines i list) next out)
+invariant-loop out₀ at list next₀ i₀ out next i = (i ≤ 8) × (Puts out₀ at (place_lines i list) next out)
 
 abbrev decreases-loop : tie.decreases-loop
 decreases-loop out₀ at list next₀ i₀ out next i = 8 - i
@@ -26,14 +26,14 @@ loop-again c =
     (search rules, rw (lines_more test.before.before.before.args.t1 test.before.loop.i) (then test.before.loop.invariant.1 call.put-place.ensures))
 
 returns : tie.Need-returns invariant-loop decreases-loop
-unfolding settingsText
+unfolding settings_text
 returns c =
     let loop = c.before.loop in
     let eight : loop.i ≡ 8 = omega (arith, loop.invariant.0, c.loop-test.false) in
     rw eight at loop.invariant.1
 
-pub put-settings-spec : {M : Type 1} → statement M
-put-settings-spec =
+pub put_settings_spec : {M : Type 1} → statement M
+put_settings_spec =
     tie.close
     (tie.spec
     invariant-loop
@@ -45,5 +45,5 @@ put-settings-spec =
     (λ c. search rules)
     (λ c. search rules)
     loop-again
-    (λ c. puts-length c.before.loop.invariant.1)
+    (λ c. puts_length c.before.loop.invariant.1)
     returns)

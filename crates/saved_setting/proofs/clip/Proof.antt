@@ -8,5 +8,5 @@ returns : tie.Need-returns
 unfolding clipped
 returns c = simp (c.lesser2.ensures, c.before.lesser.ensures, c.before.before.fine-limit.ensures)
 
-pub clip-spec : {M : Type 1} → statement M
-clip-spec = tie.close (tie.spec (λ c. search rules) (λ c. search rules) (λ c. search rules) returns)
+pub clip_spec : {M : Type 1} → statement M
+clip_spec = tie.close (tie.spec (λ c. search rules) (λ c. search rules) (λ c. search rules) returns)

@@ -12,5 +12,5 @@ returns-2 : tie.Need-returns-2
 unfolding lesser
 returns-2 c = simp (lt-leb _ _ c.if1.false)
 
-pub lesser-spec : {M : Type 1} → statement M
-lesser-spec = tie.close (tie.spec returns returns-2)
+pub lesser_spec : {M : Type 1} → statement M
+lesser_spec = tie.close (tie.spec returns returns-2)

@@ -8,5 +8,5 @@ returns : tie.Need-returns
 unfolding renumbered
 returns c = refl
 
-pub renumber-spec : {M : Type 1} → statement M
-renumber-spec = tie.close (tie.spec returns)
+pub renumber_spec : {M : Type 1} → statement M
+renumber_spec = tie.close (tie.spec returns)

@@ -17,5 +17,5 @@ returns-3 c =
     let a = c.before.before.args in
     sym (more_left a.whole.now a.at (omega (arith, c.before.if1.false, c.if2.false)))
 
-pub at-most-newline-spec : {M : Type 1} → statement M
-at-most-newline-spec = tie.close (tie.spec returns (λ c. search rules) (λ c. search rules) returns-2 returns-3)
+pub at_most_newline_spec : {M : Type 1} → statement M
+at_most_newline_spec = tie.close (tie.spec returns (λ c. search rules) (λ c. search rules) returns-2 returns-3)

@@ -10,8 +10,8 @@ returns c = simp (lt-ltb _ _ c.before.before.if1.true, c.before.setting-of.ensur
 returns-2 : tie.Need-returns-2
 returns-2 c = simp (le-ltb _ _ c.before.if1.false, c.no-fields2.ensures)
 
-pub end-line-spec : {M : Type 1} → statement M
-end-line-spec =
+pub end_line_spec : {M : Type 1} → statement M
+end_line_spec =
     tie.close
     (tie.spec
     (λ c. search rules)

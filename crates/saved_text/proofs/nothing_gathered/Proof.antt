@@ -6,5 +6,5 @@ use Rattle.saved_text.proofs.nothing_gathered.Tie as tie
 returns : tie.Need-returns
 returns c = simp c.no_fields.ensures
 
-pub nothing-gathered-spec : {M : Type 1} → statement M
-nothing-gathered-spec = tie.close (tie.spec (λ c. search rules) returns)
+pub nothing_gathered_spec : {M : Type 1} → statement M
+nothing_gathered_spec = tie.close (tie.spec (λ c. search rules) returns)

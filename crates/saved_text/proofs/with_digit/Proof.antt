@@ -18,8 +18,8 @@ returns-4 c = simp (c.before.enum-told4.given.1, c.with-one-more4.ensures)
 returns-5 : tie.Need-returns-5
 returns-5 c = simp (c.before.enum-told5.given.1, c.with-one-more5.ensures)
 
-pub with-digit-spec : {M : Type 1} → statement M
-with-digit-spec =
+pub with_digit_spec : {M : Type 1} → statement M
+with_digit_spec =
     tie.close
     (tie.spec
     (λ c. search rules)

@@ -6,5 +6,5 @@ use Rattle.saved_text.proofs.with_field.Tie as tie
 returns : tie.Need-returns
 returns c = simp c.next-name.ensures
 
-pub with-field-spec : {M : Type 1} → statement M
-with-field-spec = tie.close (tie.spec (λ c κs. search rules) returns)
+pub with_field_spec : {M : Type 1} → statement M
+with_field_spec = tie.close (tie.spec (λ c κs. search rules) returns)

@@ -5,14 +5,14 @@ use borrow.Author.Rules.{rules}
 use Rattle.settings.proofs.change_file.Statement.{statement}
 use Rattle.settings.proofs.change_file.Tie as tie
 
-array-share-prefix-beside : tie.Need-array-share-prefix-beside
-array-share-prefix-beside c = search rules
+array_share_prefix_beside : tie.Need-array-share-prefix-beside
+array_share_prefix_beside c = search rules
 
-slice-aggregate-change-beside : tie.Need-slice-aggregate-change-beside
-slice-aggregate-change-beside c = sym (length-take-le _ _ (array-share-prefix-beside c.before))
+slice_aggregate_change_beside : tie.Need-slice-aggregate-change-beside
+slice_aggregate_change_beside c = sym (length-take-le _ _ (array_share_prefix_beside c.before))
 
-pub change-file-spec : {M : Type 1} → statement M
-change-file-spec =
+pub change_file_spec : {M : Type 1} → statement M
+change_file_spec =
     tie.close
     (tie.spec
     (λ c κs. search rules)
@@ -22,7 +22,7 @@ change-file-spec =
     (λ c. search rules)
     (λ c κs. search rules)
     (λ c. search rules)
-    array-share-prefix-beside
-    slice-aggregate-change-beside
+    array_share_prefix_beside
+    slice_aggregate_change_beside
     (λ c κs. search rules)
     (λ c. search rules))

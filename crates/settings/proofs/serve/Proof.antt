@@ -5,32 +5,32 @@ use borrow.Author.Rules.{rules}
 use Rattle.settings.proofs.serve.Statement.{statement}
 use Rattle.settings.proofs.serve.Tie as tie
 
-array-share-prefix-out : tie.Need-array-share-prefix-out
-array-share-prefix-out c = search rules
+array_share_prefix_out : tie.Need-array-share-prefix-out
+array_share_prefix_out c = search rules
 
-slice-aggregate-complain : tie.Need-slice-aggregate-complain
-slice-aggregate-complain c = sym (length-take-le _ _ (array-share-prefix-out c.before))
+slice_aggregate_complain : tie.Need-slice-aggregate-complain
+slice_aggregate_complain c = sym (length-take-le _ _ (array_share_prefix_out c.before))
 
-array-share-prefix-file : tie.Need-array-share-prefix-file
-array-share-prefix-file c = search rules
+array_share_prefix_file : tie.Need-array-share-prefix-file
+array_share_prefix_file c = search rules
 
-slice-aggregate-replace : tie.Need-slice-aggregate-replace
-slice-aggregate-replace c = sym (length-take-le _ _ (array-share-prefix-file c.before))
+slice_aggregate_replace : tie.Need-slice-aggregate-replace
+slice_aggregate_replace c = sym (length-take-le _ _ (array_share_prefix_file c.before))
 
-array-share-prefix-out-2 : tie.Need-array-share-prefix-out-2
-array-share-prefix-out-2 c = search rules
+array_share_prefix_out_2 : tie.Need-array-share-prefix-out-2
+array_share_prefix_out_2 c = search rules
 
-slice-aggregate-say : tie.Need-slice-aggregate-say
-slice-aggregate-say c = sym (length-take-le _ _ (array-share-prefix-out-2 c.before))
+slice_aggregate_say : tie.Need-slice-aggregate-say
+slice_aggregate_say c = sym (length-take-le _ _ (array_share_prefix_out_2 c.before))
 
-array-share-prefix-out-3 : tie.Need-array-share-prefix-out-3
-array-share-prefix-out-3 c = search rules
+array_share_prefix_out_3 : tie.Need-array-share-prefix-out-3
+array_share_prefix_out_3 c = search rules
 
-slice-aggregate-say-2 : tie.Need-slice-aggregate-say-2
-slice-aggregate-say-2 c = sym (length-take-le _ _ (array-share-prefix-out-3 c.before))
+slice_aggregate_say_2 : tie.Need-slice-aggregate-say-2
+slice_aggregate_say_2 c = sym (length-take-le _ _ (array_share_prefix_out_3 c.before))
 
-pub serve-spec : {M : Type 1} → statement M
-serve-spec =
+pub serve_spec : {M : Type 1} → statement M
+serve_spec =
     tie.close
     (tie.spec
     (λ c. search rules)
@@ -38,19 +38,19 @@ serve-spec =
     (λ c κs. search rules)
     (λ c. search rules)
     (λ c. search rules)
-    array-share-prefix-out
-    slice-aggregate-complain
+    array_share_prefix_out
+    slice_aggregate_complain
     (λ c κs. search rules)
     (λ c. search rules)
-    array-share-prefix-file
-    slice-aggregate-replace
+    array_share_prefix_file
+    slice_aggregate_replace
     (λ c κs. search rules)
-    array-share-prefix-out-2
-    slice-aggregate-say
+    array_share_prefix_out_2
+    slice_aggregate_say
     (λ c κs. search rules)
     (λ c. search rules)
     (λ c. search rules)
-    array-share-prefix-out-3
-    slice-aggregate-say-2
+    array_share_prefix_out_3
+    slice_aggregate_say_2
     (λ c κs. search rules)
     (λ c. search rules))

@@ -5,14 +5,14 @@ use borrow.Author.Rules.{rules}
 use Rattle.settings.proofs.serve_with.Statement.{statement}
 use Rattle.settings.proofs.serve_with.Tie as tie
 
-array-share-prefix-text : tie.Need-array-share-prefix-text
-array-share-prefix-text c = search rules
+array_share_prefix_text : tie.Need-array-share-prefix-text
+array_share_prefix_text c = search rules
 
-slice-aggregate-serve : tie.Need-slice-aggregate-serve
-slice-aggregate-serve c = sym (length-take-le _ _ (array-share-prefix-text c.before))
+slice_aggregate_serve : tie.Need-slice-aggregate-serve
+slice_aggregate_serve c = sym (length-take-le _ _ (array_share_prefix_text c.before))
 
-pub serve-with-spec : {M : Type 1} → statement M
-serve-with-spec =
+pub serve_with_spec : {M : Type 1} → statement M
+serve_with_spec =
     tie.close
     (tie.spec
     (λ c κs. search rules)
@@ -21,7 +21,7 @@ serve-with-spec =
     (λ c κs. search rules)
     (λ c. search rules)
     (λ c. search rules)
-    array-share-prefix-text
-    slice-aggregate-serve
+    array_share_prefix_text
+    slice_aggregate_serve
     (λ c κs. search rules)
     (λ c. search rules))

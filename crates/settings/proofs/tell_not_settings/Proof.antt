@@ -5,20 +5,20 @@ use borrow.Author.Rules.{rules}
 use Rattle.settings.proofs.tell_not_settings.Statement.{statement}
 use Rattle.settings.proofs.tell_not_settings.Tie as tie
 
-array-share-prefix-out : tie.Need-array-share-prefix-out
-array-share-prefix-out c = search rules
+array_share_prefix_out : tie.Need-array-share-prefix-out
+array_share_prefix_out c = search rules
 
-slice-aggregate-complain : tie.Need-slice-aggregate-complain
-slice-aggregate-complain c = sym (length-take-le _ _ (array-share-prefix-out c.before))
+slice_aggregate_complain : tie.Need-slice-aggregate-complain
+slice_aggregate_complain c = sym (length-take-le _ _ (array_share_prefix_out c.before))
 
-pub tell-not-settings-spec : {M : Type 1} → statement M
-tell-not-settings-spec =
+pub tell_not_settings_spec : {M : Type 1} → statement M
+tell_not_settings_spec =
     tie.close
     (tie.spec
     (λ c. search rules)
     (λ c κs. search rules)
     (λ c. search rules)
-    array-share-prefix-out
-    slice-aggregate-complain
+    array_share_prefix_out
+    slice_aggregate_complain
     (λ c κs. search rules)
     (λ c. search rules))

@@ -7,23 +7,23 @@ use Rattle.text.specs.Put.{Puts}
 use Rattle.text.specs.PutLaws.{then}
 use borrow.Author.Rules.{rules}
 use Rattle.two_wire.specs.Messages.{message}
-use Rattle.two_wire_text.specs.Hex.{hexText}
-use Rattle.saved_registers.specs.SettingRegisters.{settingPairs}
+use Rattle.two_wire_text.specs.Hex.{hex_text}
+use Rattle.saved_registers.specs.SettingRegisters.{setting_pairs}
 use Rattle.settings_replies.proofs.put_writes.Statement.{statement}
 use Rattle.settings_replies.proofs.put_writes.Tie as tie
 
 -- the line of the pair at a place
 abbrev line_at : List ℕ → ℕ → ℕ → List ℕ
-line_at p i v = hexText (message (get_or p i 0) (get_or p v 0))
+line_at p i v = hex_text (message (get_or p i 0) (get_or p v 0))
 
 abbrev six : List ℕ → List ℕ
 six p = line_at p 0 1 ++ (line_at p 2 3 ++ (line_at p 4 5 ++ (line_at p 6 7 ++ (line_at p 8 9 ++ line_at p 10 11))))
 
-of-pairs : {d after : List ℕ} {at r : ℕ} (p q : List ℕ) → p ≡ q → Puts d at (six p) r after → Puts d at (six q) r after
-of-pairs {d} {after} {at} {r} p q e put = subst (λ (x : List ℕ). Puts d at (six x) r after) e put
+of_pairs : {d after : List ℕ} {at r : ℕ} (p q : List ℕ) → p ≡ q → Puts d at (six p) r after → Puts d at (six q) r after
+of_pairs {d} {after} {at} {r} p q e put = subst (λ (x : List ℕ). Puts d at (six x) r after) e put
 
 returns : tie.Need-returns
-unfolding settingPairs
+unfolding setting_pairs
 returns c =
     let divisor = c.before.before in
     let gain = divisor.before.before.before.before in
@@ -31,14 +31,14 @@ returns c =
     let high = low.before.before.before.before in
     let fine = high.before.before.before.before in
     let first = fine.before.before.before.before in
-    of-pairs _ _ first.before.before.pairs.ensures
+    of_pairs _ _ first.before.before.pairs.ensures
     (then first.put-message.ensures
     (then fine.put-message2.ensures
     (then high.put-message3.ensures
     (then low.put-message4.ensures (then gain.put-message5.ensures divisor.put-message6.ensures)))))
 
-pub put-writes-spec : {M : Type 1} → statement M
-put-writes-spec =
+pub put_writes_spec : {M : Type 1} → statement M
+put_writes_spec =
     tie.close
     (tie.spec
     (λ c κs. search rules)

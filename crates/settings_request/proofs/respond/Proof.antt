@@ -18,8 +18,8 @@ returns-4 c = simp c.before.before.before.before.enum_told.given.1 c.before.befo
 returns-5 : tie.Need-returns-5
 returns-5 c = simp c.before.before.before.before.before.request4.given.1 c.before.before.respond-messages.ensures
 
-pub respond-spec : {M : Type 1} → statement M
-respond-spec =
+pub respond_spec : {M : Type 1} → statement M
+respond_spec =
     tie.close
     (tie.spec
     (λ c. search rules)

@@ -18,8 +18,8 @@ returns-2 c =
     let told = c.before.before.before.before.before in
     simp (← told.before.before.before.back-held.ensures.answers, ← told.before.before.before.back-held.ensures.leaves, told.answer2.given.1) c.before.before.refuse.ensures
 
-pub respond-back-spec : {M : Type 1} → statement M
-respond-back-spec =
+pub respond_back_spec : {M : Type 1} → statement M
+respond_back_spec =
     tie.close
     (tie.spec
     (λ c κs. search rules)

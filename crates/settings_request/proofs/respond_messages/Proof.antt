@@ -17,8 +17,8 @@ returns-2 c =
     let found = c.before.before.before.before.before in
     simp (← found.before.before.find-held.ensures, found.held2.given.1) c.before.before.refuse.ensures
 
-pub respond-messages-spec : {M : Type 1} → statement M
-respond-messages-spec =
+pub respond_messages_spec : {M : Type 1} → statement M
+respond_messages_spec =
     tie.close
     (tie.spec
     (λ c κs. search rules)

@@ -19,8 +19,8 @@ returns-2 c =
     let told = c.before.before.before.before.before in
     simp (← told.before.before.before.save-held.ensures.answers, ← told.before.before.before.save-held.ensures.leaves, told.answer2.given.1) c.before.before.refuse.ensures
 
-pub respond-save-spec : {M : Type 1} → statement M
-respond-save-spec =
+pub respond_save_spec : {M : Type 1} → statement M
+respond_save_spec =
     tie.close
     (tie.spec
     (λ c κs. search rules)

@@ -13,5 +13,5 @@ returns-2 : tie.Need-returns-2
 unfolding up_to
 returns-2 c = simp (lt-leb _ _ c.if1.false)
 
-pub byte-spec : {M : Type 1} → statement M
-byte-spec = tie.close (tie.spec (λ c. search rules) returns returns-2)
+pub byte_spec : {M : Type 1} → statement M
+byte_spec = tie.close (tie.spec (λ c. search rules) returns returns-2)

@@ -1,24 +1,24 @@
 -- One verb after another is tried, in the order of the definition.
-use Rattle.settings_typed.specs.RequestWords.{askedIn}
+use Rattle.settings_typed.specs.RequestWords.{asked_in}
 use borrow.Author.Rules.{rules}
 use Rattle.settings_typed.proofs.read.Statement.{statement}
 use Rattle.settings_typed.proofs.read.Tie as tie
 
 returns : tie.Need-returns
-unfolding askedIn
+unfolding asked_in
 returns c =
     let t1 = c.before.before in
     simp (← t1.before.is.ensures, t1.if1.true, c.are-five.ensures, c.before.wanted.ensures)
 
 returns-2 : tie.Need-returns-2
-unfolding askedIn
+unfolding asked_in
 returns-2 c =
     let t2 = c.before.before in
     let t1 = t2.before.before.before in
     simp (← t1.before.is.ensures, t1.if1.false, ← t2.before.is2.ensures, t2.if2.true, c.is_one.ensures, c.before.short.ensures)
 
 returns-3 : tie.Need-returns-3
-unfolding askedIn
+unfolding asked_in
 returns-3 c =
     let t3 = c.before.before in
     let t2 = t3.before.before.before in
@@ -26,7 +26,7 @@ returns-3 c =
     simp (← t1.before.is.ensures, t1.if1.false, ← t2.before.is2.ensures, t2.if2.false, ← t3.before.is3.ensures, t3.if3.true, c.is-one2.ensures, c.before.short2.ensures)
 
 returns-4 : tie.Need-returns-4
-unfolding askedIn
+unfolding asked_in
 returns-4 c =
     let t3 = c.before in
     let t2 = t3.before.before.before in

@@ -1,12 +1,12 @@
 -- A line for each, one after another.
-use Rattle.signal_report.specs.SignalReport.{brokenLines}
+use Rattle.signal_report.specs.SignalReport.{broken_lines}
 use Rattle.text.specs.PutLaws.{then}
 use borrow.Author.Rules.{rules}
 use Rattle.signal_report.proofs.put_broken_lines.Statement.{statement}
 use Rattle.signal_report.proofs.put_broken_lines.Tie as tie
 
 returns : tie.Need-returns
-unfolding brokenLines
+unfolding broken_lines
 returns c =
     let seven = c.before.before in
     let six = seven.before.before.before.before.before in
@@ -19,8 +19,8 @@ returns c =
     (then six.put-refused-count4.ensures
     seven.put-refused-count5.ensures)))
 
-pub put-broken-lines-spec : {M : Type 1} → statement M
-put-broken-lines-spec =
+pub put_broken_lines_spec : {M : Type 1} → statement M
+put_broken_lines_spec =
     tie.close
     (tie.spec
     (λ c. search rules)

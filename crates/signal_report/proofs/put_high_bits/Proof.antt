@@ -17,8 +17,8 @@ returns c =
     (then six.put-bit3.ensures
     seven.put-bit4.ensures))
 
-pub put-high-bits-spec : {M : Type 1} → statement M
-put-high-bits-spec =
+pub put_high_bits_spec : {M : Type 1} → statement M
+put_high_bits_spec =
     tie.close
     (tie.spec
     (λ c. search rules)

@@ -17,8 +17,8 @@ returns c =
     (then two.put-bit3.ensures
     three.put-bit4.ensures))
 
-pub put-low-bits-spec : {M : Type 1} → statement M
-put-low-bits-spec =
+pub put_low_bits_spec : {M : Type 1} → statement M
+put_low_bits_spec =
     tie.close
     (tie.spec
     (λ c. search rules)

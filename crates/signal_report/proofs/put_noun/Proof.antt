@@ -10,8 +10,8 @@ returns c = simp (eq-eqb _ _ c.before.before.before.before.before.if1.true) c.be
 returns-2 : tie.Need-returns-2
 returns-2 c = simp (ne_eqb _ _ c.before.before.before.before.before.if1.false) c.before.before.put2.ensures
 
-pub put-noun-spec : {M : Type 1} → statement M
-put-noun-spec =
+pub put_noun_spec : {M : Type 1} → statement M
+put_noun_spec =
     tie.close
     (tie.spec
     (λ c. search rules)

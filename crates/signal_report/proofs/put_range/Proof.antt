@@ -15,8 +15,8 @@ returns c =
     (then greatest.put-decimal2.ensures
     end.put2.ensures))
 
-pub put-range-spec : {M : Type 1} → statement M
-put-range-spec =
+pub put_range_spec : {M : Type 1} → statement M
+put_range_spec =
     tie.close
     (tie.spec
     (λ c. search rules)

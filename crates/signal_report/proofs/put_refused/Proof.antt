@@ -1,12 +1,12 @@
 -- The three groups, one after another.
-use Rattle.signal_report.specs.SignalReport.{refusedLines}
+use Rattle.signal_report.specs.SignalReport.{refused_lines}
 use Rattle.text.specs.PutLaws.{then}
 use borrow.Author.Rules.{rules}
 use Rattle.signal_report.proofs.put_refused.Statement.{statement}
 use Rattle.signal_report.proofs.put_refused.Tie as tie
 
 returns : tie.Need-returns
-unfolding refusedLines
+unfolding refused_lines
 returns c =
     let ends = c.before.before in
     let broken = ends.before.before.before.before in
@@ -15,8 +15,8 @@ returns c =
     (then broken.put-broken-lines.ensures
     ends.put-refused-ends.ensures)
 
-pub put-refused-spec : {M : Type 1} → statement M
-put-refused-spec =
+pub put_refused_spec : {M : Type 1} → statement M
+put_refused_spec =
     tie.close
     (tie.spec
     (λ c κs. search rules)

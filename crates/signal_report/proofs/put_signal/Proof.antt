@@ -1,12 +1,12 @@
 -- The three parts, one after another.
-use Rattle.signal_report.specs.SignalReport.{signalLines}
+use Rattle.signal_report.specs.SignalReport.{signal_lines}
 use Rattle.text.specs.PutLaws.{then}
 use borrow.Author.Rules.{rules}
 use Rattle.signal_report.proofs.put_signal.Statement.{statement}
 use Rattle.signal_report.proofs.put_signal.Tie as tie
 
 returns : tie.Need-returns
-unfolding signalLines
+unfolding signal_lines
 returns c =
     let periods = c.before.before in
     let repaired = periods.before.before.before.before.before in
@@ -15,8 +15,8 @@ returns c =
     (then repaired.put-repaired.ensures
     periods.put-periods.ensures)
 
-pub put-signal-spec : {M : Type 1} → statement M
-put-signal-spec =
+pub put_signal_spec : {M : Type 1} → statement M
+put_signal_spec =
     tie.close
     (tie.spec
     (λ c κs. search rules)

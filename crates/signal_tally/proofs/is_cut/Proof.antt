@@ -10,8 +10,8 @@ returns c = simp (c.before.before.last.given.1, eq-eqb _ _ c.if1.true)
 returns-5 : tie.Need-returns-5
 returns-5 c = simp (c.before.before.last.given.1, ne_eqb _ _ c.if1.false)
 
-pub is-cut-spec : {M : Type 1} → statement M
-is-cut-spec =
+pub is_cut_spec : {M : Type 1} → statement M
+is_cut_spec =
     tie.close
     (tie.spec
     (λ c. search rules)

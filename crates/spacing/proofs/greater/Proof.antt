@@ -12,5 +12,5 @@ returns-2 : tie.Need-returns-2
 unfolding greater
 returns-2 c = simp (le-ltb _ _ c.if1.false)
 
-pub greater-spec : {M : Type 1} → statement M
-greater-spec = tie.close (tie.spec returns returns-2)
+pub greater_spec : {M : Type 1} → statement M
+greater_spec = tie.close (tie.spec returns returns-2)

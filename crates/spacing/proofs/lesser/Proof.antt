@@ -16,5 +16,5 @@ returns-3 : tie.Need-returns-3
 unfolding lesser
 returns-3 c = simp (ne_eqb _ _ c.before.if1.false, le-ltb _ _ c.if2.false)
 
-pub lesser-spec : {M : Type 1} → statement M
-lesser-spec = tie.close (tie.spec returns returns-2 returns-3)
+pub lesser_spec : {M : Type 1} → statement M
+lesser_spec = tie.close (tie.spec returns returns-2 returns-3)

@@ -6,7 +6,7 @@ use native.Mathlib.Omega.{arith}
 use borrow.Author.Rules.{rules}
 use lib.ListN.{length, take}
 use Rattle.text.specs.Put.{Puts}
-use Rattle.text.specs.PutLaws.{puts-length, puts_none, puts-more, puts_one}
+use Rattle.text.specs.PutLaws.{puts_length, puts_none, puts_more, puts_one}
 use Rattle.text.proofs.copy.Statement.{statement}
 use Rattle.text.proofs.copy.Tie as tie
 
@@ -24,13 +24,13 @@ loop-holds c =
     let z : c.args.at ≡ c.args.at + 0 = omega arith in
     (search rules, moved z (puts_none _ _))
 
-slice-write-out : tie.Need-slice-write-out invariant-loop decreases-loop
-slice-write-out c =
+slice_write_out : tie.Need-slice-write-out invariant-loop decreases-loop
+slice_write_out c =
     let l = c.before.before.loop in
-    omega (arith, c.before.loop-test.true, c.before.before.before.requires.1, puts-length l.invariant.1)
+    omega (arith, c.before.loop-test.true, c.before.before.before.requires.1, puts_length l.invariant.1)
 
-add-out : tie.Need-overflow-add-out invariant-loop decreases-loop
-add-out c = omega (arith, slice-write-out c, c.before.before.before.well-formed)
+add_out : tie.Need-overflow-add-out invariant-loop decreases-loop
+add_out c = omega (arith, slice_write_out c, c.before.before.before.well-formed)
 
 loop-again : tie.Need-loop-preserved invariant-loop decreases-loop
 loop-again c =
@@ -38,10 +38,10 @@ loop-again c =
     let a = c.before.before.before.args in
     let h : l.i < length a.text.now = omega (arith, c.before.loop-test.true, c.before.before.before.requires.0) in
     let e : a.at + l.i + 1 ≡ a.at + (l.i + 1) = omega arith in
-    (search rules, moved e (puts-more _ _ h l.invariant.1 (puts_one _ _ _ (slice-write-out c))))
+    (search rules, moved e (puts_more _ _ h l.invariant.1 (puts_one _ _ _ (slice_write_out c))))
 
 same_length : tie.Need-same-length invariant-loop decreases-loop
-same_length c = puts-length c.before.loop.invariant.1
+same_length c = puts_length c.before.loop.invariant.1
 
 returns : tie.Need-returns invariant-loop decreases-loop
 returns c =
@@ -58,8 +58,8 @@ copy_spec =
     decreases-loop
     loop-holds
     (λ c. search rules)
-    add-out
-    slice-write-out
+    add_out
+    slice_write_out
     (λ c. search rules)
     (λ c. search rules)
     loop-again

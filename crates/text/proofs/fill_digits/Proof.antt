@@ -6,7 +6,7 @@ use native.Mathlib.Omega.{arith}
 use borrow.Author.Rules.{rules}
 use lib.ListN.{length, drop, length-set, drop_of_length-le}
 use Rattle.text.specs.Text.{digits, decimal}
-use Rattle.text.specs.TextLaws.{more-places, digit-put, last-put}
+use Rattle.text.specs.TextLaws.{more_places, digit_put, last_put}
 use Rattle.text.proofs.fill_digits.Statement.{statement}
 use Rattle.text.proofs.fill_digits.Tie as tie
 
@@ -27,10 +27,10 @@ loop-again : tie.Need-loop-preserved invariant-loop decreases-loop
 loop-again c =
     let l = c.before.before.before.loop in
     let m = sym c.before.before.is-more.ensures ∙ c.before.if1.true in (
-      omega (arith, more-places l.left l.rest m),
+      omega (arith, more_places l.left l.rest m),
       omega (arith, l.invariant.1),
       length-set {A = ℕ} l.places (l.left - 1) c.last-digit.result ∙ l.invariant.2,
-      rw c.last-digit.ensures (digit-put l.left l.rest l.places _ m (omega (arith, l.invariant.1, l.invariant.2)) l.invariant.3),
+      rw c.last-digit.ensures (digit_put l.left l.rest l.places _ m (omega (arith, l.invariant.1, l.invariant.2)) l.invariant.3),
     )
 
 same_length : tie.Need-same-length invariant-loop decreases-loop
@@ -43,11 +43,11 @@ returns c =
     let l = c.before.before.before.loop in
     let m = sym c.before.before.is-more.ensures ∙ c.before.if1.false in (
       omega (arith, l.invariant.1, l.invariant.0),
-      rw c.last-digit2.ensures (last-put l.left l.rest l.places _ m l.invariant.0 (omega (arith, l.invariant.1, l.invariant.2)) l.invariant.3),
+      rw c.last-digit2.ensures (last_put l.left l.rest l.places _ m l.invariant.0 (omega (arith, l.invariant.1, l.invariant.2)) l.invariant.3),
     )
 
-pub fill-digits-spec : {M : Type 1} → statement M
-fill-digits-spec =
+pub fill_digits_spec : {M : Type 1} → statement M
+fill_digits_spec =
     tie.close
     (tie.spec
     invariant-loop

@@ -3,12 +3,12 @@ use Prim.Native.Nat.{◌-◌}
 use native.Mathlib.Omega.{arith}
 use borrow.Author.Rules.{rules}
 use lib.ListN.{length}
-use Rattle.text.specs.PutLaws.{puts-full, puts_whole, puts-cut}
+use Rattle.text.specs.PutLaws.{puts_full, puts_whole, puts_cut}
 use Rattle.text.proofs.put.Statement.{statement}
 use Rattle.text.proofs.put.Tie as tie
 
 returns : tie.Need-returns
-returns c = puts-full _ _ _ c.if1.true
+returns c = puts_full _ _ _ c.if1.true
 
 returns-2 : tie.Need-returns-2
 returns-2 c =
@@ -20,7 +20,7 @@ returns-3 : tie.Need-returns-3
 returns-3 c =
     let test = c.before.before.before.before.before in
     let a = test.before.before.before.args in
-    puts-cut a.text.now (length a.out.now - a.at) (omega (arith, test.if1.false)) c.before.before.copy2.ensures
+    puts_cut a.text.now (length a.out.now - a.at) (omega (arith, test.if1.false)) c.before.before.copy2.ensures
 
 pub put_spec : {M : Type 1} → statement M
 put_spec =

@@ -2,7 +2,7 @@
 use Prim.Native.Nat.{◌-◌}
 use native.Mathlib.Omega.{arith}
 use borrow.Author.Rules.{rules}
-use Rattle.text.specs.PutLaws.{puts-rest}
+use Rattle.text.specs.PutLaws.{puts_rest}
 use Rattle.text.proofs.put_decimal.Statement.{statement}
 use Rattle.text.proofs.put_decimal.Tie as tie
 
@@ -10,10 +10,10 @@ returns : tie.Need-returns
 returns c =
     let put = c.before.before in
     let fill = put.before.before.before.before.before.fill-digits in
-    puts-rest fill.new.1.0 fill.result (20 - fill.result) (omega (arith, fill.auto.1.0)) fill.ensures.1 put.put.ensures
+    puts_rest fill.new.1.0 fill.result (20 - fill.result) (omega (arith, fill.auto.1.0)) fill.ensures.1 put.put.ensures
 
-pub put-decimal-spec : {M : Type 1} → statement M
-put-decimal-spec =
+pub put_decimal_spec : {M : Type 1} → statement M
+put_decimal_spec =
     tie.close
     (tie.spec
     (λ c. search rules)

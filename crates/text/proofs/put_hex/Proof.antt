@@ -10,8 +10,8 @@ returns c =
     let high = low.before.before.before.before.before in
     simp (← high.before.before.hex-digit.ensures, ← low.before.before.hex-digit2.ensures) (then high.put_byte.ensures low.put-byte2.ensures)
 
-pub put-hex-spec : {M : Type 1} → statement M
-put-hex-spec =
+pub put_hex_spec : {M : Type 1} → statement M
+put_hex_spec =
     tie.close
     (tie.spec
     (λ c κs. search rules)

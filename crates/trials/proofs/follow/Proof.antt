@@ -12,8 +12,8 @@ invariant-loop script bytes₀ at₀ start₀ bytes at start = (start ≤ length
 abbrev decreases-loop : tie.decreases-loop
 decreases-loop script bytes₀ at₀ start₀ bytes at start = length script - start
 
-pub follow-spec : {M : Type 1} → statement M
-follow-spec =
+pub follow_spec : {M : Type 1} → statement M
+follow_spec =
     tie.close
     (tie.spec
     invariant-loop

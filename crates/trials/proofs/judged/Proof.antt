@@ -5,14 +5,14 @@ use borrow.Author.Rules.{rules}
 use Rattle.trials.proofs.judged.Statement.{statement}
 use Rattle.trials.proofs.judged.Tie as tie
 
-slice-aggregate-judge : tie.Need-slice-aggregate-judge
-slice-aggregate-judge c = simp length-take (omega arith)
+slice_aggregate_judge : tie.Need-slice-aggregate-judge
+slice_aggregate_judge c = simp length-take (omega arith)
 
-pub judged-spec : {M : Type 1} → statement M
-judged-spec =
+pub judged_spec : {M : Type 1} → statement M
+judged_spec =
     tie.close
     (tie.spec
-    slice-aggregate-judge
+    slice_aggregate_judge
     (λ c κs. search rules)
     (λ c. search rules)
     (λ c. search rules))

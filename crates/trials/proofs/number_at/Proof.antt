@@ -11,8 +11,8 @@ invariant-loop line word n₀ words₀ i₀ n words i = (words ≤ i) × (i ≤ 
 abbrev decreases-loop : tie.decreases-loop
 decreases-loop line word n₀ words₀ i₀ n words i = length line - i
 
-pub number-at-spec : {M : Type 1} → statement M
-number-at-spec =
+pub number_at_spec : {M : Type 1} → statement M
+number_at_spec =
     tie.close
     (tie.spec
     invariant-loop

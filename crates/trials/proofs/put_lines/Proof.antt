@@ -12,8 +12,8 @@ invariant-loop line bytes₀ at to next₀ place₀ bytes next place = length by
 abbrev decreases-loop : tie.decreases-loop
 decreases-loop line bytes₀ at to next₀ place₀ bytes next place = to - place
 
-pub put-lines-spec : {M : Type 1} → statement M
-put-lines-spec =
+pub put_lines_spec : {M : Type 1} → statement M
+put_lines_spec =
     tie.close
     (tie.spec
     invariant-loop

@@ -12,8 +12,8 @@ invariant-loop nibbles from to bytes₀ at next₀ i₀ bytes next i = length by
 abbrev decreases-loop : tie.decreases-loop
 decreases-loop nibbles from to bytes₀ at next₀ i₀ bytes next i = to - i
 
-pub put-nibbles-spec : {M : Type 1} → statement M
-put-nibbles-spec =
+pub put_nibbles_spec : {M : Type 1} → statement M
+put_nibbles_spec =
     tie.close
     (tie.spec
     invariant-loop

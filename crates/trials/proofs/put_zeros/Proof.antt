@@ -12,8 +12,8 @@ invariant-loop count bytes₀ at next₀ i₀ bytes next i = length bytes ≡ le
 abbrev decreases-loop : tie.decreases-loop
 decreases-loop count bytes₀ at next₀ i₀ bytes next i = count - i
 
-pub put-zeros-spec : {M : Type 1} → statement M
-put-zeros-spec =
+pub put_zeros_spec : {M : Type 1} → statement M
+put_zeros_spec =
     tie.close
     (tie.spec
     invariant-loop

@@ -5,11 +5,11 @@ use borrow.Author.Rules.{rules}
 use Rattle.trials.proofs.write.Statement.{statement}
 use Rattle.trials.proofs.write.Tie as tie
 
-array-share-prefix-body : tie.Need-array-share-prefix-body
-array-share-prefix-body c = search rules
+array_share_prefix_body : tie.Need-array-share-prefix-body
+array_share_prefix_body c = search rules
 
-slice-aggregate-write-line : tie.Need-slice-aggregate-write-line
-slice-aggregate-write-line c = sym (length-take-le _ _ (array-share-prefix-body c.before))
+slice_aggregate_write_line : tie.Need-slice-aggregate-write-line
+slice_aggregate_write_line c = sym (length-take-le _ _ (array_share_prefix_body c.before))
 
 pub write_spec : {M : Type 1} → statement M
 write_spec =
@@ -21,8 +21,8 @@ write_spec =
     (λ c. search rules)
     (λ c κs. search rules)
     (λ c κs. search rules)
-    array-share-prefix-body
-    slice-aggregate-write-line
+    array_share_prefix_body
+    slice_aggregate_write_line
     (λ c κs. search rules)
     (λ c. search rules)
     (λ c. search rules))

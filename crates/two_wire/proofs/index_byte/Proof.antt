@@ -6,5 +6,5 @@ use Rattle.two_wire.proofs.index_byte.Tie as tie
 returns : tie.Need-returns
 returns c = simp c.if1.true
 
-pub index-byte-spec : {M : Type 1} → statement M
-index-byte-spec = tie.close (tie.spec (λ c. search rules) returns (λ c. search rules))
+pub index_byte_spec : {M : Type 1} → statement M
+index_byte_spec = tie.close (tie.spec (λ c. search rules) returns (λ c. search rules))

@@ -8,8 +8,8 @@ returns : tie.Need-returns
 unfolding byte_of
 returns c = simp (c.before.digit.ensures, c.digit2.ensures)
 
-pub byte-of-spec : {M : Type 1} → statement M
-byte-of-spec =
+pub byte_of_spec : {M : Type 1} → statement M
+byte_of_spec =
     tie.close
     (tie.spec
     (λ c κs. search rules)

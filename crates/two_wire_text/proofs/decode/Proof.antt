@@ -8,7 +8,7 @@ use borrow.Author.Rules.{rules}
 use lib.ListN.{length, drop}
 use lib.Seq.{sets}
 use Rattle.two_wire_text.specs.Hex.{bytes_of}
-use Rattle.two_wire_text.specs.HexLaws.{bytes-step, bytes-end}
+use Rattle.two_wire_text.specs.HexLaws.{bytes_step, bytes_end}
 use Rattle.two_wire_text.proofs.decode.Statement.{statement}
 use Rattle.two_wire_text.proofs.decode.Tie as tie
 
@@ -24,16 +24,16 @@ loop-holds c = (refl, search rules, omega arith, refl)
 
 loop-again : tie.Need-loop-preserved invariant-loop decreases-loop
 loop-again c = let l = c.before.before.before.before.loop in
-    let b = bytes-step c.before.before.before.before.before.before.args.line.now l.i c.before.before.before.loop-test.true in
+    let b = bytes_step c.before.before.before.before.before.before.args.line.now l.i c.before.before.before.loop-test.true in
     (search rules, search rules, omega (arith, ap length b), simp c.byte_of.ensures (rw (add-one l.n) (sym (ap (λ (t : List ℕ). sets l.bytes l.n t) b) ∙ l.invariant.3)))
 
 returns : tie.Need-returns invariant-loop decreases-loop
 returns c = let l = c.before.loop in
-    let e = bytes-end c.before.before.before.args.line.now l.i c.loop-test.false in
+    let e = bytes_end c.before.before.before.args.line.now l.i c.loop-test.false in
     (omega (arith, rw e at l.invariant.2), rw e at l.invariant.3)
 
-pub decode-spec : {M : Type 1} → statement M
-decode-spec =
+pub decode_spec : {M : Type 1} → statement M
+decode_spec =
     tie.close
     (tie.spec
     invariant-loop

@@ -1,40 +1,40 @@
 -- The ranges are tested from the lowest character up: where one test holds all before it have failed.
 use borrow.Author.Tests.{lt-ltb, le-ltb, le-leb, lt-leb}
-use Rattle.two_wire_text.specs.Hex.{digitOf}
+use Rattle.two_wire_text.specs.Hex.{digit_of}
 use borrow.Author.Rules.{rules}
 use Rattle.two_wire_text.proofs.digit.Statement.{statement}
 use Rattle.two_wire_text.proofs.digit.Tie as tie
 
 returns : tie.Need-returns
-unfolding digitOf
+unfolding digit_of
 returns c = simp (lt-ltb _ _ c.if1.true)
 
 returns-2 : tie.Need-returns-2
-unfolding digitOf
+unfolding digit_of
 returns-2 c = simp (le-ltb _ _ c.before.if1.false, le-leb _ _ c.if2.true)
 
 returns-3 : tie.Need-returns-3
-unfolding digitOf
+unfolding digit_of
 returns-3 c = simp (le-ltb _ _ c.before.before.if1.false, lt-leb _ _ c.before.if2.false, lt-ltb _ _ c.if3.true)
 
 returns-4 : tie.Need-returns-4
-unfolding digitOf
+unfolding digit_of
 returns-4 c = simp (le-ltb _ _ c.before.before.before.if1.false, lt-leb _ _ c.before.before.if2.false, le-ltb _ _ c.before.if3.false, le-leb _ _ c.if4.true)
 
 returns-5 : tie.Need-returns-5
-unfolding digitOf
+unfolding digit_of
 returns-5 c = simp (le-ltb _ _ c.before.before.before.before.if1.false, lt-leb _ _ c.before.before.before.if2.false, le-ltb _ _ c.before.before.if3.false, lt-leb _ _ c.before.if4.false, lt-ltb _ _ c.if5.true)
 
 returns-6 : tie.Need-returns-6
-unfolding digitOf
+unfolding digit_of
 returns-6 c = simp (le-ltb _ _ c.before.before.before.before.before.if1.false, lt-leb _ _ c.before.before.before.before.if2.false, le-ltb _ _ c.before.before.before.if3.false, lt-leb _ _ c.before.before.if4.false, le-ltb _ _ c.before.if5.false, le-leb _ _ c.if6.true)
 
 returns-7 : tie.Need-returns-7
-unfolding digitOf
+unfolding digit_of
 returns-7 c = simp (le-ltb _ _ c.before.before.before.before.before.if1.false, lt-leb _ _ c.before.before.before.before.if2.false, le-ltb _ _ c.before.before.before.if3.false, lt-leb _ _ c.before.before.if4.false, le-ltb _ _ c.before.if5.false, lt-leb _ _ c.if6.false)
 
-pub digit-spec : {M : Type 1} → statement M
-digit-spec =
+pub digit_spec : {M : Type 1} → statement M
+digit_spec =
     tie.close
     (tie.spec
     returns

@@ -16,8 +16,8 @@ returns c =
     (then first.put.ensures
     (then index.put-hex2.ensures (then second.put2.ensures (then value.put-hex3.ensures end.put3.ensures))))
 
-pub put-message-spec : {M : Type 1} → statement M
-put-message-spec =
+pub put_message_spec : {M : Type 1} → statement M
+put_message_spec =
     tie.close
     (tie.spec
     (λ c κs. search rules)

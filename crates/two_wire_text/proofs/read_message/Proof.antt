@@ -15,8 +15,8 @@ returns-2 c =
     let read = told.before.before.before.read.ensures in
     (read.1, simp (← read.0, told.answered.given.1) c.before.before.Put-refused.ensures)
 
-pub read-message-spec : {M : Type 1} → statement M
-read-message-spec =
+pub read_message_spec : {M : Type 1} → statement M
+read_message_spec =
     tie.close
     (tie.spec
     (λ c κs. search rules)

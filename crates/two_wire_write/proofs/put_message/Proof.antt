@@ -7,24 +7,24 @@ use borrow.Author.Rules.{rules}
 use Rattle.two_wire_write.proofs.put_message.Statement.{statement}
 use Rattle.two_wire_write.proofs.put_message.Tie as tie
 
-slice-write-buffer-2 : tie.Need-slice-write-buffer-2
-slice-write-buffer-2 c = simp length-set (omega arith)
+slice_write_buffer_2 : tie.Need-slice-write-buffer-2
+slice_write_buffer_2 c = simp length-set (omega arith)
 
-slice-write-buffer-3 : tie.Need-slice-write-buffer-3
-slice-write-buffer-3 c = simp length-set (omega arith)
+slice_write_buffer_3 : tie.Need-slice-write-buffer-3
+slice_write_buffer_3 c = simp length-set (omega arith)
 
 returns : tie.Need-returns
 returns c = (refl, simp unary_clauses)
 
-pub put-message-spec : {M : Type 1} → statement M
-put-message-spec =
+pub put_message_spec : {M : Type 1} → statement M
+put_message_spec =
     tie.close
     (tie.spec
     (λ c. search rules)
     (λ c. search rules)
-    slice-write-buffer-2
+    slice_write_buffer_2
     (λ c. search rules)
-    slice-write-buffer-3
+    slice_write_buffer_3
     (λ c. search rules)
     (λ c. search rules)
     returns)

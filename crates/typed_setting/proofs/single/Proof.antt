@@ -13,5 +13,5 @@ returns-2 : tie.Need-returns-2
 unfolding single
 returns-2 c = simp (← c.before.value.ensures, le-ltb _ _ c.if1.false)
 
-pub single-spec : {M : Type 1} → statement M
-single-spec = tie.close (tie.spec (λ c κs. search rules) returns (λ c. search rules) returns-2)
+pub single_spec : {M : Type 1} → statement M
+single_spec = tie.close (tie.spec (λ c κs. search rules) returns (λ c. search rules) returns-2)

@@ -9,5 +9,5 @@ returns c = simp c.enum_told.given.1
 returns-2 : tie.Need-returns-2
 returns-2 c = simp c.enum-told2.given.1
 
-pub most-text-spec : {M : Type 1} → statement M
-most-text-spec = tie.close (tie.spec (λ c. search rules) (λ c. search rules) returns returns-2)
+pub most_text_spec : {M : Type 1} → statement M
+most_text_spec = tie.close (tie.spec (λ c. search rules) (λ c. search rules) returns returns-2)

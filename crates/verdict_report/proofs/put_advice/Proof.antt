@@ -16,8 +16,8 @@ returns-3 c = simp c.before.before.before.before.enum-told3.given.1 c.before.bef
 returns-4 : tie.Need-returns-4
 returns-4 c = simp c.before.before.before.before.before.enum-told4.given.1 c.before.before.put2.ensures
 
-pub put-advice-spec : {M : Type 1} → statement M
-put-advice-spec =
+pub put_advice_spec : {M : Type 1} → statement M
+put_advice_spec =
     tie.close
     (tie.spec
     (λ c. search rules)

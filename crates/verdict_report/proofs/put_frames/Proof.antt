@@ -1,12 +1,12 @@
 -- The counts, then the lines outside.
-use Rattle.verdict_report.specs.Report.{framesLines}
+use Rattle.verdict_report.specs.Report.{frames_lines}
 use Rattle.text.specs.PutLaws.{then}
 use borrow.Author.Rules.{rules}
 use Rattle.verdict_report.proofs.put_frames.Statement.{statement}
 use Rattle.verdict_report.proofs.put_frames.Tie as tie
 
 returns : tie.Need-returns
-unfolding framesLines
+unfolding frames_lines
 returns c =
     let later = c.before.before in
     let early = later.before.before.before.before.before.before in
@@ -15,8 +15,8 @@ returns c =
     (then early.put_count.ensures
     later.put-count2.ensures)
 
-pub put-frames-spec : {M : Type 1} → statement M
-put-frames-spec =
+pub put_frames_spec : {M : Type 1} → statement M
+put_frames_spec =
     tie.close
     (tie.spec
     (λ c κs. search rules)

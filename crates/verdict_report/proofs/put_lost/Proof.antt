@@ -12,5 +12,5 @@ returns-2 : tie.Need-returns-2
 returns-2 c =
     simp c.if1.false (puts_none _ _)
 
-pub put-lost-spec : {M : Type 1} → statement M
-put-lost-spec = tie.close (tie.spec (λ c. search rules) (λ c κs. search rules) (λ c. search rules) returns returns-2)
+pub put_lost_spec : {M : Type 1} → statement M
+put_lost_spec = tie.close (tie.spec (λ c. search rules) (λ c κs. search rules) (λ c. search rules) returns returns-2)

@@ -9,8 +9,8 @@ returns c = simp c.before.before.before.before.before.if1.true c.before.before.p
 returns-2 : tie.Need-returns-2
 returns-2 c = simp c.before.before.before.before.before.if1.false c.before.before.put2.ensures
 
-pub put-no-frame-spec : {M : Type 1} → statement M
-put-no-frame-spec =
+pub put_no_frame_spec : {M : Type 1} → statement M
+put_no_frame_spec =
     tie.close
     (tie.spec
     (λ c. search rules)

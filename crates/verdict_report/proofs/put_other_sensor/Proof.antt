@@ -11,8 +11,8 @@ returns-2 : tie.Need-returns-2
 returns-2 c =
     simp c.before.before.before.before.before.enum-told2.given.1 c.before.before.put2.ensures
 
-pub put-other-sensor-spec : {M : Type 1} → statement M
-put-other-sensor-spec =
+pub put_other_sensor_spec : {M : Type 1} → statement M
+put_other_sensor_spec =
     tie.close
     (tie.spec
     (λ c. search rules)

@@ -32,8 +32,8 @@ returns-4 c =
     let advice = told.before.before.before.before in
     then advice.put-advice.ensures (simp told.enum-told4.given.1 line.put4.ensures)
 
-pub put-verdict-spec : {M : Type 1} → statement M
-put-verdict-spec =
+pub put_verdict_spec : {M : Type 1} → statement M
+put_verdict_spec =
     tie.close
     (tie.spec
     (λ c κs. search rules)

@@ -5,30 +5,30 @@ use borrow.Author.Rules.{rules}
 use Rattle.whole_file.proofs.end_part.Statement.{statement}
 use Rattle.whole_file.proofs.end_part.Tie as tie
 
-array-share-prefix-part : tie.Need-array-share-prefix-part
-array-share-prefix-part c = search rules
+array_share_prefix_part : tie.Need-array-share-prefix-part
+array_share_prefix_part c = search rules
 
-slice-aggregate-replace : tie.Need-slice-aggregate-replace
-slice-aggregate-replace c = sym (length-take-le _ _ (array-share-prefix-part c.before))
+slice_aggregate_replace : tie.Need-slice-aggregate-replace
+slice_aggregate_replace c = sym (length-take-le _ _ (array_share_prefix_part c.before))
 
-array-share-prefix-part-2 : tie.Need-array-share-prefix-part-2
-array-share-prefix-part-2 c = search rules
+array_share_prefix_part_2 : tie.Need-array-share-prefix-part-2
+array_share_prefix_part_2 c = search rules
 
-slice-aggregate-unlink : tie.Need-slice-aggregate-unlink
-slice-aggregate-unlink c = sym (length-take-le _ _ (array-share-prefix-part-2 c.before))
+slice_aggregate_unlink : tie.Need-slice-aggregate-unlink
+slice_aggregate_unlink c = sym (length-take-le _ _ (array_share_prefix_part_2 c.before))
 
-pub end-part-spec : {M : Type 1} → statement M
-end-part-spec =
+pub end_part_spec : {M : Type 1} → statement M
+end_part_spec =
     tie.close
     (tie.spec
     (λ c κs. search rules)
     (λ c. search rules)
     (λ c κs. search rules)
-    array-share-prefix-part
-    slice-aggregate-replace
+    array_share_prefix_part
+    slice_aggregate_replace
     (λ c κs. search rules)
     (λ c. search rules)
-    array-share-prefix-part-2
-    slice-aggregate-unlink
+    array_share_prefix_part_2
+    slice_aggregate_unlink
     (λ c κs. search rules)
     (λ c. search rules))

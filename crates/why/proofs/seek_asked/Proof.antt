@@ -5,14 +5,14 @@ use borrow.Author.Rules.{rules}
 use Rattle.why.proofs.seek_asked.Statement.{statement}
 use Rattle.why.proofs.seek_asked.Tie as tie
 
-array-share-prefix-name : tie.Need-array-share-prefix-name
-array-share-prefix-name c = search rules
+array_share_prefix_name : tie.Need-array-share-prefix-name
+array_share_prefix_name c = search rules
 
-slice-aggregate-seek-all : tie.Need-slice-aggregate-seek-all
-slice-aggregate-seek-all c = sym (length-take-le _ _ (array-share-prefix-name c.before))
+slice_aggregate_seek_all : tie.Need-slice-aggregate-seek-all
+slice_aggregate_seek_all c = sym (length-take-le _ _ (array_share_prefix_name c.before))
 
-pub seek-asked-spec : {M : Type 1} → statement M
-seek-asked-spec =
+pub seek_asked_spec : {M : Type 1} → statement M
+seek_asked_spec =
     tie.close
     (tie.spec
     (λ c κs. search rules)
@@ -20,8 +20,8 @@ seek-asked-spec =
     (λ c κs. search rules)
     (λ c. search rules)
     (λ c. search rules)
-    array-share-prefix-name
-    slice-aggregate-seek-all
+    array_share_prefix_name
+    slice_aggregate_seek_all
     (λ c κs. search rules)
     (λ c κs. search rules)
     (λ c. search rules))

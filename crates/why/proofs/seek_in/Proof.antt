@@ -18,8 +18,8 @@ loop-holds c = (search rules, search rules, search rules)
 loop-again : tie.Need-loop-preserved invariant-loop decreases-loop
 loop-again c = (search rules, search rules, search rules)
 
-pub seek-in-spec : {M : Type 1} → statement M
-seek-in-spec =
+pub seek_in_spec : {M : Type 1} → statement M
+seek_in_spec =
     tie.close
     (tie.spec
     invariant-loop

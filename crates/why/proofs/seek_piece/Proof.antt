@@ -13,8 +13,8 @@ invariant-loop wanted buf n from held₀ out₀ finder₀ told₀ piece at₀ us
 abbrev decreases-loop : tie.decreases-loop
 decreases-loop wanted buf n from held₀ out₀ finder₀ told₀ piece at₀ used₀ held out finder told at used = 2 * length piece - at
 
-slice-aggregate-piece : tie.Need-slice-aggregate-piece invariant-loop decreases-loop
-slice-aggregate-piece c = sym (length-take-le _ _ c.before.if1.false)
+slice_aggregate_piece : tie.Need-slice-aggregate-piece invariant-loop decreases-loop
+slice_aggregate_piece c = sym (length-take-le _ _ c.before.if1.false)
 
 loop-holds : tie.Need-loop-init invariant-loop decreases-loop
 loop-holds c = (refl, refl)
@@ -50,15 +50,15 @@ loop-again-3 c =
     let find = c.before.before.before.before.before.before in
     (kept find, find.before.before.before.loop.invariant.1)
 
-pub seek-piece-spec : {M : Type 1} → statement M
-seek-piece-spec =
+pub seek_piece_spec : {M : Type 1} → statement M
+seek_piece_spec =
     tie.close
     (tie.spec
     invariant-loop
     decreases-loop
     (λ c κs. search rules)
     (λ c. search rules)
-    slice-aggregate-piece
+    slice_aggregate_piece
     loop-holds
     (λ c κs. search rules)
     (λ c κs. search rules)

@@ -5,24 +5,24 @@ use borrow.Author.Rules.{rules}
 use Rattle.why.proofs.tell.Statement.{statement}
 use Rattle.why.proofs.tell.Tie as tie
 
-slice-aggregate-put-line : tie.Need-slice-aggregate-put-line
-slice-aggregate-put-line c = sym (length-take-le _ _ c.before.before.before.if1.false)
+slice_aggregate_put_line : tie.Need-slice-aggregate-put-line
+slice_aggregate_put_line c = sym (length-take-le _ _ c.before.before.before.if1.false)
 
-slice-aggregate-put-line-2 : tie.Need-slice-aggregate-put-line-2
-slice-aggregate-put-line-2 c = sym (length-take-le _ _ c.before.before.before.before.before.before.if1.false)
+slice_aggregate_put_line_2 : tie.Need-slice-aggregate-put-line-2
+slice_aggregate_put_line_2 c = sym (length-take-le _ _ c.before.before.before.before.before.before.if1.false)
 
-pub tell-spec : {M : Type 1} → statement M
-tell-spec =
+pub tell_spec : {M : Type 1} → statement M
+tell_spec =
     tie.close
     (tie.spec
     (λ c. search rules)
     (λ c κs. search rules)
-    slice-aggregate-put-line
+    slice_aggregate_put_line
     (λ c κs. search rules)
     (λ c. search rules)
     (λ c. search rules)
     (λ c κs. search rules)
-    slice-aggregate-put-line-2
+    slice_aggregate_put_line_2
     (λ c κs. search rules)
     (λ c. search rules)
     (λ c. search rules)

@@ -5,15 +5,15 @@ use borrow.Author.Rules.{rules}
 use Rattle.why.proofs.write_front.Statement.{statement}
 use Rattle.why.proofs.write_front.Tie as tie
 
-slice-aggregate-write-all : tie.Need-slice-aggregate-write-all
-slice-aggregate-write-all c = sym (length-take-le _ _ c.before.if1.false)
+slice_aggregate_write_all : tie.Need-slice-aggregate-write-all
+slice_aggregate_write_all c = sym (length-take-le _ _ c.before.if1.false)
 
-pub write-front-spec : {M : Type 1} → statement M
-write-front-spec =
+pub write_front_spec : {M : Type 1} → statement M
+write_front_spec =
     tie.close
     (tie.spec
     (λ c. search rules)
-    slice-aggregate-write-all
+    slice_aggregate_write_all
     (λ c κs. search rules)
     (λ c. search rules)
     (λ c κs. search rules)

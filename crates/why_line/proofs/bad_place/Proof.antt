@@ -1,18 +1,18 @@
 -- Each reason has its place; those with a number of their own are held at what is looked at.
 use native.Mathlib.Omega.{arith}
-use Rattle.profile.specs.LayoutLaws.{body-small}
+use Rattle.profile.specs.LayoutLaws.{body_small}
 use borrow.Author.Rules.{rules}
 use Rattle.why_line.proofs.bad_place.Statement.{statement}
 use Rattle.why_line.proofs.bad_place.Tie as tie
 
-mul-result-3 : tie.Need-overflow-mul-result-3
-mul-result-3 c = omega (arith, c.body-length.ensures, body-small c.before.before.before.args.profile)
+mul_result_3 : tie.Need-overflow-mul-result-3
+mul_result_3 c = omega (arith, c.body-length.ensures, body_small c.before.before.before.args.profile)
 
-add-result-4 : tie.Need-overflow-add-result-4
-add-result-4 c = omega (arith, c.body-length.ensures, body-small c.before.before.before.args.profile)
+add_result_4 : tie.Need-overflow-add-result-4
+add_result_4 c = omega (arith, c.body-length.ensures, body_small c.before.before.before.args.profile)
 
-add-result-5 : tie.Need-overflow-add-result-5
-add-result-5 c = omega (arith, c.body-length.ensures, body-small c.before.before.before.args.profile)
+add_result_5 : tie.Need-overflow-add-result-5
+add_result_5 c = omega (arith, c.body-length.ensures, body_small c.before.before.before.args.profile)
 
 returns-6 : tie.Need-returns-6
 returns-6 c =
@@ -32,7 +32,7 @@ returns-8 c =
 returns-9 : tie.Need-returns-9
 returns-9 c =
     let length = c.body-length.ensures in
-    (simp c.before.enum-told6.given.1 (omega (arith, length)), omega (arith, length, body-small c.before.before.before.args.profile))
+    (simp c.before.enum-told6.given.1 (omega (arith, length)), omega (arith, length, body_small c.before.before.before.args.profile))
 
 returns-11 : tie.Need-returns-11
 returns-11 c =
@@ -44,8 +44,8 @@ returns-12 c =
     let why = c.before.before in
     (simp (why.why5.given.1, c.lesser5.ensures), omega (arith, c.lesser5.ensures))
 
-pub bad-place-spec : {M : Type 1} → statement M
-bad-place-spec =
+pub bad_place_spec : {M : Type 1} → statement M
+bad_place_spec =
     tie.close
     (tie.spec
     (λ c. search rules)
@@ -69,9 +69,9 @@ bad-place-spec =
     (λ c. search rules)
     (λ c. search rules)
     (λ c κs. search rules)
-    mul-result-3
-    add-result-4
-    add-result-5
+    mul_result_3
+    add_result_4
+    add_result_5
     (λ c. search rules)
     (λ c. search rules)
     (λ c. search rules)

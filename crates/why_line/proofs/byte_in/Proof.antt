@@ -8,8 +8,8 @@ use Rattle.why_line.proofs.byte_in.Tie as tie
 returns-2 : tie.Need-returns-2
 returns-2 c = sym (get_or-eq_default c.before.args.bytes.now 0 c.if1.false)
 
-pub byte-in-spec : {M : Type 1} → statement M
-byte-in-spec =
+pub byte_in_spec : {M : Type 1} → statement M
+byte_in_spec =
     tie.close
     (tie.spec
     (λ c. search rules)

@@ -13,8 +13,8 @@ returns-2 : tie.Need-returns-2
 unfolding code_in
 returns-2 c = simp c.before.if1.false c.byte-in3.ensures
 
-pub code-in-spec : {M : Type 1} → statement M
-code-in-spec =
+pub code_in_spec : {M : Type 1} → statement M
+code_in_spec =
     tie.close
     (tie.spec
     (λ c κs. search rules)

@@ -1,13 +1,13 @@
 -- By whether there is a bad place, and a byte there.
 use borrow.Author.Tests.{lt-ltb, le-ltb}
 use Rattle.text.specs.PutLaws.{then, puts_none}
-use Rattle.why_line.specs.ReasonText.{aroundWords}
+use Rattle.why_line.specs.ReasonText.{around_words}
 use borrow.Author.Rules.{rules}
 use Rattle.why_line.proofs.put_around.Statement.{statement}
 use Rattle.why_line.proofs.put_around.Tie as tie
 
 returns : tie.Need-returns
-unfolding aroundWords
+unfolding around_words
 returns c =
     let bytes = c.before.before in
     let words = bytes.before.before.before.before in
@@ -16,15 +16,15 @@ returns c =
     (then words.put.ensures bytes.put-bytes-around.ensures)
 
 returns-2 : tie.Need-returns-2
-unfolding aroundWords
+unfolding around_words
 returns-2 c = simp (lt-ltb _ _ c.before.before.if1.true, ← c.before.nibbles-before.ensures.0, le-ltb _ _ c.if2.false) (puts_none _ _)
 
 returns-3 : tie.Need-returns-3
-unfolding aroundWords
+unfolding around_words
 returns-3 c = simp (le-ltb _ _ c.if1.false) (puts_none _ _)
 
-pub put-around-spec : {M : Type 1} → statement M
-put-around-spec =
+pub put_around_spec : {M : Type 1} → statement M
+put_around_spec =
     tie.close
     (tie.spec
     (λ c κs. search rules)

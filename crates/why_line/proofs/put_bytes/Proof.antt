@@ -3,9 +3,9 @@ use Prim.Native.Nat.{◌≤◌, ◌-◌}
 use native.Mathlib.Numerals.{add-one}
 use lib.ListN.{length, take}
 use Rattle.text.specs.Put.{Puts}
-use Rattle.text.specs.PutLaws.{then, puts-length, puts_none}
+use Rattle.text.specs.PutLaws.{then, puts_length, puts_none}
 use Rattle.why_line.specs.ReasonText.{hexes}
-use Rattle.why_line.specs.ReasonTextLaws.{hexes-more, hexes-whole}
+use Rattle.why_line.specs.ReasonTextLaws.{hexes_more, hexes_whole}
 use borrow.Author.Rules.{rules}
 use Rattle.why_line.proofs.put_bytes.Statement.{statement}
 use Rattle.why_line.proofs.put_bytes.Tie as tie
@@ -23,16 +23,16 @@ loop-again : tie.Need-loop-preserved invariant-loop decreases-loop
 loop-again c =
     let byte = c.before.before in
     let test = byte.before.before.before in
-    (search rules, rw (add-one, hexes-more _ _ test.loop-test.true) (then test.before.loop.invariant.1 byte.put-spaced.ensures))
+    (search rules, rw (add-one, hexes_more _ _ test.loop-test.true) (then test.before.loop.invariant.1 byte.put-spaced.ensures))
 
 same_length : tie.Need-same-length invariant-loop decreases-loop
-same_length c = puts-length c.before.loop.invariant.1
+same_length c = puts_length c.before.loop.invariant.1
 
 returns : tie.Need-returns invariant-loop decreases-loop
-returns c = hexes-whole _ _ c.loop-test.false c.before.loop.invariant.1
+returns c = hexes_whole _ _ c.loop-test.false c.before.loop.invariant.1
 
-pub put-bytes-spec : {M : Type 1} → statement M
-put-bytes-spec =
+pub put_bytes_spec : {M : Type 1} → statement M
+put_bytes_spec =
     tie.close
     (tie.spec
     invariant-loop

@@ -1,12 +1,12 @@
 -- The bytes before, those in brackets, and the bytes after, one after another.
 use Rattle.text.specs.PutLaws.{then}
-use Rattle.why_line.specs.ReasonText.{aroundBad}
+use Rattle.why_line.specs.ReasonText.{around_bad}
 use borrow.Author.Rules.{rules}
 use Rattle.why_line.proofs.put_bytes_around.Statement.{statement}
 use Rattle.why_line.proofs.put_bytes_around.Tie as tie
 
 returns : tie.Need-returns
-unfolding aroundBad
+unfolding around_bad
 returns c =
     let after = c.before.before in
     let close = after.before.before.before.before.before in
@@ -20,8 +20,8 @@ returns c =
     (then bytes.put-bytes.ensures
     (then bracket.put.ensures (then byte.put-hex.ensures (then more.put-bytes2.ensures (then close.put2.ensures after.put-bytes3.ensures)))))
 
-pub put-bytes-around-spec : {M : Type 1} → statement M
-put-bytes-around-spec =
+pub put_bytes_around_spec : {M : Type 1} → statement M
+put_bytes_around_spec =
     tie.close
     (tie.spec
     (λ c κs. search rules)

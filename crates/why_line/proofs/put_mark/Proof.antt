@@ -1,12 +1,12 @@
 -- The number and the place, with their words.
 use Rattle.text.specs.PutLaws.{then}
-use Rattle.why_line.specs.ReasonText.{markWords}
+use Rattle.why_line.specs.ReasonText.{mark_words}
 use borrow.Author.Rules.{rules}
 use Rattle.why_line.proofs.put_mark.Statement.{statement}
 use Rattle.why_line.proofs.put_mark.Tie as tie
 
 returns : tie.Need-returns
-unfolding markWords
+unfolding mark_words
 returns c =
     let fifth = c.before.before in
     let fourth = fifth.before.before.before.before.before in
@@ -15,8 +15,8 @@ returns c =
     let first = second.before.before.before.before in
     then first.put.ensures (then second.put-decimal.ensures (then third.put2.ensures (then fourth.put-decimal2.ensures fifth.put3.ensures)))
 
-pub put-mark-spec : {M : Type 1} → statement M
-put-mark-spec =
+pub put_mark_spec : {M : Type 1} → statement M
+put_mark_spec =
     tie.close
     (tie.spec
     (λ c. search rules)

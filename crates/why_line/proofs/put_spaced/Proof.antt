@@ -10,8 +10,8 @@ returns c =
     let first = second.before.before.before.before in
     then first.put.ensures second.put-hex.ensures
 
-pub put-spaced-spec : {M : Type 1} → statement M
-put-spaced-spec =
+pub put_spaced_spec : {M : Type 1} → statement M
+put_spaced_spec =
     tie.close
     (tie.spec
     (λ c. search rules)

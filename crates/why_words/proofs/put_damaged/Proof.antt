@@ -1,12 +1,12 @@
 -- The code, and the sums that fail.
 use Rattle.text.specs.PutLaws.{then}
-use Rattle.why_words.specs.ReasonWords.{damagedWords}
+use Rattle.why_words.specs.ReasonWords.{damaged_words}
 use borrow.Author.Rules.{rules}
 use Rattle.why_words.proofs.put_damaged.Statement.{statement}
 use Rattle.why_words.proofs.put_damaged.Tie as tie
 
 returns : tie.Need-returns
-unfolding damagedWords
+unfolding damaged_words
 returns c =
     let fourth = c.before.before in
     let third = fourth.before.before.before.before in
@@ -14,8 +14,8 @@ returns c =
     let first = second.before.before.before.before in
     then first.put.ensures (then second.put-hex.ensures (then third.put2.ensures fourth.put-sums.ensures))
 
-pub put-damaged-spec : {M : Type 1} → statement M
-put-damaged-spec =
+pub put_damaged_spec : {M : Type 1} → statement M
+put_damaged_spec =
     tie.close
     (tie.spec
     (λ c. search rules)

@@ -16,8 +16,8 @@ unfolding sum_word
 returns-2 c =
     simp c.if1.false (puts_none _ _)
 
-pub put-if-spec : {M : Type 1} → statement M
-put-if-spec =
+pub put_if_spec : {M : Type 1} → statement M
+put_if_spec =
     tie.close
     (tie.spec
     (λ c κs. search rules)

@@ -28,8 +28,8 @@ returns-5 c =
     let told = c.before.before.before.before.before in
     simp told.enum-told5.given.1 c.before.before.put5.ensures
 
-pub put-kind-in-words-spec : {M : Type 1} → statement M
-put-kind-in-words-spec =
+pub put_kind_in_words_spec : {M : Type 1} → statement M
+put_kind_in_words_spec =
     tie.close
     (tie.spec
     (λ c. search rules)

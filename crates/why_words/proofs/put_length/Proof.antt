@@ -1,12 +1,12 @@
 -- The line, then the nibbles found and wanted.
 use Rattle.text.specs.PutLaws.{then}
-use Rattle.why_words.specs.ReasonWords.{lengthWords}
+use Rattle.why_words.specs.ReasonWords.{length_words}
 use borrow.Author.Rules.{rules}
 use Rattle.why_words.proofs.put_length.Statement.{statement}
 use Rattle.why_words.proofs.put_length.Tie as tie
 
 returns : tie.Need-returns
-unfolding lengthWords
+unfolding length_words
 returns c =
     let sixth = c.before.before in
     let fifth = sixth.before.before.before.before.before in
@@ -16,8 +16,8 @@ returns c =
     let first = second.before.before.before.before.before in
     then first.put-line.ensures (then second.put.ensures (then third.put-decimal.ensures (then fourth.put2.ensures (then fifth.put-decimal2.ensures sixth.put3.ensures))))
 
-pub put-length-spec : {M : Type 1} → statement M
-put-length-spec =
+pub put_length_spec : {M : Type 1} → statement M
+put_length_spec =
     tie.close
     (tie.spec
     (λ c. search rules)

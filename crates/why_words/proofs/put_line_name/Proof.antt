@@ -13,8 +13,8 @@ returns-2 c =
     let told = c.before.before.before.before.before in
     simp told.kind.given.1 c.before.before.put-kind-in-words.ensures
 
-pub put-line-name-spec : {M : Type 1} → statement M
-put-line-name-spec =
+pub put_line_name_spec : {M : Type 1} → statement M
+put_line_name_spec =
     tie.close
     (tie.spec
     (λ c. search rules)

@@ -7,13 +7,13 @@ use borrow.Author.Rules.{rules}
 use Rattle.writer.proofs.put_byte.Statement.{statement}
 use Rattle.writer.proofs.put_byte.Tie as tie
 
-slice-write-buffer-2 : tie.Need-slice-write-buffer-2
-slice-write-buffer-2 c = simp length-set (omega arith)
+slice_write_buffer_2 : tie.Need-slice-write-buffer-2
+slice_write_buffer_2 c = simp length-set (omega arith)
 
 returns : tie.Need-returns
 returns c = record { place = refl; kept = simp length-set; stored = rw add-one }
 
-pub put-byte-spec : {M : Type 1} → statement M
-put-byte-spec =
+pub put_byte_spec : {M : Type 1} → statement M
+put_byte_spec =
     tie.close
-    (tie.spec (λ c. search rules) (λ c. search rules) slice-write-buffer-2 (λ c. search rules) (λ c. search rules) returns)
+    (tie.spec (λ c. search rules) (λ c. search rules) slice_write_buffer_2 (λ c. search rules) (λ c. search rules) returns)

@@ -5,7 +5,7 @@ use native.Mathlib.Omega.{arith}
 use borrow.Author.Rules.{rules}
 use lib.ListN.{length, take}
 use Rattle.writer.specs.Parts.{PutNibbles}
-use Rattle.writer.proofs.Putting.{put-none, put_next, put_all}
+use Rattle.writer.proofs.Putting.{put_none, put_next, put_all}
 use Rattle.writer.proofs.put_bytes.Statement.{statement}
 use Rattle.writer.proofs.put_bytes.Tie as tie
 
@@ -16,7 +16,7 @@ abbrev decreases-loop : tie.decreases-loop
 decreases-loop bytes at buffer₀ place₀ i₀ buffer place i = length bytes - i
 
 loop-holds : tie.Need-loop-init invariant-loop decreases-loop
-loop-holds c = (search rules, search rules, put-none _ _)
+loop-holds c = (search rules, search rules, put_none _ _)
 
 loop-again : tie.Need-loop-preserved invariant-loop decreases-loop
 loop-again c =
@@ -26,8 +26,8 @@ loop-again c =
 returns : tie.Need-returns invariant-loop decreases-loop
 returns c = put_all c.before.before.before.before.args.bytes.now c.before.loop.i (omega arith) c.before.loop.invariant.2
 
-pub put-bytes-spec : {M : Type 1} → statement M
-put-bytes-spec =
+pub put_bytes_spec : {M : Type 1} → statement M
+put_bytes_spec =
     tie.close
     (tie.spec
     invariant-loop

@@ -7,5 +7,5 @@ use Rattle.writer.proofs.put_mark.Tie as tie
 returns : tie.Need-returns
 returns c = put_then c.before.before.before.before.before.before.put_two.ensures c.before.before.put-two2.ensures
 
-pub put-mark-spec : {M : Type 1} → statement M
-put-mark-spec = tie.close (tie.spec (λ c κs. search rules) (λ c κs. search rules) (λ c. search rules) returns)
+pub put_mark_spec : {M : Type 1} → statement M
+put_mark_spec = tie.close (tie.spec (λ c κs. search rules) (λ c κs. search rules) (λ c. search rules) returns)

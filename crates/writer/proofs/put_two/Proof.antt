@@ -7,5 +7,5 @@ use Rattle.writer.proofs.put_two.Tie as tie
 returns : tie.Need-returns
 returns c = put_then c.before.before.before.before.before.before.put_byte.ensures c.before.before.put-byte2.ensures
 
-pub put-two-spec : {M : Type 1} → statement M
-put-two-spec = tie.close (tie.spec (λ c κs. search rules) (λ c κs. search rules) (λ c. search rules) returns)
+pub put_two_spec : {M : Type 1} → statement M
+put_two_spec = tie.close (tie.spec (λ c κs. search rules) (λ c κs. search rules) (λ c. search rules) returns)

@@ -9,8 +9,8 @@ invariant-loop buffer count₀ i₀ count i = (i ≤ length buffer) × (count �
 abbrev decreases-loop : tie.decreases-loop
 decreases-loop buffer count₀ i₀ count i = length buffer - i
 
-pub changed-spec : {M : Type 1} → statement M
-changed-spec =
+pub changed_spec : {M : Type 1} → statement M
+changed_spec =
     tie.close
     (tie.spec
     invariant-loop

@@ -9,8 +9,8 @@ invariant-loop one other count₀ i₀ count i = (i ≤ length one) × (count �
 abbrev decreases-loop : tie.decreases-loop
 decreases-loop one other count₀ i₀ count i = length one - i
 
-pub differing-spec : {M : Type 1} → statement M
-differing-spec =
+pub differing_spec : {M : Type 1} → statement M
+differing_spec =
     tie.close
     (tie.spec
     invariant-loop

@@ -3,8 +3,8 @@ use Rattle.std.proofs.Common.{arith, length-take, rules}
 use Rattle.cases.proofs.text.say_front.Statement.{statement}
 use Rattle.cases.proofs.text.say_front.Tie as tie
 
-slice-aggregate-say : tie.Need-slice-aggregate-say
-slice-aggregate-say c = simp length-take (omega arith)
+slice_aggregate_say : tie.Need-slice-aggregate-say
+slice_aggregate_say c = simp length-take (omega arith)
 
-pub say-front-spec : {M : Type 1} → statement M
-say-front-spec = tie.close (tie.spec slice-aggregate-say (λ c κs. search rules) (λ c. search rules) (λ c. search rules))
+pub say_front_spec : {M : Type 1} → statement M
+say_front_spec = tie.close (tie.spec slice_aggregate_say (λ c κs. search rules) (λ c. search rules) (λ c. search rules))

@@ -21,8 +21,8 @@ returns-5 c = simp (c.before.enum-told5.given.1, c.with-output-name4.ensures)
 returns-6 : tie.Need-returns-6
 returns-6 c = simp (c.before.enum-told6.given.1, c.with-output-name5.ensures)
 
-pub after-dash-spec : {M : Type 1} → statement M
-after-dash-spec =
+pub after_dash_spec : {M : Type 1} → statement M
+after_dash_spec =
     tie.close
     (tie.spec
     (λ c. search rules)

@@ -1,21 +1,21 @@
 -- By what the program takes, and whether an output stands already.
 use borrow.Author.Tests.{eq-eqb, ne_eqb}
-use Rattle.command_words.specs.Asked.{outputAsked}
+use Rattle.command_words.specs.Asked.{output_asked}
 use borrow.Author.Rules.{rules}
 use Rattle.command_words.proofs.Asked.with_output.Statement.{statement}
 use Rattle.command_words.proofs.Asked.with_output.Tie as tie
 
 returns : tie.Need-returns
-unfolding outputAsked
+unfolding output_asked
 returns c = simp (c.before.before.if1.true, eq-eqb _ _ c.if2.true)
 
 returns-2 : tie.Need-returns-2
-unfolding outputAsked
+unfolding output_asked
 returns-2 c = simp (c.before.before.before.if1.true, ne_eqb _ _ c.before.if2.false, c.not-understood.ensures)
 
 returns-3 : tie.Need-returns-3
-unfolding outputAsked
+unfolding output_asked
 returns-3 c = simp (c.before.if1.false, c.not-understood2.ensures)
 
-pub with-output-spec : {M : Type 1} → statement M
-with-output-spec = tie.close (tie.spec returns (λ c κs. search rules) returns-2 (λ c κs. search rules) returns-3)
+pub with_output_spec : {M : Type 1} → statement M
+with_output_spec = tie.close (tie.spec returns (λ c κs. search rules) returns-2 (λ c κs. search rules) returns-3)

@@ -10,5 +10,5 @@ returns c = simp (eq-eqb _ _ c.if1.true)
 returns-2 : tie.Need-returns-2
 returns-2 c = simp (ne_eqb _ _ c.before.if1.false) c.count.ensures
 
-pub with-place-spec : {M : Type 1} → statement M
-with-place-spec = tie.close (tie.spec returns (λ c κs. search rules) returns-2)
+pub with_place_spec : {M : Type 1} → statement M
+with_place_spec = tie.close (tie.spec returns (λ c κs. search rules) returns-2)

@@ -1,11 +1,11 @@
 -- The tally's answer, and each part by its own rule.
-use Rattle.findings.specs.Findings.{closeOf}
+use Rattle.findings.specs.Findings.{close_of}
 use borrow.Author.Rules.{rules}
 use Rattle.findings.proofs.Findings.close.Statement.{statement}
 use Rattle.findings.proofs.Findings.close.Tie as tie
 
 returns : tie.Need-returns
-unfolding closeOf
+unfolding close_of
 returns c = simp (← c.before.before.before.before.before.close.ensures, c.before.before.close2.ensures, c.with-cut.ensures)
 
 pub close_spec : {M : Type 1} → statement M

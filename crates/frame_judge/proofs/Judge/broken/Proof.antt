@@ -9,5 +9,5 @@ returns c = simp c.enum_told.given.1
 returns-2 : tie.Need-returns-2
 returns-2 c = simp (c.before.enum-told2.given.1, c.refused.ensures)
 
-pub broken-spec : {M : Type 1} → statement M
-broken-spec = tie.close (tie.spec (λ c. search rules) (λ c. search rules) (λ c κs. search rules) returns returns-2)
+pub broken_spec : {M : Type 1} → statement M
+broken_spec = tie.close (tie.spec (λ c. search rules) (λ c. search rules) (λ c κs. search rules) returns returns-2)

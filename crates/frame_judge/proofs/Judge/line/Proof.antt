@@ -1,17 +1,17 @@
 -- The tests come in the paper's order: 11, 13, a broken line, 14; where one refuses the judge is handed back as it was.
 use borrow.Author.Tests.{eq-eqb, ne_eqb, le-leb, lt-leb}
-use Rattle.frame_judge.specs.Frame.{judgeOf}
-use Rattle.frame_judge.specs.RulingLaws.{gives-judged}
+use Rattle.frame_judge.specs.Frame.{judge_of}
+use Rattle.frame_judge.specs.RulingLaws.{gives_judged}
 use borrow.Author.Rules.{rules}
 use Rattle.frame_judge.proofs.Judge.line.Statement.{statement}
 use Rattle.frame_judge.proofs.Judge.line.Tie as tie
 
 returns : tie.Need-returns
-unfolding judgeOf
+unfolding judge_of
 returns c =
     let kind = c.before in
     let state = kind.before.before in
-    gives-judged _ _
+    gives_judged _ _
     (simp (
       ← state.before.passes.ensures,
       state.if1.true,
@@ -21,11 +21,11 @@ returns c =
     ))
 
 returns-2 : tie.Need-returns-2
-unfolding judgeOf
+unfolding judge_of
 returns-2 c =
     let kind = c.before.before in
     let state = kind.before.before in
-    gives-judged _ _
+    gives_judged _ _
     (simp (
       ← state.before.passes.ensures,
       state.if1.true,
@@ -36,11 +36,11 @@ returns-2 c =
     ))
 
 returns-3 : tie.Need-returns-3
-unfolding judgeOf
+unfolding judge_of
 returns-3 c =
     let kind = c.before.before.before in
     let state = kind.before.before in
-    gives-judged _ _
+    gives_judged _ _
     (simp (
       ← state.before.passes.ensures,
       state.if1.true,
@@ -52,11 +52,11 @@ returns-3 c =
     ))
 
 returns-4 : tie.Need-returns-4
-unfolding judgeOf
+unfolding judge_of
 returns-4 c =
     let kind = c.before.before.before in
     let state = kind.before.before in
-    gives-judged _ _
+    gives_judged _ _
     (simp (
       ← state.before.passes.ensures,
       state.if1.true,
@@ -68,11 +68,11 @@ returns-4 c =
     ))
 
 returns-5 : tie.Need-returns-5
-unfolding judgeOf
-returns-5 c = gives-judged _ _ (simp (← c.before.before.passes.ensures, c.before.if1.false, c.refused3.ensures))
+unfolding judge_of
+returns-5 c = gives_judged _ _ (simp (← c.before.before.passes.ensures, c.before.if1.false, c.refused3.ensures))
 
-pub line-spec : {M : Type 1} → statement M
-line-spec =
+pub line_spec : {M : Type 1} → statement M
+line_spec =
     tie.close
     (tie.spec
     (λ c κs. search rules)

@@ -12,8 +12,8 @@ returns-2 c = simp (c.before.enum_told.given.1, c.first.ensures)
 returns-3 : tie.Need-returns-3
 returns-3 c = simp (c.before.before.before.before.self.given.1, ← c.before.before.line-due.ensures, c.before.if1.false, c.astray.ensures)
 
-pub whole-spec : {M : Type 1} → statement M
-whole-spec =
+pub whole_spec : {M : Type 1} → statement M
+whole_spec =
     tie.close
     (tie.spec
     (λ c. search rules)

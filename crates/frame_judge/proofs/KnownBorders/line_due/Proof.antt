@@ -12,8 +12,8 @@ returns-2 c = simp (c.before.before.before.enum_told.given.1, ← c.before.befor
 returns-3 : tie.Need-returns-3
 returns-3 c = simp (c.before.before.self.given.1, c.due-at3.ensures)
 
-pub line-due-spec : {M : Type 1} → statement M
-line-due-spec =
+pub line_due_spec : {M : Type 1} → statement M
+line_due_spec =
     tie.close
     (tie.spec
     (λ c. search rules)

@@ -20,8 +20,8 @@ returns-3 c =
 returns-4 : tie.Need-returns-4
 returns-4 c = simp c.enum-told2.given.1
 
-pub settled-by-spec : {M : Type 1} → statement M
-settled-by-spec =
+pub settled_by_spec : {M : Type 1} → statement M
+settled_by_spec =
     tie.close
     (tie.spec
     (λ c. search rules)

@@ -9,5 +9,5 @@ returns c = simp (← c.before.before.stands_at.ensures, c.before.if1.true, c.nu
 returns-2 : tie.Need-returns-2
 returns-2 c = simp (← c.before.stands_at.ensures, c.if1.false)
 
-pub due-at-spec : {M : Type 1} → statement M
-due-at-spec = tie.close (tie.spec (λ c κs. search rules) (λ c κs. search rules) returns returns-2)
+pub due_at_spec : {M : Type 1} → statement M
+due_at_spec = tie.close (tie.spec (λ c κs. search rules) (λ c κs. search rules) returns returns-2)

@@ -6,5 +6,5 @@ use Rattle.frame_layout.proofs.Borders.end_place.Tie as tie
 returns : tie.Need-returns
 returns c = simp c.layout.ensures
 
-pub end-place-spec : {M : Type 1} → statement M
-end-place-spec = tie.close (tie.spec (λ c κs. search rules) returns)
+pub end_place_spec : {M : Type 1} → statement M
+end_place_spec = tie.close (tie.spec (λ c κs. search rules) returns)

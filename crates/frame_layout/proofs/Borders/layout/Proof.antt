@@ -9,5 +9,5 @@ returns c = simp (c.before.enum_told.given.1, c.borders-on.ensures)
 returns-2 : tie.Need-returns-2
 returns-2 c = simp (c.before.enum-told2.given.1, c.borders-off.ensures)
 
-pub layout-spec : {M : Type 1} → statement M
-layout-spec = tie.close (tie.spec (λ c. search rules) (λ c κs. search rules) (λ c. search rules) (λ c κs. search rules) returns returns-2)
+pub layout_spec : {M : Type 1} → statement M
+layout_spec = tie.close (tie.spec (λ c. search rules) (λ c κs. search rules) (λ c. search rules) (λ c κs. search rules) returns returns-2)

@@ -10,5 +10,5 @@ returns c = simp (eq-eqb _ _ c.if1.true)
 returns-2 : tie.Need-returns-2
 returns-2 c = simp (ne_eqb _ _ c.before.before.if1.false, c.before.layout.ensures)
 
-pub number-due-spec : {M : Type 1} → statement M
-number-due-spec = tie.close (tie.spec returns (λ c κs. search rules) returns-2)
+pub number_due_spec : {M : Type 1} → statement M
+number_due_spec = tie.close (tie.spec returns (λ c κs. search rules) returns-2)

@@ -6,5 +6,5 @@ use Rattle.frame_layout.proofs.Borders.stands_at.Tie as tie
 returns : tie.Need-returns
 returns c = simp (c.number.ensures, c.before.kind-at-place.ensures)
 
-pub stands-at-spec : {M : Type 1} → statement M
-stands-at-spec = tie.close (tie.spec (λ c κs. search rules) (λ c κs. search rules) returns)
+pub stands_at_spec : {M : Type 1} → statement M
+stands_at_spec = tie.close (tie.spec (λ c κs. search rules) (λ c κs. search rules) returns)

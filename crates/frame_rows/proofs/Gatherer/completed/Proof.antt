@@ -22,8 +22,8 @@ returns-2 c =
     let row = c.before.before.before.before.keep.ensures in
     gives _ _ _ _ _ c.refused.ensures (simp (← row.fitting, row.leaves, c.before.if1.false))
 
-pub completed-spec : {M : Type 1} → statement M
-completed-spec =
+pub completed_spec : {M : Type 1} → statement M
+completed_spec =
     tie.close
     (tie.spec
     (λ c κs. search rules)

@@ -6,5 +6,5 @@ use Rattle.frame_tally.proofs.Tally.broken_by.Tie as tie
 returns : tie.Need-returns
 returns c = simp (c.opening.ensures, c.before.one_more.ensures)
 
-pub broken-by-spec : {M : Type 1} → statement M
-broken-by-spec = tie.close (tie.spec (λ c κs. search rules) (λ c κs. search rules) returns)
+pub broken_by_spec : {M : Type 1} → statement M
+broken_by_spec = tie.close (tie.spec (λ c κs. search rules) (λ c κs. search rules) returns)

@@ -6,5 +6,5 @@ use Rattle.frame_tally.proofs.Tally.completed.Tie as tie
 returns : tie.Need-returns
 returns c = simp (c.borders.ensures, c.before.one_more.ensures)
 
-pub completed-spec : {M : Type 1} → statement M
-completed-spec = tie.close (tie.spec (λ c κs. search rules) (λ c κs. search rules) returns)
+pub completed_spec : {M : Type 1} → statement M
+completed_spec = tie.close (tie.spec (λ c κs. search rules) (λ c κs. search rules) returns)

@@ -6,5 +6,5 @@ use Rattle.frame_tally.proofs.Tally.marked.Tie as tie
 returns : tie.Need-returns
 returns c = simp c.one_more.ensures
 
-pub marked-spec : {M : Type 1} → statement M
-marked-spec = tie.close (tie.spec (λ c κs. search rules) returns)
+pub marked_spec : {M : Type 1} → statement M
+marked_spec = tie.close (tie.spec (λ c κs. search rules) returns)

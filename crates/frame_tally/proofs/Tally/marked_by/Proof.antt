@@ -12,8 +12,8 @@ returns-3 c = simp (c.before.enum-told3.given.1, c.marked2.ensures)
 returns-4 : tie.Need-returns-4
 returns-4 c = simp (c.before.enum-told4.given.1, c.marked3.ensures)
 
-pub marked-by-spec : {M : Type 1} → statement M
-marked-by-spec =
+pub marked_by_spec : {M : Type 1} → statement M
+marked_by_spec =
     tie.close
     (tie.spec
     (λ c. search rules)

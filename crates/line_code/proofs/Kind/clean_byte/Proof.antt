@@ -1,31 +1,31 @@
 -- For each of the five kinds the byte named is the one whose parity bits make the four sums even: computed, kind by kind.
-use Rattle.line_code.specs.LineCode.{cleanByte}
+use Rattle.line_code.specs.LineCode.{clean_byte}
 use borrow.Author.Rules.{rules}
 use Rattle.line_code.proofs.Kind.clean_byte.Statement.{statement}
 use Rattle.line_code.proofs.Kind.clean_byte.Tie as tie
 
 returns : tie.Need-returns
-unfolding cleanByte
+unfolding clean_byte
 returns c = simp c.enum_told.given.1
 
 returns-2 : tie.Need-returns-2
-unfolding cleanByte
+unfolding clean_byte
 returns-2 c = simp c.enum-told2.given.1
 
 returns-3 : tie.Need-returns-3
-unfolding cleanByte
+unfolding clean_byte
 returns-3 c = simp c.enum-told3.given.1
 
 returns-4 : tie.Need-returns-4
-unfolding cleanByte
+unfolding clean_byte
 returns-4 c = simp c.enum-told4.given.1
 
 returns-5 : tie.Need-returns-5
-unfolding cleanByte
+unfolding clean_byte
 returns-5 c = simp c.enum-told5.given.1
 
-pub clean-byte-spec : {M : Type 1} → statement M
-clean-byte-spec =
+pub clean_byte_spec : {M : Type 1} → statement M
+clean_byte_spec =
     tie.close
     (tie.spec
     (λ c. search rules)

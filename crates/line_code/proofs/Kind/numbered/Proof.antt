@@ -1,32 +1,32 @@
 -- One test for each number from 1 to 5 gives its kind; a number that fails all five has none.
 use borrow.Author.Tests.{eq-eqb, ne_eqb}
-use Rattle.line_code.specs.LineCode.{kindNumbered}
+use Rattle.line_code.specs.LineCode.{kind_numbered}
 use Rattle.line_code.proofs.Kind.numbered.Statement.{statement}
 use Rattle.line_code.proofs.Kind.numbered.Tie as tie
 
 returns : tie.Need-returns
-unfolding kindNumbered
+unfolding kind_numbered
 returns c = simp (eq-eqb _ _ c.if1.true)
 
 returns-2 : tie.Need-returns-2
-unfolding kindNumbered
+unfolding kind_numbered
 returns-2 c = simp (ne_eqb _ _ c.before.if1.false, eq-eqb _ _ c.if2.true)
 
 returns-3 : tie.Need-returns-3
-unfolding kindNumbered
+unfolding kind_numbered
 returns-3 c = simp (ne_eqb _ _ c.before.before.if1.false, ne_eqb _ _ c.before.if2.false, eq-eqb _ _ c.if3.true)
 
 returns-4 : tie.Need-returns-4
-unfolding kindNumbered
+unfolding kind_numbered
 returns-4 c = simp (ne_eqb _ _ c.before.before.before.if1.false, ne_eqb _ _ c.before.before.if2.false, ne_eqb _ _ c.before.if3.false, eq-eqb _ _ c.if4.true)
 
 returns-5 : tie.Need-returns-5
-unfolding kindNumbered
+unfolding kind_numbered
 returns-5 c = simp (ne_eqb _ _ c.before.before.before.before.if1.false, ne_eqb _ _ c.before.before.before.if2.false, ne_eqb _ _ c.before.before.if3.false, ne_eqb _ _ c.before.if4.false, eq-eqb _ _ c.if5.true)
 
 returns-6 : tie.Need-returns-6
-unfolding kindNumbered
+unfolding kind_numbered
 returns-6 c = simp (ne_eqb _ _ c.if5.false, ne_eqb _ _ c.before.if4.false, ne_eqb _ _ c.before.before.if3.false, ne_eqb _ _ c.before.before.before.if2.false, ne_eqb _ _ c.before.before.before.before.if1.false)
 
-pub numbered-spec : {M : Type 1} → statement M
-numbered-spec = tie.close (tie.spec returns returns-2 returns-3 returns-4 returns-5 returns-6)
+pub numbered_spec : {M : Type 1} → statement M
+numbered_spec = tie.close (tie.spec returns returns-2 returns-3 returns-4 returns-5 returns-6)

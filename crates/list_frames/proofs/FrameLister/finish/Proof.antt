@@ -2,19 +2,19 @@
 use mathlib.Core.Path.{refl}
 use native.Mathlib.Omega.{arith}
 use borrow.Author.Tests.{lt-ltb, le-ltb}
-use Rattle.text.specs.PutLaws.{joined, on-front, put-length}
-use Rattle.list_frames.specs.FrameLister.{finishedOf}
-use Rattle.list_news.specs.NewsLinesLaws.{news-short}
+use Rattle.text.specs.PutLaws.{joined, on_front_lem, put_length}
+use Rattle.list_frames.specs.FrameLister.{finished_of}
+use Rattle.list_news.specs.NewsLinesLaws.{news_short}
 use borrow.Author.Rules.{rules}
 use Rattle.list_frames.proofs.FrameLister.finish.Statement.{statement}
 use Rattle.list_frames.proofs.FrameLister.finish.Tie as tie
 
 returns : tie.Need-returns
-unfolding finishedOf
+unfolding finished_of
 returns c = simp (lt-ltb _ _ c.if1.true) (record { next = refl; leaves = refl })
 
-put-findings-requires : tie.Need-put-findings-requires
-put-findings-requires c κs =
+put_findings_requires : tie.Need-put-findings-requires
+put_findings_requires c κs =
     let text = c.before.before.before.before in
     let close = text.before.before in
     let finish = close.before.before in
@@ -23,12 +23,12 @@ put-findings-requires c κs =
       arith,
       test.if1.false,
       text.put-news.ensures.place,
-      put-length text.put-news.ensures,
-      news-short close.close.result.news,
+      put_length text.put-news.ensures,
+      news_short close.close.result.news,
     )
 
 returns-2 : tie.Need-returns-2
-unfolding finishedOf
+unfolding finished_of
 returns-2 c =
     let report = c.before.before.before.before in
     let text = report.before.before.before.before.before in
@@ -36,7 +36,7 @@ returns-2 c =
     let finish = close.before.before in
     let lost = finish.before in
     let test = lost.before.before.before in
-    let p = on-front (joined text.put-news.ensures report.put-findings.ensures) in
+    let p = on_front_lem (joined text.put-news.ensures report.put-findings.ensures) in
     simp (le-ltb _ _ test.if1.false, ← lost.is_lost.ensures, ← finish.finish.ensures.next, ← finish.finish.ensures.says, ← close.close.ensures, c.new.ensures)
     (record { next = simp p.count; leaves = p.leaves })
 
@@ -49,7 +49,7 @@ finish_spec =
     (λ c κs. search rules)
     (λ c κs. search rules)
     (λ c κs. search rules)
-    put-findings-requires
+    put_findings_requires
     (λ c κs. search rules)
     (λ c. search rules)
     returns-2)

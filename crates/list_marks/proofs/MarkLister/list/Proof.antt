@@ -6,15 +6,15 @@ use lib.ListN.{length}
 use borrow.Author.Rules.{rules}
 use Rattle.profile.specs.Profile.{longest}
 use Rattle.reader_laws.specs.Passes.{passed}
-use Rattle.text.specs.PutLaws.{put-length, put-within}
-use Rattle.lister_laws.specs.RunLaws.{Along, along-start, taken-fits, left_less, text-fits}
-use Rattle.list_marks.proofs.Runs.{lister, by-reader, marks-next, marks-end, nothing-listed}
+use Rattle.text.specs.PutLaws.{put_length, put_within}
+use Rattle.lister_laws.specs.RunLaws.{Along, along_start, taken_fits, left_less, text_fits}
+use Rattle.list_marks.proofs.Runs.{lister, by_reader, marks_next, marks_end, nothing_listed}
 use Rattle.list_marks.proofs.MarkLister.list.Statement.{statement}
 use Rattle.list_marks.proofs.MarkLister.list.Tie as tie
 
 abbrev invariant-loop : tie.invariant-loop
 invariant-loop input from out₀ head₀ body₀ line₀ marks₀ used₀ at₀ out head body line marks used at =
-    Along by-reader (lister head₀ body₀ marks₀) input out₀ from at (lister head body marks) used out × (length body ≡ longest) × (length line ≡ longest)
+    Along by_reader (lister head₀ body₀ marks₀) input out₀ from at (lister head body marks) used out × (length body ≡ longest) × (length line ≡ longest)
 
 abbrev decreases-loop : tie.decreases-loop
 decreases-loop input from out₀ head₀ body₀ line₀ marks₀ used₀ at₀ out head body line marks used at = 2 * length input - at
@@ -22,10 +22,10 @@ decreases-loop input from out₀ head₀ body₀ line₀ marks₀ used₀ at₀ 
 loop-holds : tie.Need-loop-init invariant-loop decreases-loop
 loop-holds c =
     let e = c.before.before.is-sound.ensures in
-    (along-start by-reader _ _ _ _ (record { byte = e.1; test = passed _ (sym e.0 ∙ c.before.if1.true) }), search rules, search rules)
+    (along_start by_reader _ _ _ _ (record { byte = e.1; test = passed _ (sym e.0 ∙ c.before.if1.true) }), search rules, search rules)
 
-sub-goes-on : tie.Need-overflow-sub-goes-on invariant-loop decreases-loop
-sub-goes-on c = put-within c.loop.invariant.0.text-put
+sub_goes_on : tie.Need-overflow-sub-goes-on invariant-loop decreases-loop
+sub_goes_on c = put_within c.loop.invariant.0.text_put
 
 add_at : tie.Need-overflow-add-at invariant-loop decreases-loop
 add_at c =
@@ -34,16 +34,16 @@ add_at c =
     let turn = test.before.before in
     let start = turn.before.before.before.before.before.before.before in
     let more = sym test.before.goes_on.ensures ∙ test.if2.true in
-    omega (arith, taken-fits turn.loop.invariant.0 (λ i. (start.shared-slice-known.given i).fits) more turn.loop.invariant.1 turn.loop.invariant.2 run.run.ensures, start.before.well-formed.1.0.1)
+    omega (arith, taken_fits turn.loop.invariant.0 (λ i. (start.shared-slice-known.given i).fits) more turn.loop.invariant.1 turn.loop.invariant.2 run.run.ensures, start.before.well-formed.1.0.1)
 
-put-row-requires : tie.Need-put-row-requires invariant-loop decreases-loop
-put-row-requires c κs =
+put_row_requires : tie.Need-put-row-requires invariant-loop decreases-loop
+put_row_requires c κs =
     let run = c.before.before.before.before.before.before in
     let test = run.before.before.before in
     let turn = test.before.before in
     let start = turn.before.before.before.before.before.before.before in
     let more = sym test.before.goes_on.ensures ∙ test.if2.true in
-    text-fits turn.loop.invariant.0 (λ i. (start.shared-slice-known.given i).fits) more turn.loop.invariant.1 turn.loop.invariant.2 run.run.ensures
+    text_fits turn.loop.invariant.0 (λ i. (start.shared-slice-known.given i).fits) more turn.loop.invariant.1 turn.loop.invariant.2 run.run.ensures
 
 loop-less : tie.Need-loop-smaller invariant-loop decreases-loop
 loop-less c =
@@ -61,46 +61,46 @@ loop-again c =
     let turn = test.before.before in
     let start = turn.before.before.before.before.before.before.before in
     let more = sym test.before.goes_on.ensures ∙ test.if2.true in (
-      marks-next turn.loop.invariant.0 (λ i. (start.shared-slice-known.given i).fits) more turn.loop.invariant.1 turn.loop.invariant.2 run.run.ensures
+      marks_next turn.loop.invariant.0 (λ i. (start.shared-slice-known.given i).fits) more turn.loop.invariant.1 turn.loop.invariant.2 run.run.ensures
           c.before.before.before.before.with-mark.ensures c.before.before.put-row.ensures,
       search (rules, run.run.auto.1.0, turn.loop.invariant.1),
       search (rules, run.run.auto.1.1.1.1.0, turn.loop.invariant.2),
     )
 
-sub-t28 : tie.Need-overflow-sub-t28 invariant-loop decreases-loop
-sub-t28 c = c.before.before.loop.invariant.0.forward
+sub_t28 : tie.Need-overflow-sub-t28 invariant-loop decreases-loop
+sub_t28 c = c.before.before.loop.invariant.0.forward
 
 same_length : tie.Need-same-length invariant-loop decreases-loop
-same_length c = put-length c.before.before.loop.invariant.0.text-put
+same_length c = put_length c.before.before.loop.invariant.0.text_put
 
 returns : tie.Need-returns invariant-loop decreases-loop
 returns c =
     let turn = c.before.before in
     let test = turn.before.before in
-    marks-end turn.loop.invariant.0 (sym test.before.is-sound.ensures.0 ∙ test.if1.true) (sym c.before.goes_on.ensures ∙ c.if2.false)
+    marks_end turn.loop.invariant.0 (sym test.before.is-sound.ensures.0 ∙ test.if1.true) (sym c.before.goes_on.ensures ∙ c.if2.false)
 
 returns-2 : tie.Need-returns-2 invariant-loop decreases-loop
-returns-2 c = nothing-listed _ _ _ (sym c.before.is-sound.ensures.0 ∙ c.if1.false)
+returns-2 c = nothing_listed _ _ _ (sym c.before.is-sound.ensures.0 ∙ c.if1.false)
 
-pub list-spec : {M : Type 1} → statement M
-list-spec =
+pub list_spec : {M : Type 1} → statement M
+list_spec =
     tie.close
     (tie.spec
     invariant-loop
     decreases-loop
     (λ c κs. search rules)
     loop-holds
-    sub-goes-on
+    sub_goes_on
     (λ c κs. search rules)
     (λ c. search rules)
     (λ c. search rules)
     (λ c κs. search rules)
     add_at
     (λ c κs. search rules)
-    put-row-requires
+    put_row_requires
     loop-less
     loop-again
-    sub-t28
+    sub_t28
     same_length
     returns
     returns-2)

@@ -1,22 +1,22 @@
 -- With room for a row, the last mark's row stands at the buffer's front.
 use mathlib.Core.Path.{refl}
 use borrow.Author.Tests.{lt-ltb, le-ltb}
-use Rattle.text.specs.PutLaws.{on-front}
-use Rattle.list_means.specs.MeanLister.{finishedOf}
+use Rattle.text.specs.PutLaws.{on_front_lem}
+use Rattle.list_means.specs.MeanLister.{finished_of}
 use borrow.Author.Rules.{rules}
 use Rattle.list_means.proofs.MeanLister.finish.Statement.{statement}
 use Rattle.list_means.proofs.MeanLister.finish.Tie as tie
 
 returns : tie.Need-returns
-unfolding finishedOf
+unfolding finished_of
 returns c = simp (lt-ltb _ _ c.if1.true) (record { next = refl; leaves = refl })
 
 returns-2 : tie.Need-returns-2
-unfolding finishedOf
+unfolding finished_of
 returns-2 c =
     let text = c.before.before.before in
     let finish = text.before.before.before.before in
-    let p = on-front text.put-text.ensures in
+    let p = on_front_lem text.put-text.ensures in
     simp (le-ltb _ _ finish.before.before.if1.false, ← finish.finish.ensures.next, ← finish.finish.ensures.says)
     (record { next = simp p.count; leaves = p.leaves })
 

@@ -8,6 +8,6 @@ returns : tie.Need-returns
 unfolding kept_at
 returns c = simp (c.stray-at.ensures, c.before.byte-at2.ensures, c.before.before.byte_at.ensures, c.before.before.before.low-four.ensures.0)
 
-pub commit-spec : {M : Type 1} → statement M
-commit-spec =
+pub commit_spec : {M : Type 1} → statement M
+commit_spec =
     tie.close (tie.spec (λ c κs. search rules) (λ c κs. search rules) (λ c κs. search rules) (λ c κs. search rules) returns)

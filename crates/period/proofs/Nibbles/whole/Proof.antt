@@ -12,5 +12,5 @@ returns-2 : tie.Need-returns-2
 unfolding whole_of
 returns-2 c = simp (ne_eqb _ _ c.if1.false)
 
-pub whole-spec : {M : Type 1} → statement M
-whole-spec = tie.close (tie.spec returns returns-2)
+pub whole_spec : {M : Type 1} → statement M
+whole_spec = tie.close (tie.spec returns returns-2)

@@ -1,20 +1,20 @@
 -- 0 and 1 have a profile, and no other number: one test for each.
 use borrow.Author.Tests.{eq-eqb, ne_eqb}
-use Rattle.profile.specs.Profile.{profileNumbered}
+use Rattle.profile.specs.Profile.{profile_numbered}
 use Rattle.profile.proofs.Profile.numbered.Statement.{statement}
 use Rattle.profile.proofs.Profile.numbered.Tie as tie
 
 returns : tie.Need-returns
-unfolding profileNumbered
+unfolding profile_numbered
 returns c = simp (eq-eqb _ _ c.if1.true)
 
 returns-2 : tie.Need-returns-2
-unfolding profileNumbered
+unfolding profile_numbered
 returns-2 c = simp (ne_eqb _ _ c.before.if1.false, eq-eqb _ _ c.if2.true)
 
 returns-3 : tie.Need-returns-3
-unfolding profileNumbered
+unfolding profile_numbered
 returns-3 c = simp (ne_eqb _ _ c.before.if1.false, ne_eqb _ _ c.if2.false)
 
-pub numbered-spec : {M : Type 1} → statement M
-numbered-spec = tie.close (tie.spec returns returns-2 returns-3)
+pub numbered_spec : {M : Type 1} → statement M
+numbered_spec = tie.close (tie.spec returns returns-2 returns-3)

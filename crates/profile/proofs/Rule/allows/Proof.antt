@@ -14,7 +14,7 @@ returns-2 c = simp (c.before.enum-told2.given.1, c.is-pixel.ensures)
 returns-3 : tie.Need-returns-3
 returns-3 c = simp (c.enum-told3.given.1, le-leb c.before.before.args.byte 255 (omega arith))
 
-pub allows-spec : {M : Type 1} → statement M
-allows-spec =
+pub allows_spec : {M : Type 1} → statement M
+allows_spec =
     tie.close
     (tie.spec (λ c. search rules) (λ c. search rules) (λ c κs. search rules) (λ c. search rules) returns returns-2 returns-3)

@@ -1,11 +1,11 @@
 -- Where the test passes the window is emptied and the mark answered with what is then kept; else 11, and nothing moves.
-use Rattle.reader.specs.Reader.{finishOf}
+use Rattle.reader.specs.Reader.{finish_of}
 use borrow.Author.Rules.{rules}
 use Rattle.reader.proofs.Reader.finish.Statement.{statement}
 use Rattle.reader.proofs.Reader.finish.Tie as tie
 
 returns : tie.Need-returns
-unfolding finishOf
+unfolding finish_of
 returns c =
     let v = c.before.before.before.before.before.passes.ensures in
     let t = c.before.before.before.before.if1.true in
@@ -15,7 +15,7 @@ returns c =
     }
 
 returns-2 : tie.Need-returns-2
-unfolding finishOf
+unfolding finish_of
 returns-2 c =
     record { next = simp (← c.before.passes.ensures, c.if1.false); says = simp (← c.before.passes.ensures, c.if1.false) }
 

@@ -6,8 +6,8 @@ use Rattle.reader_table.proofs.ReaderTable.empty.Tie as tie
 returns : tie.Need-returns
 returns c = simp c.free.ensures
 
-pub empty-spec : {M : Type 1} → statement M
-empty-spec =
+pub empty_spec : {M : Type 1} → statement M
+empty_spec =
     tie.close
     (tie.spec
     (λ c κs. search rules)

@@ -1,8 +1,8 @@
 -- Where nothing is refused the reader of the place takes the nibble and goes back there; else the refusal, and nothing moves.
-use Rattle.stream.specs.AnswersLaws.{answer-of}
+use Rattle.stream.specs.AnswersLaws.{answer_of}
 use Rattle.recovery.specs.Calls.{feed}
 use Rattle.refinement.specs.Runs.{one}
-use Rattle.reader_table.proofs.Asked.{call-granted, call-denied}
+use Rattle.reader_table.proofs.Asked.{call_granted, call_denied}
 use borrow.Author.Rules.{rules}
 use Rattle.reader_table.proofs.ReaderTable.feed.Statement.{statement}
 use Rattle.reader_table.proofs.ReaderTable.feed.Tie as tie
@@ -13,21 +13,21 @@ returns c =
     let asked = fed.before.before.before in
     let read = asked.before.before.place_at.ensures in
     let a = asked.before.before.before.before.args in
-    let q = call-granted a.self a.technician a.place read asked.before.denial.ensures (one (feed a.nibble a.buffer.now)) asked.if1.true in
+    let q = call_granted a.self a.technician a.place read asked.before.denial.ensures (one (feed a.nibble a.buffer.now)) asked.if1.true in
     let e = fed.feed.ensures in
-    record { next = simp (q, c.with-reader.ensures, e.next); says = simp (q) (answer-of _ _ _ _ e.says); leaves = simp (q) e.leaves }
+    record { next = simp (q, c.with_reader.ensures, e.next); says = simp (q) (answer_of _ _ _ _ e.says); leaves = simp (q) e.leaves }
 
 returns-2 : tie.Need-returns-2
 returns-2 c =
     let asked = c.before in
     let read = asked.before.before.place_at.ensures in
     let a = asked.before.before.before.before.args in
-    let q = call-denied a.self a.technician a.place read asked.before.denial.ensures (one (feed a.nibble a.buffer.now)) asked.if1.false in
+    let q = call_denied a.self a.technician a.place read asked.before.denial.ensures (one (feed a.nibble a.buffer.now)) asked.if1.false in
     let e = c.refuse.ensures in
     record { next = simp (q, e.0); says = simp (q, e.1); leaves = simp (q) }
 
-pub feed-spec : {M : Type 1} → statement M
-feed-spec =
+pub feed_spec : {M : Type 1} → statement M
+feed_spec =
     tie.close
     (tie.spec
     (λ c κs. search rules)

@@ -1,7 +1,7 @@
 -- Where nothing is refused the reader of the place finishes and goes back there; else the refusal, and nothing moves.
 use Rattle.recovery.specs.Calls.{done}
 use Rattle.refinement.specs.Runs.{one}
-use Rattle.reader_table.proofs.Asked.{call-granted, call-denied}
+use Rattle.reader_table.proofs.Asked.{call_granted, call_denied}
 use borrow.Author.Rules.{rules}
 use Rattle.reader_table.proofs.ReaderTable.finish.Statement.{statement}
 use Rattle.reader_table.proofs.ReaderTable.finish.Tie as tie
@@ -11,16 +11,16 @@ returns c =
     let asked = c.before.before.before.before in
     let read = asked.before.before.place_at.ensures in
     let a = asked.before.before.before.args in
-    let q = call-granted a.self a.technician a.place read asked.before.denial.ensures (one done) asked.if1.true in
+    let q = call_granted a.self a.technician a.place read asked.before.denial.ensures (one done) asked.if1.true in
     let e = c.before.before.finish.ensures in
-    record { next = simp (q, c.with-reader.ensures, e.next); says = simp (q, e.says) }
+    record { next = simp (q, c.with_reader.ensures, e.next); says = simp (q, e.says) }
 
 returns-2 : tie.Need-returns-2
 returns-2 c =
     let asked = c.before in
     let read = asked.before.before.place_at.ensures in
     let a = asked.before.before.before.args in
-    let q = call-denied a.self a.technician a.place read asked.before.denial.ensures (one done) asked.if1.false in
+    let q = call_denied a.self a.technician a.place read asked.before.denial.ensures (one done) asked.if1.false in
     let e = c.refuse.ensures in
     record { next = simp (q, e.0); says = simp (q, e.1) }
 

@@ -1,11 +1,11 @@
 -- 32 where the number is no technician's, then 11 where the other is no profile's; else the lowest free place is looked for.
-use Rattle.reader_table.specs.Table.{openPlaceOf}
+use Rattle.reader_table.specs.Table.{open_place_of}
 use borrow.Author.Rules.{rules}
 use Rattle.reader_table.proofs.ReaderTable.open_reader.Statement.{statement}
 use Rattle.reader_table.proofs.ReaderTable.open_reader.Tie as tie
 
 returns : tie.Need-returns
-unfolding openPlaceOf
+unfolding open_place_of
 returns c =
     let numbered = c.before.before.before.before in
     let who = numbered.before.before.is-technician.ensures in
@@ -18,7 +18,7 @@ returns c =
     }
 
 returns-2 : tie.Need-returns-2
-unfolding openPlaceOf
+unfolding open_place_of
 returns-2 c =
     let numbered = c.before.before.before in
     let who = numbered.before.before.is-technician.ensures in
@@ -31,15 +31,15 @@ returns-2 c =
     }
 
 returns-3 : tie.Need-returns-3
-unfolding openPlaceOf
+unfolding open_place_of
 returns-3 c =
     let who = c.before.before.is-technician.ensures in
     let left = c.before.if1.false in
     let e = c.not-opened2.ensures in
     record { next = simp (← who, left, e.next); says = simp (← who, left, e.says) }
 
-pub open-reader-spec : {M : Type 1} → statement M
-open-reader-spec =
+pub open_reader_spec : {M : Type 1} → statement M
+open_reader_spec =
     tie.close
     (tie.spec
     (λ c κs. search rules)

@@ -2,28 +2,28 @@
 use mathlib.Core.Path.{◌≡◌, ◌∙◌, sym}
 use native.Mathlib.Omega.{arith}
 use lib.ListN.{length, get_or-eq_default}
-use Rattle.reader_table.specs.Table.{freePlace, placeAt}
-use Rattle.reader_table.proofs.Places.{length-of, absent, any-default}
+use Rattle.reader_table.specs.Table.{free_place, place_at}
+use Rattle.reader_table.proofs.Places.{length_of, absent, any_default}
 use borrow.Author.Rules.{rules}
 use Rattle.reader_table.proofs.ReaderTable.place_at.Statement.{statement}
 use Rattle.reader_table.proofs.ReaderTable.place_at.Tie as tie
 
 returns : tie.Need-returns
-unfolding placeAt
+unfolding place_at
 returns c =
     let a = c.before.before.args in
-    let l : length a.t1.places ≡ 8 = search (rules, length-of) in
-    any-default a.t1.places a.place absent freePlace (omega (arith, l, c.before.if1.true))
+    let l : length a.t1.places ≡ 8 = search (rules, length_of) in
+    any_default a.t1.places a.place absent free_place (omega (arith, l, c.before.if1.true))
 
 returns-2 : tie.Need-returns-2
-unfolding placeAt
+unfolding place_at
 returns-2 c =
     let a = c.before.before.args in
-    let l : length a.t1.places ≡ 8 = search (rules, length-of) in
-    c.free.ensures ∙ sym (get_or-eq_default a.t1.places freePlace {n = a.place} (omega (arith, l, c.before.if1.false)))
+    let l : length a.t1.places ≡ 8 = search (rules, length_of) in
+    c.free.ensures ∙ sym (get_or-eq_default a.t1.places free_place {n = a.place} (omega (arith, l, c.before.if1.false)))
 
-pub place-at-spec : {M : Type 1} → statement M
-place-at-spec =
+pub place_at_spec : {M : Type 1} → statement M
+place_at_spec =
     tie.close
     (tie.spec
     (λ c. search rules)

@@ -6,5 +6,5 @@ use Rattle.signal_tally.proofs.Signal.gap.Tie as tie
 returns : tie.Need-returns
 returns c = simp (c.before.before.before.before.before.seen.ensures, c.with.ensures)
 
-pub gap-spec : {M : Type 1} → statement M
-gap-spec = tie.close (tie.spec (λ c κs. search rules) (λ c κs. search rules) returns)
+pub gap_spec : {M : Type 1} → statement M
+gap_spec = tie.close (tie.spec (λ c κs. search rules) (λ c κs. search rules) returns)

@@ -12,5 +12,5 @@ returns-2 c = simp c.enum-told2.given.1
 returns-3 : tie.Need-returns-3
 returns-3 c = simp c.enum-told3.given.1
 
-pub is-start-spec : {M : Type 1} → statement M
-is-start-spec = tie.close (tie.spec (λ c. search rules) (λ c. search rules) (λ c. search rules) returns returns-2 returns-3)
+pub is_start_spec : {M : Type 1} → statement M
+is_start_spec = tie.close (tie.spec (λ c. search rules) (λ c. search rules) (λ c. search rules) returns returns-2 returns-3)

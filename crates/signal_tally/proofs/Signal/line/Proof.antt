@@ -6,7 +6,7 @@ use Rattle.signal_tally.proofs.Signal.line.Tie as tie
 returns : tie.Need-returns
 returns c = simp (c.before.before.before.before.before.before.seen.ensures, c.before.before.before.before.before.one_more.ensures, c.before.before.with-repair.ensures, c.before.with-repair2.ensures)
 
-pub line-spec : {M : Type 1} → statement M
-line-spec =
+pub line_spec : {M : Type 1} → statement M
+line_spec =
     tie.close
     (tie.spec (λ c κs. search rules) (λ c κs. search rules) (λ c κs. search rules) (λ c κs. search rules) returns)

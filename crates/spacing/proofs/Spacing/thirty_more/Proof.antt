@@ -6,5 +6,5 @@ use Rattle.spacing.proofs.Spacing.thirty_more.Tie as tie
 returns : tie.Need-returns
 returns c = simp c.one_more.ensures
 
-pub thirty-more-spec : {M : Type 1} → statement M
-thirty-more-spec = tie.close (tie.spec (λ c κs. search rules) returns)
+pub thirty_more_spec : {M : Type 1} → statement M
+thirty_more_spec = tie.close (tie.spec (λ c κs. search rules) returns)

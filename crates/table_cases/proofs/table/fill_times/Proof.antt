@@ -12,8 +12,8 @@ invariant-loop nibbles₀ unit times used₀ i₀ nibbles used i = (used ≤ len
 abbrev decreases-loop : tie.decreases-loop
 decreases-loop nibbles₀ unit times used₀ i₀ nibbles used i = times - i
 
-pub fill-times-spec : {M : Type 1} → statement M
-fill-times-spec =
+pub fill_times_spec : {M : Type 1} → statement M
+fill_times_spec =
     tie.close
     (tie.spec
     invariant-loop

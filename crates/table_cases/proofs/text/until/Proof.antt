@@ -11,8 +11,8 @@ invariant-loop text from sign i₀ i = (from ≤ i) × (i ≤ length text)
 abbrev decreases-loop : tie.decreases-loop
 decreases-loop text from sign i₀ i = length text - i
 
-pub until-spec : {M : Type 1} → statement M
-until-spec =
+pub until_spec : {M : Type 1} → statement M
+until_spec =
     tie.close
     (tie.spec
     invariant-loop

@@ -17,5 +17,5 @@ returns-3 : tie.Need-returns-3
 unfolding addressed
 returns-3 c = simp (ne_eqb _ _ c.before.before.if1.false, ne_eqb _ _ c.before.if2.false) c.refused.ensures
 
-pub addressed-spec : {M : Type 1} → statement M
-addressed-spec = tie.close (tie.spec (λ c κs. search rules) returns (λ c κs. search rules) returns-2 (λ c κs. search rules) returns-3)
+pub addressed_spec : {M : Type 1} → statement M
+addressed_spec = tie.close (tie.spec (λ c κs. search rules) returns (λ c κs. search rules) returns-2 (λ c κs. search rules) returns-3)

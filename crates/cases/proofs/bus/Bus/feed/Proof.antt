@@ -9,8 +9,8 @@ invariant-loop line bus₀ i₀ bus i = i ≤ length line
 abbrev decreases-loop : tie.decreases-loop
 decreases-loop line bus₀ i₀ bus i = length line - i
 
-pub feed-spec : {M : Type 1} → statement M
-feed-spec =
+pub feed_spec : {M : Type 1} → statement M
+feed_spec =
     tie.close
     (tie.spec
     invariant-loop

@@ -9,8 +9,8 @@ invariant-loop text bus₀ i₀ bus i = i ≤ length text
 abbrev decreases-loop : tie.decreases-loop
 decreases-loop text bus₀ i₀ bus i = length text - i
 
-pub hex-spec : {M : Type 1} → statement M
-hex-spec =
+pub hex_spec : {M : Type 1} → statement M
+hex_spec =
     tie.close
     (tie.spec
     invariant-loop

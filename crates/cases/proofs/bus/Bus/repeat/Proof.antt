@@ -9,7 +9,7 @@ invariant-loop unit times bus₀ i₀ bus i = i ≤ times
 abbrev decreases-loop : tie.decreases-loop
 decreases-loop unit times bus₀ i₀ bus i = times - i
 
-pub repeat-spec : {M : Type 1} → statement M
-repeat-spec =
+pub repeat_spec : {M : Type 1} → statement M
+repeat_spec =
     tie.close
     (tie.spec invariant-loop decreases-loop (λ c. search rules) (λ c κs. search rules) (λ c. search rules) (λ c. search rules) (λ c. search rules) (λ c. search rules))

@@ -9,8 +9,8 @@ invariant-loop buffer line₀ end bus₀ from₀ turns₀ line bus from turns = 
 abbrev decreases-loop : tie.decreases-loop
 decreases-loop buffer line₀ end bus₀ from₀ turns₀ line bus from turns = end - turns
 
-pub written-spec : {M : Type 1} → statement M
-written-spec =
+pub written_spec : {M : Type 1} → statement M
+written_spec =
     tie.close
     (tie.spec
     invariant-loop

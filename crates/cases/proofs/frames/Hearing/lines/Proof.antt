@@ -9,8 +9,8 @@ invariant-loop kind from to hearing₀ number₀ hearing number = Unit {0}
 abbrev decreases-loop : tie.decreases-loop
 decreases-loop kind from to hearing₀ number₀ hearing number = to - number
 
-pub lines-spec : {M : Type 1} → statement M
-lines-spec =
+pub lines_spec : {M : Type 1} → statement M
+lines_spec =
     tie.close
     (tie.spec
     invariant-loop
