@@ -2,6 +2,9 @@
 //
 // In: a profile, a line's kind, a body of any length, and the two gap bytes after it. Out: whether one of them is not allowed, or the body's length is
 // not the layout's. Nothing is refused. Cost: linear in the body.
+
+#![tactic(auto)]
+
 ghost use Rattle.std.specs.Prelude.{◌≡◌, ◌&&◌, not};
 ghost use Rattle.profile.specs.Layout.{rules, fits, gap_fits};
 

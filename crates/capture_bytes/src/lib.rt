@@ -8,6 +8,9 @@
 // F F F F 0 0 has, at either phase, a byte FF and a byte below 16 two further on. There each nibble only leaves the window and goes to its place: a
 // block is put into the body, its bytes shifted by a nibble at an odd phase, or past the body passed over. With it `list` takes about half the time on
 // clean lines, and an eighth on a bus at rest and on noise.
+
+#![tactic(auto)]
+
 ghost use Rattle.std.specs.Prelude.{◌≡◌, true, ◌&&◌, not, List, ℕ, ◌+◌, ◌*◌, ◌/◌, ◌%◌, ◌≤◌, ◌<◌, min, ltb, length, get_or};
 ghost use Rattle.profile.specs.Profile.{longest};
 ghost use Rattle.reader_head.specs.Head.{count_stop, passes};

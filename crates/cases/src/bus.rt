@@ -12,7 +12,7 @@ use reader_head::Head;
 use stream::{Answer, Mark};
 
 // A reader, and how many answers it has given.
-#[derive(Drop)]
+#[derive(Clone, Copy)]
 pub struct Bus {
     pub reader: Reader,
     pub answers: u64,

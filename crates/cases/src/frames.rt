@@ -5,7 +5,7 @@ use frame_layout::Borders;
 use profile::Profile;
 
 // A judge, and how many lines it answered Going since its last other answer.
-#[derive(Drop)]
+#[derive(Clone, Copy)]
 pub struct Hearing {
     pub judge: Judge,
     pub going: u64,

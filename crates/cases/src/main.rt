@@ -1,5 +1,8 @@
 // The cases of paper 01 that are run and compared, and more of the same kind. They are lines of standard input: the file stdin says how to
 // read them. What each brings is in stdout, as worked out by hand.
+
+#![tactic(auto)]
+
 mod buffer;
 mod bus;
 mod frames;
@@ -15,7 +18,7 @@ use text::{byte_at, end_line, long_at, number_at, say, say_front, short_at, unti
 const LONGEST: usize = 357;
 
 // What the lines work on: a reader, a judge, and a body for the writer.
-#[derive(Drop)]
+#[derive(Clone, Copy)]
 struct Bench {
     bus: Bus,
     hearing: Hearing,

@@ -2,6 +2,9 @@
 //
 // In: what the program takes (crate command_words). Out: what its arguments ask for, whatever they are, and whether all were understood; an input
 // by its place among them. Cost: linear in the words.
+
+#![tactic(auto)]
+
 ghost use Rattle.std.specs.Prelude.{◌-◌};
 ghost use Rattle.command.specs.Arguments.{sensor_and_file, AskedByAll, AskedBySome};
 
@@ -46,7 +49,7 @@ fn words_below(usage: Usage, count: usize) -> Asked
 }
 
 // An input: its descriptor, or -1; and how many bytes its name has.
-#[derive(Drop)]
+#[derive(Clone, Copy)]
 pub struct Input {
     pub fd: i32,
     pub length: usize,

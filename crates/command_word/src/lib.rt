@@ -4,6 +4,9 @@
 //
 // In: a text, of any bytes. Out: what it asks for; a word of digits is a mark's number, one that begins with `-` and is no option is unknown, and
 // any other is a name. Nothing is refused. Cost: linear in the word.
+
+#![tactic(auto)]
+
 ghost use Rattle.std.specs.Prelude.{◌≡◌, take};
 ghost use Rattle.text.specs.Text.{ascii};
 ghost use Rattle.command_word.specs.Word.{same, mark_in, name_word, other_word, word_of};
@@ -11,7 +14,7 @@ ghost use Rattle.command_word.specs.Word.{same, mark_in, name_word, other_word, 
 use profile::Profile;
 
 // What a word asks for.
-#[derive(Drop)]
+#[derive(Clone, Copy)]
 pub enum Word {
     Sensor(Profile),
     OddPixelsFirst,

@@ -5,6 +5,9 @@
 // In: what of these the program takes; what each word asks for (crate `command_word`), with its place among the arguments. Out: what is asked
 // for, and whether all words were understood. Not understood: a word that begins with `-` and is no option; what the program does not take; a
 // sensor, a mark's number, an output or a file too many; -o without a name behind it. Cost: constant for each word.
+
+#![tactic(auto)]
+
 ghost use Rattle.std.specs.Prelude.{◌≡◌};
 ghost use Rattle.command_words.specs.Asked.{none_asked, not_understood, sensor_asked, second_asked, name_asked, mark_asked, odd_asked, output_asked, output_named, after_dash, with_word, end_asked};
 
@@ -12,7 +15,7 @@ use command_word::Word;
 use profile::Profile;
 
 // What a program takes besides a sensor and a file: a mark's number, odd pixels first, an output, a second file.
-#[derive(Drop)]
+#[derive(Clone, Copy)]
 pub struct Usage {
     pub mark: bool,
     pub odd: bool,
@@ -23,7 +26,7 @@ pub struct Usage {
 // What is asked for: the sensor, and whether it was named; the mark's number, 0 for every mark; whether the head sends odd pixels first; the
 // places of the output's and of the files' names among the arguments, 0 for none; whether the next word is the output's name; and whether all
 // words were understood.
-#[derive(Drop)]
+#[derive(Clone, Copy)]
 pub struct Asked {
     pub profile: Profile,
     pub named: bool,

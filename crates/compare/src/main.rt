@@ -2,6 +2,9 @@
 // each, and says on standard output how they differ: lines that one only holds, lines of two kinds, pixels, in which lines and by how much at
 // most. With -o each difference goes to a file, as a row of text. Where a capture has no complete frame a line on standard error says so, with
 // its name, and nothing is compared. The lines of two frames are kept, and no more of the captures.
+
+#![tactic(auto)]
+
 use command_words::{Asked, Usage};
 use diff_summary::Summary;
 use frame_row::Keeping;

@@ -1,4 +1,7 @@
 // Counts, single and side by side. They are held at the greatest u64, which no capture reaches. Cost: constant.
+
+#![tactic(auto)]
+
 ghost use Rattle.std.specs.Prelude.{◌≡◌};
 ghost use Rattle.counts.specs.Counts.{one_more, one_more_at, all_zero};
 

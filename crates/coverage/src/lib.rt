@@ -3,6 +3,9 @@
 // In: the answer of each call to the reader, and a lent table of CELLS bytes, all 0 at first. Out: the table, with a 1 for the kind and number of
 // each line handed out; and whether a frame is covered: whether, of one layout, every line up to the EOF line came. Nothing is refused: a table
 // that is shorter has no place for what lies behind it. Cost: constant for an answer, linear in a frame's lines for the whole.
+
+#![tactic(auto)]
+
 ghost use Rattle.std.specs.Prelude.{◌≡◌, ◌+◌};
 ghost use Rattle.frame_layout.specs.FrameLayout.{end_place};
 ghost use Rattle.line_code.specs.LineCode.{kind_number};

@@ -2,13 +2,16 @@
 //
 // In: the bytes of differences (crate diff_records). Out: the difference that they start with, and how many bytes it has. Nothing is refused: any bytes
 // are read as a difference, what is missing at the end as 0. Cost: constant.
+
+#![tactic(auto)]
+
 ghost use Rattle.std.specs.Prelude.{◌≡◌, ◌+◌, ◌<◌, get_or};
 ghost use Rattle.line_records.specs.Lines.{from_two};
 ghost use Rattle.diff_records.specs.ReadBack.{front_of, front_size};
 ghost use Rattle.diff_change.specs.Front.{change_of};
 
 // A difference without a body: of a line that one list only holds, its number; of a number, both kinds; of a number and a place, both bytes.
-#[derive(Drop)]
+#[derive(Clone, Copy)]
 pub enum Change {
     First(usize),
     Second(usize),

@@ -2,6 +2,9 @@
 //
 // In: a difference (crate diff_change), a lent buffer and a place in it. Out: the row there in ASCII, and the place after it, as crate text puts texts:
 // where the buffer ends before the row does, the rest is left out. Nothing is refused. Cost: linear in the row.
+
+#![tactic(auto)]
+
 ghost use Rattle.text.specs.Put.{Puts};
 ghost use Rattle.diff_change_row.specs.ChangeRow.{change_row, line_word, kind_word, kinds_words, pair_words};
 

@@ -6,6 +6,9 @@
 // and then nothing is written: 35 numbers that don't rise strictly, 14 a number above 4095, 13 a kind not 1 to 5, 15 a list cut within a line,
 // 12 room. 35, 14 and 13 look at a last line that is cut within its body too: its kind and number are there. Cost: linear; the lists are walked
 // once for the room needed and once for writing.
+
+#![tactic(auto)]
+
 ghost use Rattle.std.specs.Prelude.{◌≡◌, not, ◌&&◌, leb, length};
 ghost use Rattle.lent_buffer.specs.Filled.{Gives};
 ghost use Rattle.text.specs.Put.{Puts};

@@ -4,6 +4,9 @@
 // number in two bytes, then: for 1 or 2 (only the first or the second list has it) kind and body; for 3 both kinds; for 4 the place from 0, in
 // two bytes, and both bytes; high byte and first list first; and how far that number reaches in each list. Bodies are not judged. Nothing is
 // refused: bytes that have no room are left out, as crate text puts them. Cost: linear in two lines and what is put.
+
+#![tactic(auto)]
+
 ghost use Rattle.std.specs.Prelude.{◌≡◌, [], ◌∷◌, ◌≤◌, ◌<◌, eqb, length};
 ghost use Rattle.text.specs.Put.{Puts};
 ghost use Rattle.profile.specs.Profile.{width};

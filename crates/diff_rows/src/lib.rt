@@ -4,6 +4,9 @@
 // crate diff_change_row puts them; where they end; and how far each list is passed. Where neither is, no number is left. So a caller that writes
 // the rows and goes on from there writes one row for each difference of the lists, in their order. Nothing is refused: a buffer of ROOM has
 // room for every number's rows; in a shorter one they are cut. Cost: linear in the line.
+
+#![tactic(auto)]
+
 ghost use Rattle.text.specs.Put.{Puts};
 ghost use Rattle.diff_records.specs.ReadBack.{differences_in};
 ghost use Rattle.diff_rows.specs.Rows.{rows_text, RowsPut};
@@ -19,7 +22,7 @@ const ROW: usize = 102;
 pub const ROOM: usize = ROW * (1 + Profile::WIDTH);
 
 // How far each list is passed, and where the rows end.
-#[derive(Drop)]
+#[derive(Clone, Copy)]
 pub struct Piece {
     pub first: usize,
     pub second: usize,

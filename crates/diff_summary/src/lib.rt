@@ -2,6 +2,9 @@
 //
 // In: two lists (crate line_records). Out: how many lines one list only holds, how many numbers have two kinds, how many pixels differ, in how many
 // lines and by how much at most. Nothing is refused. Cost: linear.
+
+#![tactic(auto)]
+
 ghost use Rattle.std.specs.Prelude.{◌≡◌, [], ◌≤◌, eqb, length};
 ghost use Rattle.line_records.specs.Lines.{line_size, front_line, full_lines};
 ghost use Rattle.diff_records.specs.Difference.{both_kinds, both_bytes, unless, places_from, between_lines, differences};
@@ -14,7 +17,7 @@ use line_records::{HEAD, LINE, NO_LINE};
 
 // The lines that the first and the second list only hold, and the numbers with two kinds; the pixels that differ, the lines they are in, the
 // first and the last of these, and the most that two of them differ by.
-#[derive(Drop)]
+#[derive(Clone, Copy)]
 pub struct Summary {
     pub first: u64,
     pub second: u64,

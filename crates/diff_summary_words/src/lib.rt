@@ -2,6 +2,9 @@
 //
 // In: a summary (crate diff_summary), a lent buffer and a place in it. Out: its text there in ASCII, and the place after it, as crate text puts texts:
 // where the buffer ends before the text does, the rest is left out. Nothing is refused. Cost: linear in the text.
+
+#![tactic(auto)]
+
 ghost use Rattle.text.specs.Put.{Puts};
 ghost use Rattle.diff_summary_words.specs.SummaryWords.{count_text, places_text, summary_text};
 

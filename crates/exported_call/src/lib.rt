@@ -2,6 +2,9 @@
 //
 // A call that fills a lent buffer is answered 0 or the refusal, and how much of the buffer it filled goes to a place that the caller lends too, 0
 // with a refusal. A call on a state in lent bytes is answered by a number. specs/LentCall.antt has a sentence for each.
+
+#![tactic(auto)]
+
 ghost use Rattle.std.specs.Prelude.{◌≡◌};
 ghost use Rattle.exported_call.specs.LentCall.{written_number, written_count, bit_of};
 

@@ -2,6 +2,9 @@
 //
 // In: an answer, a judge or a ruling. Out: its number, as specs/CallNumbers.antt has it; and back, the judge that a number stands for. Nothing is
 // refused. Cost: constant.
+
+#![tactic(auto)]
+
 ghost use Rattle.std.specs.Prelude.{◌≡◌};
 ghost use Rattle.exported_numbers.specs.CallNumbers.{answer_number, judge_number, judge_numbered, ruling_number};
 

@@ -2,6 +2,9 @@
 //
 // In: bytes of any number; or a reader's head. Out: whether the bytes hold a reader that passes its own test, and the head that they hold; or the
 // head's bytes, which come first in a state, before the body, and are put there. Their layout is specs/State.antt. Nothing is refused. Cost: constant.
+
+#![tactic(auto)]
+
 ghost use Rattle.std.specs.Prelude.{◌≡◌};
 ghost use Rattle.profile.specs.Profile.{profile_number};
 ghost use Rattle.exported_state.specs.State.{mark_number, code_of, mark_numbered, profile_of, number_of, head_bytes, head_stored, held_head, tagged, holds_reader};

@@ -1,4 +1,7 @@
 // What the exposure settings of a VV5404 or VV6404 may be (004, Table 24, and the gain and clock divisor registers after it).
+
+#![tactic(auto)]
+
 ghost use Rattle.std.specs.Prelude.{◌≡◌};
 ghost use Rattle.exposure.specs.Exposure.{is_gain, fine_limit};
 

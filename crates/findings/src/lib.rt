@@ -2,6 +2,9 @@
 //
 // In: the answer of each call to the reader, in order; at the end, finish's. Out: the next findings, and beside them the tally's news of a frame. Nothing
 // is refused. Cost: constant.
+
+#![tactic(auto)]
+
 ghost use Rattle.std.specs.Prelude.{◌≡◌};
 ghost use Rattle.findings.specs.Findings.{no_findings, is_outside, with_line, take_of, with_cut, close_of};
 
@@ -13,14 +16,14 @@ use signal_tally::Signal;
 use stream::Answer;
 
 // The lines outside frames: before the first frame, and later.
-#[derive(Drop)]
+#[derive(Clone, Copy)]
 pub struct Outside {
     pub early: u64,
     pub later: u64,
 }
 
 // The tally of a capture's frames, the signal, the lines outside frames, and the frames that its end cut off.
-#[derive(Drop)]
+#[derive(Clone, Copy)]
 pub struct Findings {
     pub tally: Tally,
     pub signal: Signal,
@@ -29,7 +32,7 @@ pub struct Findings {
 }
 
 // Findings after an answer, and the tally's news.
-#[derive(Drop)]
+#[derive(Clone, Copy)]
 pub struct Found {
     pub findings: Findings,
     pub news: News,

@@ -5,6 +5,9 @@
 // that the next call goes on at the place plus that. From a place past the end on there are no nibbles. Refused: 11, 12, in this order, with
 // nothing taken; never 10. No two slices of a call may overlap, and nothing is asked of what they hold.
 // Cost: linear in the nibbles taken. For C: c/fluturenc.h.
+
+#![tactic(auto)]
+
 ghost use Rattle.std.specs.Prelude.{◌≡◌};
 ghost use Rattle.fluturenc.specs.Gives.{FeedCallGives};
 ghost use Rattle.fluturenc_bytes.specs.BytesCall.{feed_bytes_call};

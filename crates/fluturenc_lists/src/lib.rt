@@ -5,6 +5,9 @@
 // It takes slices (in C a pointer and then a length) and a place for the length filled (a pointer); no two of the slices may overlap. A list is
 // its lines end to end, 359 bytes each, as crate line_records has them; the differences are written as crate diff_records has them. The answer is 0,
 // and the length in its place; or the refusal, 0 in its place, and nothing is written. Room beyond what is written stays as it was.
+
+#![tactic(auto)]
+
 ghost use Rattle.std.specs.Prelude.{length};
 ghost use Rattle.exported_call.specs.LentCall.{WriteGives};
 ghost use Rattle.diff_lines.specs.Compare.{compare_of};

@@ -5,6 +5,9 @@
 // It takes numbers, a line's body (in C a pointer and then a length), and four places (pointers): for the exact mean of image places 16 to 79, and of
 // 80 to 143, and for the signed difference of the sensor's mean, first or second, from each: 64 times the byte minus the sum. The answer is 0; or the
 // refusal, and the four places stay as they were.
+
+#![tactic(auto)]
+
 ghost use Rattle.half_means.specs.HalfMeans.{half_values};
 ghost use Rattle.fluturenc_means.specs.MeansCall.{in_places, MeansGives};
 

@@ -8,6 +8,9 @@
 //   fluturenc_picture_read(file, rows, written)        the rows of such a file: 20, 21, 22, 12
 //   fluturenc_to_pixels(kind, body, pixels, written)   the pixels of a line whose head sends odd ones first: 23, 15, 12
 //   fluturenc_to_body(kind, pixels, body, written)     the body that such a head sends of these pixels: 23, 15, 12
+
+#![tactic(auto)]
+
 ghost use Rattle.std.specs.Prelude.{length};
 ghost use Rattle.exported_call.specs.LentCall.{WriteGives};
 ghost use Rattle.picture_file.specs.PictureFile.{write_of, read_of};

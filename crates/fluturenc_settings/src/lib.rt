@@ -12,6 +12,9 @@
 //
 // A list is moved and copied as bytes: eight places of 8 bytes, the used ones first, oldest first. A place is a setting's version, fine and coarse
 // exposure, each in two bytes, high byte first, its gain code and its clock divisor. Version 0 marks an unused place, so a fresh list is all 0.
+
+#![tactic(auto)]
+
 ghost use Rattle.std.specs.Prelude.{◌≡◌, [], ◌∷◌, ◌++◌, ◌+◌, ◌≤◌, length, get_or, drop};
 ghost use Rattle.std.proofs.lemmas.List.Edits.{sets};
 ghost use Rattle.exported_call.specs.LentCall.{StateGives, WriteGives};
@@ -163,7 +166,7 @@ fn store_saved(saved: SavedPlaces, list: &mut [u8], version: &mut u16) -> u8
 }
 
 // Four places, oldest first.
-#[derive(Drop)]
+#[derive(Clone, Copy)]
 struct FourPlaces {
     a: SavedSetting,
     b: SavedSetting,

@@ -9,6 +9,9 @@
 //
 // 11 comes first where the bytes are fewer than a table's. Refused calls change nothing, but that what stood before a 10 is taken. A place is
 // its owner's byte and a reader's state as crate fluturenc has it, and each call works on that in place.
+
+#![tactic(auto)]
+
 ghost use Rattle.std.specs.Prelude.{◌≡◌, ◌≤◌, length};
 ghost use Rattle.reader_table.specs.Table.{place_count};
 ghost use Rattle.exported_call.specs.LentCall.{StateGives};

@@ -10,6 +10,9 @@
 //   fluturenc_messages(pairs, messages, written)         a message for each pair of index and value: 24, 28, 12
 //
 // A sensor's state is moved and copied as bytes: 128 registers, the current index, and 1 where the increment flag is set, else 0.
+
+#![tactic(auto)]
+
 ghost use Rattle.std.specs.Prelude.{◌≡◌, ◌≤◌, length};
 ghost use Rattle.exported_call.specs.LentCall.{StateGives, WriteGives};
 ghost use Rattle.two_wire_write.specs.Writing.{write_of};

@@ -13,6 +13,9 @@
 //   9                                   the place of the gap's first bad nibble, and the nibble; or the nibbles of a gap under two bytes
 //   2, 3, 8                             no values
 //   11, 13, 10, 36                      refused, in this order: no such profile, a kind above 5, an input above 15, no mark at the beginning
+
+#![tactic(auto)]
+
 ghost use Rattle.std.specs.Prelude.{◌≡◌};
 ghost use Rattle.reason.specs.Valued.{valued, explanation_values};
 ghost use Rattle.fluturenc_why.specs.Why.{valued_number, valued_first, valued_second, sum_bits, WhyGives};

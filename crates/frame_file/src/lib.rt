@@ -2,6 +2,9 @@
 //
 // Read: the arguments, a capture from a file or standard input. What cannot be read is told once, on standard error. Memory: the frame's rows,
 // and no more of the capture.
+
+#![tactic(auto)]
+
 ghost use Rattle.std.specs.Prelude.{◌≤◌, length};
 
 use frame_grabber::Grabber;

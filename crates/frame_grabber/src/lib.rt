@@ -6,6 +6,9 @@
 // `pgm::write` or `diff_lines::compare` takes them. A piece is taken up to the nibble at which a frame is complete or something is refused. Refused: 11 where the reader
 // fails its own test, before anything is taken; else as the gatherer refuses: 11 and 14 of the judge, 12 of the rows' buffer. A buffer of
 // pgm::MOST_PIXELS has room for every frame. Cost: that of the reader's runs, and linear in the rows; memory does not grow with the capture.
+
+#![tactic(auto)]
+
 ghost use Rattle.std.specs.Prelude.{◌≡◌, ◌&&◌, not, [], ◌/◌, ltb, drop};
 ghost use Rattle.stream.specs.Written.{nibbles};
 ghost use Rattle.frame_rows.specs.FrameRows.{output_of};
@@ -17,14 +20,14 @@ use profile::Profile;
 use reader::Reader;
 
 // A reader, and the gatherer of the rows of its lines.
-#[derive(Drop)]
+#[derive(Clone, Copy)]
 pub struct Grabber {
     pub reader: Reader,
     pub gatherer: Gatherer,
 }
 
 // A grabber after a call, how many nibbles it took, and what is said.
-#[derive(Drop)]
+#[derive(Clone, Copy)]
 pub struct Grabbed {
     pub grabber: Grabber,
     pub taken: usize,

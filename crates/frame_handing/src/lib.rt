@@ -2,6 +2,9 @@
 //
 // In: an answer. Out: nothing, or a kind number and a number for `Judge::line`. A capture is judged by handing over what `handed_over` has of each
 // answer. Nothing is refused. Cost: constant.
+
+#![tactic(auto)]
+
 ghost use Rattle.std.specs.Prelude.{◌≡◌};
 ghost use Rattle.frame_handing.specs.Handing.{is_broken_line, handed_over};
 
@@ -9,7 +12,7 @@ use frame_judge::Judge;
 use stream::Answer;
 
 // What of an answer is handed to the judge: nothing, or a kind number and a number.
-#[derive(Drop)]
+#[derive(Clone, Copy)]
 pub enum Handed {
     Nothing,
     Line(u8, u16),

@@ -4,6 +4,9 @@
 // the next judge, Waiting, Going, Complete or a refusal: 18 the line is not the one due, 19 a broken line; and, changing nothing: 11 a
 // judge state that no calls can reach with this profile, 13 a kind above 5, 14 a number above 4095. After the EOF line a line's number is
 // not compared (paper 02, A3). Cost: constant.
+
+#![tactic(auto)]
+
 ghost use Rattle.std.specs.Prelude.{◌≡◌};
 ghost use Rattle.frame_judge.specs.Frame.{within, passes, line_due, settled_by, refuses, opens, broken, due_taken, astray, first, whole, judge_of, JudgedAs, breaks_frame};
 
@@ -12,21 +15,21 @@ use line_code::Kind;
 use profile::Profile;
 
 // What is known so far of a frame's borders: the line at the place of the first visible line with borders on settles them.
-#[derive(Drop)]
+#[derive(Clone, Copy)]
 pub enum KnownBorders {
     Unsettled,
     Settled(Borders),
 }
 
 // Waiting for a frame; or within one, with the place that is due and what is known of the borders.
-#[derive(Drop)]
+#[derive(Clone, Copy)]
 pub enum Judge {
     Waiting,
     Due(u16, KnownBorders),
 }
 
 // What the judge answers.
-#[derive(Drop)]
+#[derive(Clone, Copy)]
 pub enum Ruling {
     Waiting,
     Going,
@@ -35,7 +38,7 @@ pub enum Ruling {
 }
 
 // A judge after a call, and its answer.
-#[derive(Drop)]
+#[derive(Clone, Copy)]
 pub struct Judged {
     pub judge: Judge,
     pub ruling: Ruling,

@@ -2,6 +2,9 @@
 //
 // In: the profile, whether borders are on, and a place, counted from 0. Out: whether a line is due there; the place that settles the borders,
 // and the last one. Nothing is refused. Cost: constant.
+
+#![tactic(auto)]
+
 ghost use Rattle.std.specs.Prelude.{◌≡◌};
 ghost use Rattle.frame_layout.specs.FrameLayout.{borders_on, borders_off, layout, last_place, end_place, settling_place, kind_at_place, stands_at, number_due, due_at};
 ghost use Rattle.frame_layout.specs.Places.{kind_within};
@@ -10,7 +13,7 @@ use line_code::Kind;
 use profile::Profile;
 
 // Whether a frame shows its borders.
-#[derive(Drop)]
+#[derive(Clone, Copy)]
 pub enum Borders {
     On,
     Off,
@@ -22,7 +25,7 @@ pub const FIRST_BLACK: u16 = 1;
 const FIRST_BLANK: u16 = 3;
 
 // A frame's layout: the places of its first and last visible line, of its EOF line and of its last line.
-#[derive(Drop)]
+#[derive(Clone, Copy)]
 struct Layout {
     from: u16,
     to: u16,

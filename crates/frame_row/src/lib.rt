@@ -5,6 +5,9 @@
 // In: what is kept; how many bytes of rows a lent buffer holds; the line's place and kind number; the line buffer, with its body in front. Out:
 // whether the row fits, and where the rows end then: it does not where the line buffer is shorter than 356, or the rows' buffer than the rows
 // with its own, and then nothing changes. Cost: linear in the row.
+
+#![tactic(auto)]
+
 ghost use Rattle.std.specs.Prelude.{◌≡◌, ◌∷◌, ◌++◌, ◌+◌, ◌≤◌, leb, length, take, drop};
 ghost use Rattle.profile.specs.Profile.{width};
 ghost use Rattle.line_records.specs.Lines.{line_size, in_two};
@@ -15,21 +18,21 @@ use line_records::LINE;
 use profile::Profile;
 
 // The order in which a head sends a line's pixels: from left to right, or the odd ones first.
-#[derive(Drop)]
+#[derive(Clone, Copy)]
 pub enum Order {
     AsSent,
     OddFirst,
 }
 
 // What is kept of a frame: the pixels of its visible lines, in order; or all of its lines, whole.
-#[derive(Drop)]
+#[derive(Clone, Copy)]
 pub enum Keeping {
     VisiblePixels(Order),
     WholeLines,
 }
 
 // Whether a row fits after the bytes kept, and where they end then.
-#[derive(Drop)]
+#[derive(Clone, Copy)]
 pub struct Row {
     pub fits: bool,
     pub end: usize,

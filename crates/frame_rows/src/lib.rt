@@ -7,6 +7,9 @@
 // `pgm::write` takes a picture's, `diff_lines::compare` the lines. Refused, and then nothing changes: 11 and 14 as the judge refuses them; 12
 // where a line is due and the line buffer is shorter than 356, or the rows' buffer than the rows with its own. A buffer of pgm::MOST_PIXELS has
 // room for every picture, one of ALL_LINES for every frame's lines. Cost: linear in the row that is put.
+
+#![tactic(auto)]
+
 ghost use Rattle.std.specs.Prelude.{◌≡◌, take};
 ghost use Rattle.profile.specs.Profile.{width};
 ghost use Rattle.frame_rows.specs.FrameRows.{fresh, moved, saying, place_due, shown_as, row_kept, completed, after_break, handed, take_of, Gathers};
@@ -24,7 +27,7 @@ const LINES: usize = 304;
 pub const ALL_LINES: usize = LINE * LINES;
 
 // The judge; the bytes of rows that are kept for the frame it is in; what is kept.
-#[derive(Drop)]
+#[derive(Clone, Copy)]
 pub struct Gatherer {
     pub judge: Judge,
     pub kept: usize,
@@ -32,7 +35,7 @@ pub struct Gatherer {
 }
 
 // Nothing yet; the length of a complete frame's rows; or a refusal.
-#[derive(Drop)]
+#[derive(Clone, Copy)]
 pub enum Progress {
     Nothing,
     Complete(usize),
@@ -40,7 +43,7 @@ pub enum Progress {
 }
 
 // A gatherer after an answer, and what is said.
-#[derive(Drop)]
+#[derive(Clone, Copy)]
 pub struct Gathered {
     pub gatherer: Gatherer,
     pub progress: Progress,

@@ -3,6 +3,9 @@
 // In: the answer of each call to the reader, in order; at the end, finish's. Out: beside the next tally, news of a frame that is complete,
 // broken, or cut off by the capture's end. What frame_handing::handed_over has of an answer is handed to the judge. Nothing is refused; where the
 // judge refuses 11, 13 or 14, which leave it as it was, the mark is counted. Cost: constant.
+
+#![tactic(auto)]
+
 ghost use Rattle.std.specs.Prelude.{◌≡◌};
 ghost use Rattle.frame_tally.specs.Tally.{fresh_tally, quiet, marked, marked_by, own_answer, borders_of, opening, moved, completed, broken_by, refused_by, handed, take_of, is_unfinished, cut_of, close_of};
 
@@ -13,7 +16,7 @@ use profile::Profile;
 use stream::Answer;
 
 // The profile; the judge; the marks answered; the frames that opened, that were complete, and that broke. A count stops at the greatest u64.
-#[derive(Drop)]
+#[derive(Clone, Copy)]
 pub struct Tally {
     pub profile: Profile,
     pub judge: Judge,
@@ -24,7 +27,7 @@ pub struct Tally {
 }
 
 // What is told of a frame. Frames and marks are counted from 1.
-#[derive(Drop)]
+#[derive(Clone, Copy)]
 pub enum News {
     Nothing,
     // A frame, its borders, and the mark of its last line.
@@ -36,7 +39,7 @@ pub enum News {
 }
 
 // A tally after an answer, and its news.
-#[derive(Drop)]
+#[derive(Clone, Copy)]
 pub struct Told {
     pub tally: Tally,
     pub news: News,

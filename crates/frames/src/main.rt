@@ -4,6 +4,9 @@
 // Read: the bytes of a capture of the sensor that the arguments name, from the file they name or from standard input. Written: their text, as
 // list_frames says it. Arguments that are not understood print the usage on standard error, and nothing else. An open, a read or a write that
 // fails is told once, on standard error, and ends the list: nothing is then said of the whole.
+
+#![tactic(auto)]
+
 use command_words::Asked;
 use libc::STDOUT_FILENO;
 use list_frames::FrameLister;
@@ -56,7 +59,7 @@ fn write_end(lister: FrameLister) {
 }
 
 // A lister, whether to go on, and whether a read or a write has failed.
-#[derive(Drop)]
+#[derive(Clone, Copy)]
 struct Turn {
     lister: FrameLister,
     more: bool,

@@ -2,6 +2,9 @@
 // mark'; 02, A7).
 //
 // In: the profile, what the mark before was, the text's length, and what is kept of it. Out: 8, 9 or the good gap. Cost: constant.
+
+#![tactic(auto)]
+
 ghost use Rattle.std.specs.Prelude.{◌≡◌, ℕ, ◌+◌, min};
 ghost use Rattle.std.proofs.Math.Option.{some};
 ghost use Rattle.period.specs.Period.{most_nibbles};

@@ -4,6 +4,9 @@
 // and of 80 to 143, each the sum divided by 64 with nothing lost; the two sums; and beside each the signed difference 64 times the sensor's
 // byte minus the sum, between -16,192 and 16,192. Nothing is judged. Refused, in this order: 11 no VV5300, 23 not a visible line, 15 the
 // body's length, 16 a body byte or a mean that is not allowed. Cost: linear in the body.
+
+#![tactic(auto)]
+
 ghost use Rattle.std.specs.Prelude.{◌≡◌, ◌≤◌, length};
 ghost use Rattle.half_means.specs.HalfMeans.{half_length, total, half_at, sixty_fourth, difference, values_of, beside_of, half_values};
 ghost use Rattle.profile.specs.Profile.{body_length};
@@ -13,21 +16,21 @@ use line_code::Kind;
 use profile::Profile;
 
 // The exact means of a line's two halves.
-#[derive(Drop)]
+#[derive(Clone, Copy)]
 pub struct Means {
     pub first: f64,
     pub second: f64,
 }
 
 // The sums that they are of.
-#[derive(Drop)]
+#[derive(Clone, Copy)]
 pub struct Sums {
     pub first: u16,
     pub second: u16,
 }
 
 // The means and the sums, then the first half's difference and the second's; or a refusal.
-#[derive(Drop)]
+#[derive(Clone, Copy)]
 pub enum Halves {
     Given(Means, Sums, i32, i32),
     Refused(u8),

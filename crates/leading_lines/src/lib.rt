@@ -3,6 +3,9 @@
 // In: the profile, and the kind number and number of each line handed out before a frame opened. Out: for each layout the place that is due next, if
 // the lines so far lie at places one after another, and a count of closing blank lines, whose numbers are free (paper 02, A3). Nothing is refused.
 // Cost: constant.
+
+#![tactic(auto)]
+
 ghost use Rattle.std.specs.Prelude.{◌≡◌, cond, ◌+◌};
 ghost use Rattle.leading_lines.specs.LeadingLines.{no_lines, first_place, next_place, most_closing, first_blanks, next_blanks, with_line, place_stands, is_run};
 
@@ -12,7 +15,7 @@ use profile::Profile;
 
 // Whether a line came; the place due next with borders on and with borders off, 0 where the lines fit no place; and how many closing blank lines
 // they may be, 0 where they are none.
-#[derive(Drop)]
+#[derive(Clone, Copy)]
 pub struct LeadingLines {
     pub seen: bool,
     pub on: u16,

@@ -1,5 +1,8 @@
 // What a call that fills a lent buffer from its front answers: the length used, or a refusal. specs/ says what either means for the buffer.
-#[derive(Drop)]
+
+#![tactic(auto)]
+
+#[derive(Clone, Copy)]
 pub enum Filled {
     Length(usize),
     Refused(u8),

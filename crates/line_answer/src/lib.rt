@@ -2,6 +2,9 @@
 //
 // In: the profile, the line's kind and its start code's repair, the text's length, what is kept of it, the body, and the next mark's code. Out: 4 to 7,
 // or the line. Cost: constant, but that the body is scanned where length and number are right.
+
+#![tactic(auto)]
+
 ghost use Rattle.std.specs.Prelude.{◌≡◌};
 ghost use Rattle.line_code.specs.LineCode.{reading_of};
 ghost use Rattle.stream.specs.Answers.{answer_for};

@@ -2,13 +2,16 @@
 //
 // In: the byte after a mark's F F F F 0 0. Out: how it reads: one of eight meanings, clean or with one of its eight bits repaired (and
 // which), or damaged. Every byte has a reading, so nothing is refused here. Cost: a few operations, no loop.
+
+#![tactic(auto)]
+
 ghost use Rattle.std.specs.Prelude.{◌≡◌, ◌%◌, ◌<◌};
 ghost use Rattle.line_code.specs.LineCode.{meaning_of, reserved_of, kind_meant, end_meant, clean_byte, reading_of, reading_numbered, repair_number, repair_numbered, kind_of, is_end, repair_of, is_bit, kind_number, kind_numbered};
 ghost use Rattle.line_code.specs.Parts.{entry_at, RowHolds};
 ghost use Rattle.line_code.specs.declared.Meaning.TheVariants.{Line};
 
 // The line kinds, numbered 1 to 5.
-#[derive(Drop)]
+#[derive(Clone, Copy)]
 pub enum Kind {
     BL,
     BK,
@@ -18,7 +21,7 @@ pub enum Kind {
 }
 
 // What a clean code byte says: codes 0 to 7.
-#[derive(Drop)]
+#[derive(Clone, Copy)]
 pub enum Meaning {
     EndOfLine,
     Line(Kind),
@@ -27,21 +30,21 @@ pub enum Meaning {
 }
 
 // What was repaired of a code: nothing, or the bit of this number, 0 to 7.
-#[derive(Drop)]
+#[derive(Clone, Copy)]
 pub enum Repair {
     Clean,
     Bit(u8),
 }
 
 // How a code byte reads.
-#[derive(Drop)]
+#[derive(Clone, Copy)]
 pub enum Reading {
     Says(Meaning, Repair),
     Damaged,
 }
 
 // A line kind, where there is one.
-#[derive(Drop)]
+#[derive(Clone, Copy)]
 pub enum LineKind {
     NotLine,
     LineOf(Kind),

@@ -3,6 +3,9 @@
 // In: a profile, a line's kind, and a place, a body or two gap bytes. Out: what the place may hold; whether the body has the profile's length and
 // each of its bytes is allowed at its place; whether the two bytes may follow the end of the line. Nothing is refused. Cost: constant, but for the
 // scan of a body, which is linear.
+
+#![tactic(auto)]
+
 ghost use Rattle.std.specs.Prelude.{◌≡◌, ◌≤◌, get_or};
 ghost use Rattle.line_code.specs.declared.Kind.TheVariants.{BK, SOF, EOF};
 ghost use Rattle.profile.specs.declared.Rule.TheVariants.{Filler};

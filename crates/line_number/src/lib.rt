@@ -2,18 +2,21 @@
 //
 // A number of 12 bits stands in two bytes, high six bits first: each byte is a 0, six bits, and a bit that makes its count of ones odd.
 // Refused: encoding a number above 4095; decoding a byte with top bit 1 or an even count of ones. Cost: constant.
+
+#![tactic(auto)]
+
 ghost use Rattle.std.specs.Prelude.{◌≡◌, ◌<◌};
 ghost use Rattle.line_number.specs.LineNumber.{number_byte, number_good, encode_of, decode_of};
 
 // Two number bytes, read.
-#[derive(Drop)]
+#[derive(Clone, Copy)]
 pub enum Decoded {
     Number(u16),
     Bad,
 }
 
 // A number's two bytes, or none.
-#[derive(Drop)]
+#[derive(Clone, Copy)]
 pub enum Encoded {
     Bytes(u8, u8),
     TooLarge,

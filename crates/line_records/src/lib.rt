@@ -4,6 +4,9 @@
 // In: a list, of any bytes and any length; a last line that is cut within its body has its kind and number all the same, one cut before has neither.
 // Out: whether its numbers rise strictly, whether they and its kinds are those of lines, and the number that it starts with, of its whole lines.
 // Nothing is refused. Cost: linear in the lines.
+
+#![tactic(auto)]
+
 ghost use Rattle.std.specs.Prelude.{◌≡◌, not, ◌≤◌, ◌<◌, length};
 ghost use Rattle.line_records.specs.Lines.{head_size, no_line, front_line, headed_lines, rises, numbers_small, kinds_known, line_end, Next};
 

@@ -1,1 +1,3 @@
 // Laws of a list of lines as it is lent (02, A13): no code.
+
+#![tactic(auto)]

@@ -3,6 +3,9 @@
 // Read: the bytes of a capture of the sensor that the arguments name, from the file they name or from standard input. Written: the names of the
 // columns, and the rows, as list_marks says them. Arguments that are not understood print the usage on standard error, and nothing else. An open,
 // a read or a write that fails is told once, on standard error, and ends the list.
+
+#![tactic(auto)]
+
 use command_words::Asked;
 use libc::STDOUT_FILENO;
 use list_marks::MarkLister;
@@ -72,7 +75,7 @@ fn write_end(lister: MarkLister) {
 }
 
 // A lister, whether to go on, and whether a read or a write has failed.
-#[derive(Drop)]
+#[derive(Clone, Copy)]
 struct Turn {
     lister: MarkLister,
     more: bool,

@@ -4,6 +4,9 @@
 // taken; finish at the end. Out: the lines on frames that are complete, broken or cut off, at the front of a lent buffer, and how many nibbles
 // were taken and bytes used. A piece is taken as far as the buffer has room for one line more. Nothing is refused. Cost: that of the reader's
 // runs, and linear in the text.
+
+#![tactic(auto)]
+
 ghost use Rattle.std.specs.Prelude.{◌≡◌, ◌+◌, ◌≤◌, length, drop};
 ghost use Rattle.stream.specs.Written.{nibbles};
 ghost use Rattle.verdict.specs.Verdict.{verdict_of};
@@ -19,14 +22,14 @@ use reader::Reader;
 use verdict::Verdict;
 
 // A reader, and what was found in its answers.
-#[derive(Drop)]
+#[derive(Clone, Copy)]
 pub struct FrameLister {
     pub reader: Reader,
     pub findings: Findings,
 }
 
 // A lister after a call, the nibbles it took, and the bytes of the buffer that it filled.
-#[derive(Drop)]
+#[derive(Clone, Copy)]
 pub struct FramesListed {
     pub lister: FrameLister,
     pub taken: usize,

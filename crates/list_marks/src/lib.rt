@@ -4,6 +4,9 @@
 // taken; finish at the end. Out: the rows of the marks that are answered, at the front of a lent buffer, and how many nibbles were taken and
 // bytes used. A piece is taken as far as the buffer has room for one row more. Nothing is refused. Cost: that of the reader's runs, and linear
 // in the text.
+
+#![tactic(auto)]
+
 ghost use Rattle.std.specs.Prelude.{◌≡◌, ◌+◌, ◌≤◌, length, drop};
 ghost use Rattle.stream.specs.Written.{nibbles};
 ghost use Rattle.list_rows.specs.Rows.{row_of, row_room};
@@ -16,14 +19,14 @@ use reader::Reader;
 use stream::Answer;
 
 // A reader, and the marks it has answered. The count stops at the greatest u64.
-#[derive(Drop)]
+#[derive(Clone, Copy)]
 pub struct MarkLister {
     pub reader: Reader,
     pub marks: u64,
 }
 
 // A lister after a call, the nibbles it took, and the bytes of the buffer that it filled.
-#[derive(Drop)]
+#[derive(Clone, Copy)]
 pub struct MarksListed {
     pub lister: MarkLister,
     pub taken: usize,

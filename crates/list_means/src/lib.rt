@@ -4,6 +4,9 @@
 // taken; finish at the end. Out: the rows, at the front of a lent buffer, and how many nibbles were taken and bytes used. A visible line has its
 // row when its gap is answered: a good gap holds the sensor's two means; one that is refused has a row that says so. A piece is taken as far as
 // the buffer has room for one row more. Nothing is refused. Cost: that of the reader's runs, and linear in the text.
+
+#![tactic(auto)]
+
 ghost use Rattle.std.specs.Prelude.{◌≡◌, ◌+◌, ◌≤◌, length, drop};
 ghost use Rattle.profile.specs.Profile.{longest};
 ghost use Rattle.stream.specs.Written.{nibbles};
@@ -19,7 +22,7 @@ use reader::Reader;
 use stream::{Answer, GapFacts};
 
 // A reader, the line buffer that it is lent, and what is awaited of its answers.
-#[derive(Drop)]
+#[derive(Clone, Copy)]
 pub struct MeanLister {
     pub reader: Reader,
     pub line: [u8; Profile::LONGEST],
@@ -27,7 +30,7 @@ pub struct MeanLister {
 }
 
 // A lister after a call, the nibbles it took, and the bytes of the buffer that it filled.
-#[derive(Drop)]
+#[derive(Clone, Copy)]
 pub struct MeansListed {
     pub lister: MeanLister,
     pub taken: usize,

@@ -2,6 +2,9 @@
 //
 // In: the tally's news of a frame. Out: the line's bytes at the front of the buffer, and how many they are. Nothing is refused: a buffer of fewer
 // than ROOM bytes stays as it was, and the count is 0. Cost: linear in the line.
+
+#![tactic(auto)]
+
 ghost use Rattle.std.specs.Prelude.{length};
 ghost use Rattle.text.specs.Put.{Puts, AtFront};
 ghost use Rattle.list_news.specs.NewsLines.{frame_words, borders_word, broken_line_words, reason_words, complete_line, broken_line_of, news_line, news_if_room};

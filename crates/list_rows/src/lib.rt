@@ -2,6 +2,9 @@
 //
 // In: the number of a mark and its answer. Out: the row's bytes at the front of the buffer, and how many they are. Nothing is refused:
 // a buffer of fewer than ROW bytes stays as it was, and the count is 0. Cost: linear in the row.
+
+#![tactic(auto)]
+
 ghost use Rattle.std.specs.Prelude.{length};
 ghost use Rattle.text.specs.Put.{Puts, AtFront};
 ghost use Rattle.list_rows.specs.Rows.{header_row, kind_word, note_word, gap_words, line_words, refused_words, row_with, row_of, row_if_room};

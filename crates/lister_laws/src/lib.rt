@@ -1,5 +1,8 @@
 // What the listers of a capture share (crates list_marks, list_frames and list_means): a text told nibble by nibble into lent buffers, laws of it,
 // and the test of whether a lister goes on. Cost: constant.
+
+#![tactic(auto)]
+
 ghost use Rattle.std.specs.Prelude.{◌≡◌, ◌&&◌, ◌/◌, leb, ltb};
 
 // Whether a nibble is left at a place of so many bytes, and room for the most that a text asks for.

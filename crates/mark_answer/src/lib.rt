@@ -3,6 +3,9 @@
 // In: an open mark with its text's length, what is kept of it, and the body; the next mark's code, or finish. Out: the mark's answer, 1 to 9, a good
 // gap or a line: of an end mark by crate gap_answer, of a line by crate line_answer. Cost: constant, but that a body is scanned where its line is
 // answered.
+
+#![tactic(auto)]
+
 ghost use Rattle.std.specs.Prelude.{◌≡◌, []};
 ghost use Rattle.std.proofs.Math.Option.{none, some};
 ghost use Rattle.line_code.specs.declared.Repair.{Repair};
@@ -17,7 +20,7 @@ use profile::Profile;
 use stream::{Answer, Before, Mark};
 
 // An open mark that the next one closes: its answer, and what it is to that one.
-#[derive(Drop)]
+#[derive(Clone, Copy)]
 pub struct Closed {
     pub answer: Answer,
     pub before: Before,

@@ -6,6 +6,9 @@
 // `end_piece` ends it; `finish` answers the last mark. Out: the mark that is answered, whose bytes stand at the front of the buffer, as many as it has
 // room for: from the byte that it begins in through the byte in which the next mark's code ends. Nothing else is refused: a reader that fails its
 // own test is answered 11, and then nothing is taken. Cost: that of the reader's runs, and linear in the bytes kept.
+
+#![tactic(auto)]
+
 ghost use Rattle.std.specs.Prelude.{◌≡◌, ◌+◌, ◌-◌, min, length};
 ghost use Rattle.reader.specs.Reader.{finish_of};
 ghost use Rattle.stream.specs.Answers.{answer_for};
@@ -19,7 +22,7 @@ use stream::{Answer, Before, Mark};
 use text::put;
 
 // A mark of a capture.
-#[derive(Drop)]
+#[derive(Clone, Copy)]
 pub struct Located {
     pub profile: Profile,
     // The number of the kind of the mark before it, 0 for none.
@@ -36,7 +39,7 @@ pub struct Located {
 // A reader, and the open mark: its number; the place of the byte that it begins in, the bytes of FRONT counted with the capture's; whether it
 // begins at the low nibble. The place of the piece's first byte, counted so. The place in the piece from which the mark's bytes are still to be
 // kept, and how many are kept.
-#[derive(Drop)]
+#[derive(Clone, Copy)]
 pub struct Finder {
     pub reader: Reader,
     pub number: u64,
@@ -48,7 +51,7 @@ pub struct Finder {
 }
 
 // A finder after a call, how many nibbles it took, whether a mark is answered, and that mark, with how many of its bytes are kept.
-#[derive(Drop)]
+#[derive(Clone, Copy)]
 pub struct FoundMark {
     pub finder: Finder,
     pub taken: usize,

@@ -2,6 +2,9 @@
 //
 // In: the nibbles of a text one after another, numbered from its code's first, 0. Out: the two bytes after the code, whether a nibble where a
 // gap has nothing but F was another, and the body, in a lent buffer. Cost: constant for a nibble.
+
+#![tactic(auto)]
+
 ghost use Rattle.std.specs.Prelude.{◌≡◌, ◌+◌, ◌*◌, ◌/◌, ◌%◌, ◌<◌};
 ghost use Rattle.mark_text.specs.MarkText.{nothing_kept, byte_at, stray_at, kept_at, body_at};
 
@@ -9,7 +12,7 @@ use profile::Profile;
 
 // What is kept of a text besides the body: the two bytes after the code (a line's number, or a gap's bytes), and whether a nibble where
 // a gap has nothing but F was another.
-#[derive(Drop)]
+#[derive(Clone, Copy)]
 pub struct Kept {
     pub first: u8,
     pub second: u8,

@@ -1,6 +1,9 @@
 // What is awaited of a VV5300 reader's answers for a row of half-line means (paper 02, A10): a visible line, then its gap.
 //
 // In: what is awaited, and the answer of a call. Out: what is awaited then. Nothing is refused. Cost: constant.
+
+#![tactic(auto)]
+
 ghost use Rattle.std.specs.Prelude.{◌≡◌};
 ghost use Rattle.mean_gap.specs.AwaitedGap.{after_line, awaits_after};
 
@@ -8,7 +11,7 @@ use line_code::Kind;
 use stream::{Answer, LineFacts};
 
 // What is awaited: a visible line; or the gap of the visible line with this number.
-#[derive(Drop)]
+#[derive(Clone, Copy)]
 pub enum Awaits {
     Line,
     Gap(u16),

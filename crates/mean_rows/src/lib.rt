@@ -4,6 +4,9 @@
 // it: `47 128 126 127.984375 126.015625 1 -1`, the number, the sensor's means, the exact means in decimal, and the differences, 64 times the
 // sensor's mean minus the sum. A refusal has the row `47 refused: 9, bad gap`. Nothing is refused: where the buffer ends before the row does,
 // the rest of the row is left out. Cost: linear in the row.
+
+#![tactic(auto)]
+
 ghost use Rattle.text.specs.Put.{Puts};
 ghost use Rattle.half_means.specs.HalfMeans.{difference};
 ghost use Rattle.mean_rows.specs.MeanRows.{places, signed, means_header, mean_text, start_words, means_words, differences_words, given_row, gap_refusal_words, refused_row, means_row};

@@ -2,6 +2,9 @@
 // visible line, as list_means says it. A capture without one has the names of the columns alone, and a line on standard error says so.
 // Arguments that are not understood print the usage on standard error, and nothing else. An open, a read or a write that fails is told once,
 // on standard error, and ends the table.
+
+#![tactic(auto)]
+
 use command_words::Asked;
 use libc::STDOUT_FILENO;
 use list_means::MeanLister;
@@ -95,7 +98,7 @@ fn write_end(lister: MeanLister, rows: bool) {
 }
 
 // A lister, whether a row has come, whether to go on, and whether a read or a write has failed.
-#[derive(Drop)]
+#[derive(Clone, Copy)]
 struct Turn {
     lister: MeanLister,
     rows: bool,

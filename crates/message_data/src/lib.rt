@@ -3,6 +3,9 @@
 // In: the increment flag, the index that the first byte stands at, and the data; the 128 registers where they are asked for. Out: whether a byte
 // would stand past the last index; the index left; the registers with the data stored; whether a byte read differs. Nothing is refused: these are
 // total, of any index. Cost: linear in the data.
+
+#![tactic(auto)]
+
 ghost use Rattle.std.specs.Prelude.{◌≡◌, false, ◌≤◌};
 ghost use Rattle.message_data.specs.Registers.{last_index, next, runs_past, reached, left, put, stored, stored_whole, differs, some_differs};
 

@@ -2,6 +2,9 @@
 //
 // In: a line, and a place of it. Out: whether its first word is a name; the value after a name of a length; the number that it is from a place on.
 // Nothing is refused: a number that is missing, or above 65,535, is 65,536. Cost: linear in the line.
+
+#![tactic(auto)]
+
 ghost use Rattle.std.specs.Prelude.{◌≡◌, drop};
 ghost use Rattle.named_value.specs.Number.{is_blank, past_blanks, ends_word, first_word_is, digit_onto, number_in, value_in};
 

@@ -1,25 +1,28 @@
 // Line periods (paper 02, A7). Nibble counts and pixel periods are separate units; one period is two nibbles, and an odd count of nibbles is
 // no whole period. Cost: constant.
+
+#![tactic(auto)]
+
 ghost use Rattle.std.specs.Prelude.{◌≡◌};
 ghost use Rattle.period.specs.Period.{periods_in, whole_of, frames_in, rate_of};
 
 // A count of nibbles, held at 65,535.
-#[derive(Drop)]
+#[derive(Clone, Copy)]
 pub struct Nibbles(pub u16);
 
 // A count of pixel periods.
-#[derive(Drop)]
+#[derive(Clone, Copy)]
 pub struct Periods(pub u16);
 
 // A count of nibbles in periods: an odd one is none.
-#[derive(Drop)]
+#[derive(Clone, Copy)]
 pub enum WholePeriods {
     Of(Periods),
     Odd,
 }
 
 // The frames a second that a line period is named after.
-#[derive(Drop)]
+#[derive(Clone, Copy)]
 pub enum Rate {
     Thirty,
     TwentyFive,

@@ -2,6 +2,9 @@
 //
 // In: the profile, and the period of each good gap, in nibbles (paper 02, A7); 0 is none. Out: the counts. Nothing is refused; a count stops at
 // the greatest u64. Cost: constant.
+
+#![tactic(auto)]
+
 ghost use Rattle.std.specs.Prelude.{◌≡◌, cond};
 ghost use Rattle.counts.specs.Counts.{one_more};
 ghost use Rattle.period_faults.specs.PeriodFaults.{most_period, is_odd, is_long, no_faults, with_period};
@@ -11,7 +14,7 @@ use period::Nibbles;
 use profile::Profile;
 
 // How many periods are odd, and how many are too long.
-#[derive(Drop)]
+#[derive(Clone, Copy)]
 pub struct PeriodFaults {
     pub odd: u64,
     pub long: u64,

@@ -4,6 +4,9 @@
 // with borders off. Its file is a header of 15 bytes, `P5`, newline, `356 292` or `356 288`, newline, `255`, newline, then the pixels.
 // `write` makes the file of rows, `read` the rows of a file; each into a lent buffer, and the answer is the length used. Refused, in this
 // order, and then nothing is written: 20 header (reading only), 21 length of rows or file, 22 pixel not 01 to FE, 12 room. Cost: linear.
+
+#![tactic(auto)]
+
 ghost use Rattle.std.specs.Prelude.{◌≡◌, ◌≤◌, ◌%◌, length};
 ghost use Rattle.text.specs.Text.{digit};
 ghost use Rattle.lent_buffer.specs.Filled.{Gives};

@@ -2,6 +2,9 @@
 // input, and writes the picture as a PGM file, to standard output or to the file after -o. With the word odd-pixels-first each row is put in
 // order, for heads that send odd pixels first. Where no frame is complete or the picture can't be written whole an older file stays as it was,
 // and a line on standard error says so. No picture goes to a terminal. The frame's rows are kept, and no more of the capture.
+
+#![tactic(auto)]
+
 use command_words::{Asked, Usage};
 use frame_row::{Keeping, Order};
 use lent_buffer::Filled;

@@ -2,7 +2,10 @@
 // writes and reads it is `pgm`.
 
 // The two formats of a picture: a frame's visible lines with borders on, and plain, with borders off.
-#[derive(Drop)]
+
+#![tactic(auto)]
+
+#[derive(Clone, Copy)]
 pub enum Format {
     Bordered,
     Plain,

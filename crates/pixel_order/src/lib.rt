@@ -4,6 +4,9 @@
 // of the pixels: body place j below 178 holds pixel 2j + 1, place 178 + j holds pixel 2j. Each way undoes the other. The answer is the length
 // used, 356; room beyond it stays. Refused, in this order, and then nothing is written: 23 not a visible line, 15 length of what is given,
 // 12 room. The bytes themselves are not judged. Cost: linear.
+
+#![tactic(auto)]
+
 ghost use Rattle.std.specs.Prelude.{◌≡◌, ◌++◌, ◌<◌, ◌≤◌, length, drop};
 ghost use Rattle.profile.specs.Profile.{width};
 ghost use Rattle.lent_buffer.specs.Filled.{Gives};
@@ -15,7 +18,7 @@ use line_code::Kind;
 use profile::Profile;
 
 // Which way a line goes: from its body to its pixels, or back.
-#[derive(Drop)]
+#[derive(Clone, Copy)]
 pub enum Way {
     ToPixels,
     ToBody,

@@ -2,26 +2,29 @@
 //
 // A profile gives its lengths and its filler byte; crate `line_layout` says by it what a line may hold. A number other than 0 or 1 is no profile. What
 // a place of a body may hold is a rule, and a rule says which bytes those are. Cost: constant.
+
+#![tactic(auto)]
+
 ghost use Rattle.std.specs.Prelude.{◌≡◌};
 ghost use Rattle.profile.specs.Profile.{profile_numbered, body_length, image_start, image_length, gap_start};
 ghost use Rattle.profile.specs.Layout.{is_pixel, allows};
 
 // Profile 0 is the VV5404 and VV6404 sensor, profile 1 the VV5300 in 8-bit conversion.
-#[derive(Drop)]
+#[derive(Clone, Copy)]
 pub enum Profile {
     VV5404,
     VV5300,
 }
 
 // A profile, where a number has one.
-#[derive(Drop)]
+#[derive(Clone, Copy)]
 pub enum Numbered {
     Profile(Profile),
     NoProfile,
 }
 
 // What a place of a body may hold: the filler byte, 01 to FE, or any byte.
-#[derive(Drop)]
+#[derive(Clone, Copy)]
 pub enum Rule {
     Filler,
     Pixel,

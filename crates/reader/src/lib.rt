@@ -4,6 +4,9 @@
 // when the next mark's code is complete or at finish: a line (its body is then the front of the lent buffer), a good gap, or a refusal.
 // Refused, with reader and buffer as before: 11 a state that fails the reader's own test, 10 an input above 15, 12 a buffer shorter than
 // the body. Cost: constant for a nibble; a body is scanned and copied only where a line is answered.
+
+#![tactic(auto)]
+
 ghost use Rattle.std.specs.Prelude.{◌≡◌, ◌≤◌, ◌-◌, ◌%◌, length};
 ghost use Rattle.profile.specs.Profile.{body_length, longest};
 ghost use Rattle.stream.specs.Answers.{outcome_of, answer_for, buffer_after, refused};
@@ -17,21 +20,21 @@ use reader_head::{Head, WINDOW, flush, is_mark, leave_body, leave_kept, open_aft
 use stream::{Answer, Mark};
 
 // A reader: what it keeps goes in and comes back by value.
-#[derive(Drop)]
+#[derive(Clone, Copy)]
 pub struct Reader {
     pub head: Head,
     pub body: [u8; Profile::LONGEST],
 }
 
 // A reader after a call, and the call's answer.
-#[derive(Drop)]
+#[derive(Clone, Copy)]
 pub struct Fed {
     pub reader: Reader,
     pub answer: Answer,
 }
 
 // A reader's state after a nibble, but for the body, and the answer.
-#[derive(Drop)]
+#[derive(Clone, Copy)]
 pub struct Stepped {
     pub head: Head,
     pub answer: Answer,

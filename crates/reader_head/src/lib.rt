@@ -2,6 +2,9 @@
 //
 // A text's eight newest nibbles wait in a window; each nibble pushes the oldest out, which is then kept by its place in the text. The reader's own
 // test (11) looks at this state alone. Cost: constant for a nibble. An input above 15 counts by its low four bits.
+
+#![tactic(auto)]
+
 ghost use Rattle.std.specs.Prelude.{◌≡◌, ◌≤◌, ◌<◌, ◌/◌, ◌%◌};
 ghost use Rattle.stream.specs.declared.Before.{Before};
 ghost use Rattle.stream.specs.declared.Mark.TheVariants.{NoMark, Open};
@@ -13,7 +16,7 @@ use profile::Profile;
 use stream::{Before, Mark};
 
 // All of a reader's state but the body.
-#[derive(Drop)]
+#[derive(Clone, Copy)]
 pub struct Head {
     pub profile: Profile,
     // The open mark.

@@ -5,6 +5,9 @@
 // such technician; opening: 11 no such profile, 33 no place free; the others: 34 no such place, or it is free or another's, which are told
 // alike; then what the reader itself refuses. Finish leaves the place to its technician, and close answers no mark. Cost: the reader's own call,
 // and a few copies of the table, 3 kB: feed runs of nibbles rather than single ones.
+
+#![tactic(auto)]
+
 ghost use Rattle.std.specs.Prelude.{◌≡◌};
 ghost use Rattle.stream.specs.Answers.{refused, answer_for};
 ghost use Rattle.recovery.specs.Calls.{feed, done};
@@ -20,41 +23,41 @@ use stream::Answer;
 pub const PLACES: usize = 8;
 
 // A place of the table: whose it is, 0 where it is free, and its reader.
-#[derive(Drop)]
+#[derive(Clone, Copy)]
 pub struct TablePlace {
     pub owner: u8,
     pub reader: Reader,
 }
 
 // All places.
-#[derive(Drop)]
+#[derive(Clone, Copy)]
 pub struct ReaderTable {
     pub places: [TablePlace; PLACES],
 }
 
 // What an opening is answered: the place, or a refusal number.
-#[derive(Drop)]
+#[derive(Clone, Copy)]
 pub enum Opening {
     At(usize),
     Refused(u8),
 }
 
 // A table after an opening, and its answer.
-#[derive(Drop)]
+#[derive(Clone, Copy)]
 pub struct TableOpened {
     pub table: ReaderTable,
     pub answer: Opening,
 }
 
 // A table after a call, and its answer; a close that is not refused answers nothing.
-#[derive(Drop)]
+#[derive(Clone, Copy)]
 pub struct TableFed {
     pub table: ReaderTable,
     pub answer: Answer,
 }
 
 // A table after a run of nibbles, the run's answer, and how many nibbles it took.
-#[derive(Drop)]
+#[derive(Clone, Copy)]
 pub struct TableRunFed {
     pub table: ReaderTable,
     pub answer: Answer,

@@ -4,6 +4,9 @@
 // mark and goes on through the next mark's code or to finish. Out: the reason of the first mark's answer. Refused, in this order: 11 no
 // such profile, 13 a kind above 5, 10 an input above 15 anywhere in the run, 36 a run that doesn't begin with a mark.
 // Cost: linear in the run, which is not copied.
+
+#![tactic(auto)]
+
 ghost use Rattle.std.specs.Prelude.{◌≡◌, true, ◌+◌, ◌*◌, ◌<◌, ◌≤◌, length, drop};
 ghost use Rattle.stream.specs.Answers.{line_nibbles};
 ghost use Rattle.stream.specs.Nibbles.{nibbles_only};
@@ -15,7 +18,7 @@ use line_code::{Kind, LineKind, Meaning, Reading};
 use profile::{Numbered, Profile, Rule};
 
 // The parity sums of a code byte that fail: an odd count of ones.
-#[derive(Drop)]
+#[derive(Clone, Copy)]
 pub struct FailedSums {
     // C2 C1 C0 P0
     pub p0: bool,
@@ -28,14 +31,14 @@ pub struct FailedSums {
 }
 
 // The code of the mark that follows, if one does.
-#[derive(Drop)]
+#[derive(Clone, Copy)]
 pub enum Next {
     Finish,
     Code(u8),
 }
 
 // Why a mark is answered as it is.
-#[derive(Drop)]
+#[derive(Clone, Copy)]
 pub enum Reason {
     GoodLine,
     GoodGap,

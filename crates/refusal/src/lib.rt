@@ -1,6 +1,9 @@
 // The numbers of refusals (paper 01's table, and what 02 adds to it), each under its name. specs/Refusal.antt has the same names for the definitions.
 
 // A mark's answer, 1 to 9.
+
+#![tactic(auto)]
+
 pub const DAMAGED_CODE: u8 = 1;
 
 pub const RESERVED_CODE: u8 = 2;

@@ -7,6 +7,9 @@
 // - A message in hex (crate two_wire_text) is read against the state: `WRITE 32 1 ok`, `REFUSED 27, read data differs`.
 // - Any other line is refused, and told with its number and why: `line 3: coarse takes 0 to 302`.
 // Cost: linear in the line.
+
+#![tactic(auto)]
+
 ghost use Rattle.std.specs.Prelude.{◌≡◌, cond, take};
 ghost use Rattle.text.specs.Put.{Puts};
 ghost use Rattle.typed_setting.specs.declared.Setting.TheVariants.{Unknown};
@@ -22,7 +25,7 @@ use two_wire_text::put_message;
 use typed_setting::Setting;
 
 // What a line gives: the sensor's state after it, the length of its text, and whether it is refused.
-#[derive(Drop)]
+#[derive(Clone, Copy)]
 pub struct Reply {
     pub sensor: Sensor,
     pub length: usize,

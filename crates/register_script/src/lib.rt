@@ -5,6 +5,9 @@
 // stands. Blanks (spaces, tabs, carriage returns) before the first word are left out, and those between two words count as one space. A line
 // that fills the buffer that keeps it is refused, and told with its number: `line 3: 4096 characters or more`.
 // Cost: constant for a character, linear in the line at its end.
+
+#![tactic(auto)]
+
 ghost use Rattle.std.specs.Prelude.{◌≡◌};
 ghost use Rattle.register_script.specs.Script.{start, place_of, line_after, RepliesLine, Appends, KeepsBlank, KeepsCharacter, Feeds};
 
@@ -13,7 +16,7 @@ use register_line::Reply;
 use two_wire::Sensor;
 
 // Where a script stands: the sensor that it is for and its state, the number of the line, and how many of its characters are kept.
-#[derive(Drop)]
+#[derive(Clone, Copy)]
 pub struct Script {
     pub profile: Profile,
     pub sensor: Sensor,
@@ -22,7 +25,7 @@ pub struct Script {
 }
 
 // Where a script stands after a character, the length of the text, and whether that tells why a line is refused.
-#[derive(Drop)]
+#[derive(Clone, Copy)]
 pub struct ScriptFed {
     pub script: Script,
     pub length: usize,

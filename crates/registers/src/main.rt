@@ -2,6 +2,9 @@
 // (crate register_script). Messages are read one after another against the state of one sensor, fresh at the start.
 // The sensor is the VV5404, or the VV5300 where an argument names it. Standard output has messages, and what is told of captured ones; a line
 // that is refused is told on standard error, where no bus takes it for a message. A failed read or write is told there too, and ends the run.
+
+#![tactic(auto)]
+
 use command_words::Asked;
 use libc::STDOUT_FILENO;
 use profile::Profile;
@@ -36,7 +39,7 @@ fn read_asked(asked: Asked) {
 }
 
 // Where the script stands, and whether to read on.
-#[derive(Drop)]
+#[derive(Clone, Copy)]
 struct Turn {
     script: Script,
     more: bool,

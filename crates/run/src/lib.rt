@@ -6,6 +6,9 @@
 //
 // Where no mark can end in the next two nibbles they are taken in one turn (crate run_ahead); every other nibble is taken as feeding takes it. Cost:
 // linear in the nibbles taken.
+
+#![tactic(auto)]
+
 ghost use Rattle.std.specs.Prelude.{◌≡◌, ◌≤◌, ◌<◌, length};
 ghost use Rattle.profile.specs.Profile.{body_length, longest};
 ghost use Rattle.stream.specs.Answers.{answer_for, refused};
@@ -21,7 +24,7 @@ use reader_head::Head;
 use stream::Answer;
 
 // A reader after a run of nibbles, the run's answer, and how many nibbles it took.
-#[derive(Drop)]
+#[derive(Clone, Copy)]
 pub struct RunFed {
     pub reader: Reader,
     pub answer: Answer,
@@ -29,7 +32,7 @@ pub struct RunFed {
 }
 
 // The same of a reader whose body is lent.
-#[derive(Drop)]
+#[derive(Clone, Copy)]
 pub struct RunStepped {
     pub head: Head,
     pub answer: Answer,

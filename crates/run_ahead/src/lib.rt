@@ -11,6 +11,9 @@
 // The window is the run's own last eight nibbles, once so many are taken. Then 32 nibbles are tested at once, in loops that go to their end and so are
 // vectorised: where none of their windows shows a mark, what leaves the window is packed into the body, and the window made anew from the last eight.
 // Beside pairs alone, a long body takes about a third of the time, and what stands past it as well. Cost: linear in the nibbles taken.
+
+#![tactic(auto)]
+
 ghost use Rattle.std.specs.Prelude.{◌≡◌, List, ◌⊎◌, true, false, ℕ, ◌≤◌, ◌<◌, ◌+◌, ◌*◌, ◌/◌, ◌%◌, length, get_or};
 ghost use Rattle.profile.specs.Profile.{longest};
 ghost use Rattle.run_ahead.specs.Ahead.{past_body, is_near, ahead_of, AheadGives};
@@ -23,7 +26,7 @@ use profile::Profile;
 use reader_head::Head;
 
 // A head after some nibbles of a run, and the place of the next.
-#[derive(Drop)]
+#[derive(Clone, Copy)]
 pub struct Reached {
     pub head: Head,
     pub at: usize,

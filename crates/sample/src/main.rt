@@ -1,4 +1,7 @@
 // Writes the sample capture: one whole profile 0 frame with borders on, each line with 25 null bytes, as bytes of an 8-wire bus.
+
+#![tactic(auto)]
+
 use lent_buffer::Filled;
 use libc::STDOUT_FILENO;
 use line_code::Kind;

@@ -2,6 +2,9 @@
 //
 // In, out and refused as in crate `saved_lent`, whose functions are lent the list here: a caller that lends one needs a proof by hand. The list
 // after a call is part of what it gives.
+
+#![tactic(auto)]
+
 ghost use Rattle.std.specs.Prelude.{◌≡◌};
 ghost use Rattle.saved_setting.specs.SavedSettings.{held_reply, saved_wanted, found_in, saved_again, Leaves};
 

@@ -4,6 +4,9 @@
 // version, or the setting found. Refused, in this order, and the list is unchanged: 37 the list is not eight long or not ordered as said, 29 gain,
 // divisor or a frame rate other than 25 or 30, 30 version not held (0 never is), 31 no version number left.
 // Each function copies the eight places, leaves the work to its namesake of crate `saved_places`, and stores what that gives.
+
+#![tactic(auto)]
+
 ghost use Rattle.std.specs.Prelude.{◌≡◌};
 ghost use Rattle.saved_setting.specs.SavedSettings.{held_reply, saved_wanted, found_in, saved_again, Leaves};
 

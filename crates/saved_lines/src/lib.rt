@@ -4,6 +4,9 @@
 //
 // In: a list, a setting, or a name and a number, and a place of a lent buffer. Out: its text there, as far as there is room, and the place after it.
 // Nothing is refused. Crate `saved_text` reads such a text. Cost: linear in the text.
+
+#![tactic(auto)]
+
 ghost use Rattle.text.specs.Put.{Puts};
 ghost use Rattle.saved_lines.specs.SavedLines.{field, setting_line, place_line, settings_text};
 

@@ -3,6 +3,9 @@
 // In: the eight places, the used ones first, oldest first, and a setting that is wanted or a version. Out: what is answered, and the places
 // afterwards. Refused, in this order, the places unchanged: 37 not in order, 29 gain, divisor or frame rate, 30 version not held, 31 no version
 // number left. Crate `saved_lent` has the same over a lent list. Cost: constant.
+
+#![tactic(auto)]
+
 ghost use Rattle.std.specs.Prelude.{◌≡◌};
 ghost use Rattle.saved_setting.specs.declared.Saved.TheVariants.{Refused};
 ghost use Rattle.saved_setting.specs.SavedSettings.{held_reply, saved_next, saved_wanted, found_in, saved_again, places_of, Leaves};

@@ -1,4 +1,7 @@
 // A saved setting as writes of a VV5404's or VV6404's registers (004, Table 8; 02, A6 and A11).
+
+#![tactic(auto)]
+
 ghost use Rattle.std.specs.Prelude.{◌≡◌};
 ghost use Rattle.saved_registers.specs.SettingRegisters.{setting_pairs};
 

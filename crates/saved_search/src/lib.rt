@@ -2,6 +2,9 @@
 //
 // In: the eight places, in any order of versions. Out: whether they are in order, the newest version, the setting under a version, the places with a
 // setting more. Nothing is refused, but that a version is not held: 30. Cost: constant.
+
+#![tactic(auto)]
+
 ghost use Rattle.std.specs.Prelude.{◌≡◌, ◌&&◌, [], ◌∷◌};
 ghost use Rattle.saved_setting.specs.SavedSettings.{held_reply, may_follow, versions_in_order, later_version, newest_version, held_here, look_up, saved_into, places_of};
 

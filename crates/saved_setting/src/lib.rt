@@ -2,6 +2,9 @@
 //
 // In: a setting that is wanted, or one that is saved. Out: whether it may be saved, what is saved of it, the same under another version. Nothing is
 // refused: crate `saved_places` answers what is asked of eight places, `saved_lent` of a lent list. Cost: constant.
+
+#![tactic(auto)]
+
 ghost use Rattle.std.specs.Prelude.{◌≡◌};
 ghost use Rattle.saved_setting.specs.SavedSettings.{is_allowed, lesser, clipped, renumbered};
 
@@ -9,7 +12,7 @@ ghost use Rattle.saved_setting.specs.SavedSettings.{is_allowed, lesser, clipped,
 pub const PLACES: usize = 8;
 
 // A saved setting. Version 0 marks an unused place, whose other fields say nothing.
-#[derive(Drop)]
+#[derive(Clone, Copy)]
 pub struct SavedSetting {
     pub version: u16,
     pub fine: u16,
@@ -19,7 +22,7 @@ pub struct SavedSetting {
 }
 
 // A setting that is to be saved, for a frame rate.
-#[derive(Drop)]
+#[derive(Clone, Copy)]
 pub struct Wanted {
     pub fine: u16,
     pub coarse: u16,
@@ -29,28 +32,28 @@ pub struct Wanted {
 }
 
 // What saving is answered, and going back: the new version.
-#[derive(Drop)]
+#[derive(Clone, Copy)]
 pub enum Saved {
     Version(u16),
     Refused(u8),
 }
 
 // What is found under a version.
-#[derive(Drop)]
+#[derive(Clone, Copy)]
 pub enum Held {
     Setting(SavedSetting),
     Refused(u8),
 }
 
 // The answer, and the list after it.
-#[derive(Drop)]
+#[derive(Clone, Copy)]
 pub struct SavedList {
     pub answer: Saved,
     pub list: [SavedSetting; PLACES],
 }
 
 // The eight places, oldest first.
-#[derive(Drop)]
+#[derive(Clone, Copy)]
 pub struct EightPlaces {
     pub a: SavedSetting,
     pub b: SavedSetting,
@@ -63,7 +66,7 @@ pub struct EightPlaces {
 }
 
 // The answer, and the eight places after it.
-#[derive(Drop)]
+#[derive(Clone, Copy)]
 pub struct SavedPlaces {
     pub answer: Saved,
     pub places: EightPlaces,

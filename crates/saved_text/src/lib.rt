@@ -3,6 +3,9 @@
 // In: a text, of any bytes. Out: the list whose text it is; carriage returns don't count, and the last newline may be missing. Any other text is
 // refused with 37 NOT_SAVED_SETTINGS: the numbers of its lines are gathered, and their list's text is compared with it. So a number that is too
 // large or has a digit too many, a ninth line, a line for an unused place and a wrong word are refused by one test. Cost: linear in the text.
+
+#![tactic(auto)]
+
 ghost use Rattle.std.specs.Prelude.{◌≡◌, ◌≤◌, drop};
 ghost use Rattle.saved_setting.specs.SavedSettings.{is_saved_list};
 ghost use Rattle.saved_lines.specs.SavedLines.{settings_text};
@@ -19,14 +22,14 @@ const PLACES: usize = 8;
 const LONGEST: usize = 1136;
 
 // What a text is read as: the list of its numbers, and whether the text is that list's. Where it is not, it is to be refused with 37.
-#[derive(Drop)]
+#[derive(Clone, Copy)]
 pub struct Restored {
     pub list: [SavedSetting; 8],
     pub valid: bool,
 }
 
 // The numbers of a line, in the order of its text (open to other crates for the laws alone).
-#[derive(Drop)]
+#[derive(Clone, Copy)]
 pub enum FieldName {
     Version,
     Fine,
@@ -36,7 +39,7 @@ pub enum FieldName {
 }
 
 // The five numbers of a line, and the name of the one that is being read.
-#[derive(Drop)]
+#[derive(Clone, Copy)]
 struct Fields {
     version: u16,
     fine: u16,
@@ -47,7 +50,7 @@ struct Fields {
 }
 
 // The settings of the lines so far, how many they are, and the numbers of the line that stands open.
-#[derive(Drop)]
+#[derive(Clone, Copy)]
 struct LinesGathered {
     list: [SavedSetting; 8],
     count: usize,

@@ -1,1 +1,3 @@
 // Laws of the text of saved settings (02, A11): no code.
+
+#![tactic(auto)]

@@ -5,6 +5,9 @@
 // What a request does to the file's text, and what is said of it, is crate settings_request's. Standard output has what was saved, found or listed,
 // or the messages to send; a refusal goes to standard error, and the file is left alone. A file that does not exist holds no settings yet: `save` makes
 // it. A new list is written to FILE.new, which then takes the file's name, so that the file is replaced whole or not at all.
+
+#![tactic(auto)]
+
 use libc::STDOUT_FILENO;
 use settings_request::Request;
 use settings_typed::{NumberWords, TypedRequest};
@@ -137,7 +140,7 @@ fn makes_file(request: Request) -> bool {
 }
 
 // How many bytes a file has; or a failure, which has been told.
-#[derive(Drop)]
+#[derive(Clone, Copy)]
 struct Contents {
     length: usize,
     failed: bool,

@@ -1,6 +1,9 @@
 // What is said of saved settings (paper 02, A11): what was clipped, why a request is refused, and the messages that set a sensor so.
 //
 // In: a setting that was wanted, a refusal, or a saved setting. Out: its text, put into a lent buffer as far as there is room. Cost: constant.
+
+#![tactic(auto)]
+
 ghost use Rattle.text.specs.Put.{Puts};
 ghost use Rattle.settings_replies.specs.SettingsWords.{fine_note, coarse_note, notes, settings_refusal, refused_request, writes_of};
 

@@ -3,6 +3,9 @@
 // In: a request, and the text of a list (crate saved_text). Out: the text of the list afterwards, and what is said of the request, each put at the
 // front of a lent buffer as far as there is room; whether the list is another; and whether the request is refused. A text that is no list's is
 // refused with 37, and nothing is put for it; for the others see crate saved_lent. What was clipped on saving is said. Cost: linear in the text.
+
+#![tactic(auto)]
+
 ghost use Rattle.text.specs.Put.{Puts};
 ghost use Rattle.saved_setting.specs.SavedSettings.{found_in};
 ghost use Rattle.settings_request.specs.declared.Request.TheVariants.{Save, Find, Back, ListAll, Messages};
@@ -15,7 +18,7 @@ use settings_replies::{put_notes, put_refusal, put_writes};
 use text::put;
 
 // What is asked for, of a version where it needs one.
-#[derive(Drop)]
+#[derive(Clone, Copy)]
 pub enum Request {
     Save(Wanted),
     Find(u16),
@@ -25,7 +28,7 @@ pub enum Request {
 }
 
 // The list afterwards, the length of what is said, whether the list is another, and whether the request is refused.
-#[derive(Drop)]
+#[derive(Clone, Copy)]
 pub struct Response {
     pub list: [SavedSetting; 8],
     pub said: usize,
@@ -34,7 +37,7 @@ pub struct Response {
 }
 
 // The length of the list's text afterwards, and of what is said; and as above.
-#[derive(Drop)]
+#[derive(Clone, Copy)]
 pub struct Served {
     pub file: usize,
     pub said: usize,

@@ -4,6 +4,9 @@
 //
 // In: the verb, and how many words follow it, with the numbers that they are; a word that is no number up to 65,535 stands for 65,536 (crate
 // setting). Out: the request, and whether the words are understood. Cost: linear in the verb.
+
+#![tactic(auto)]
+
 ghost use Rattle.std.specs.Prelude.{◌≡◌};
 ghost use Rattle.settings_typed.specs.RequestWords.{up_to, wanted_in, are_five, is_one, other_asked, asked_in};
 
@@ -15,7 +18,7 @@ use settings_request::Request;
 const GREATEST: u32 = 65535;
 
 // How many words follow the verb, and the first five of them as numbers.
-#[derive(Drop)]
+#[derive(Clone, Copy)]
 pub struct NumberWords {
     pub count: usize,
     pub first: u32,
@@ -26,7 +29,7 @@ pub struct NumberWords {
 }
 
 // What is asked for, and whether the words are understood.
-#[derive(Drop)]
+#[derive(Clone, Copy)]
 pub struct TypedRequest {
     pub request: Request,
     pub understood: bool,

@@ -2,6 +2,9 @@
 //
 // In: the signal's counts, a lent buffer and a place in it. Out: the lines there, and the place after them. A count that is 0 has no line. Nothing is
 // refused: where the buffer ends before the lines do, the rest is left out. Cost: linear in the lines.
+
+#![tactic(auto)]
+
 ghost use Rattle.text.specs.Put.{Puts};
 ghost use Rattle.signal_report.specs.SignalReport.{count_line, numbered_line, refused_count, refused_codes, broken_lines, refused_ends, refused_lines, bit_line, low_bits, high_bits, repaired_lines, range_words, lines_noun, period_line, period_lines, signal_lines};
 

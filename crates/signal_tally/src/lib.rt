@@ -3,6 +3,9 @@
 // In: the answer of each call to the reader, in order; at the end, finish's. Out: the counts. A capture begins and ends anywhere: a first mark
 // that is an end of line (8), a line that the end cut off (3) and a gap that it cut short (9) are not counted as refused. Nothing is refused by
 // these calls; an answer that is no mark's changes nothing. Cost: constant.
+
+#![tactic(auto)]
+
 ghost use Rattle.std.specs.Prelude.{◌≡◌};
 ghost use Rattle.counts.specs.Counts.{one_more_at};
 ghost use Rattle.signal_tally.specs.Signal.{fresh_signal, seen, is_start, with_first, with_repair, line_seen, gap_seen, refusal_seen, take_of, is_cut, close_of};
@@ -13,14 +16,14 @@ use spacing::Spacing;
 use stream::{Answer, GapFacts, LineFacts};
 
 // The first mark of a capture: none yet; an end of line, since the capture began inside a line; any other.
-#[derive(Drop)]
+#[derive(Clone, Copy)]
 pub enum First {
     Unseen,
     InsideLine,
     Other,
 }
 
-#[derive(Drop)]
+#[derive(Clone, Copy)]
 pub struct Signal {
     pub first: First,
     pub lines: u64,

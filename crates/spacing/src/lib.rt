@@ -2,6 +2,9 @@
 //
 // In: the period of each gap, in nibbles; 0 is none. Out: the counts, and the least and the greatest of the other lengths. Nothing is refused; a
 // count stops at the greatest u64. Cost: constant.
+
+#![tactic(auto)]
+
 ghost use Rattle.std.specs.Prelude.{◌≡◌};
 ghost use Rattle.spacing.specs.Spacing.{lesser, greater, no_periods, thirty_more, twenty_five_more, other_more, with_period};
 
@@ -10,7 +13,7 @@ use period::{Nibbles, Rate};
 
 // The periods of lines handed out (paper 02, A7): how many are named 30 and 25 frames a second, how many have another length, and the least and
 // the greatest of those, in nibbles; 0 where there are none.
-#[derive(Drop)]
+#[derive(Clone, Copy)]
 pub struct Spacing {
     pub thirty: u64,
     pub twentyfive: u64,

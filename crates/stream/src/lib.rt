@@ -1,5 +1,8 @@
 // The meaning of a stream (paper 01, 'Marks and line codes' and 'One answer for each mark'): the types that reader and callers share.
 // The meaning itself is in specs/: Answers.antt, what a mark is answered; Stream.antt, where marks are and what each nibble brings.
+
+#![tactic(auto)]
+
 ghost use Rattle.std.specs.Prelude.{◌≡◌};
 ghost use Rattle.stream.specs.Answers.{either_repaired, is_line_answer, is_answer};
 ghost use Rattle.stream.specs.Stream.{before_by};
@@ -8,7 +11,7 @@ use line_code::{Kind, LineKind, Repair};
 use period::Nibbles;
 
 // What the mark before an open mark was: absent or not of a line kind; of a line kind, and refused; handed out as a line.
-#[derive(Drop)]
+#[derive(Clone, Copy)]
 pub enum Before {
     NoLine,
     RefusedLine(Kind),
@@ -16,14 +19,14 @@ pub enum Before {
 }
 
 // The open mark, which waits for its answer: what the mark before it was, and its own code byte.
-#[derive(Drop)]
+#[derive(Clone, Copy)]
 pub enum Mark {
     NoMark,
     Open(Before, u8),
 }
 
 // What is said of a line. Its body is in the lent buffer.
-#[derive(Drop)]
+#[derive(Clone, Copy)]
 pub struct LineFacts {
     pub kind: Kind,
     pub number: u16,
@@ -34,7 +37,7 @@ pub struct LineFacts {
 
 // What is said of a good gap: its two bytes (profile 0: FF FF); and the period of its line, from the line's first mark nibble to the first
 // nibble of the mark after the gap, held at 65,535. It is 0 where the line was not handed out, and where finish closed the gap.
-#[derive(Drop)]
+#[derive(Clone, Copy)]
 pub struct GapFacts {
     pub first: u8,
     pub second: u8,
@@ -42,7 +45,7 @@ pub struct GapFacts {
 }
 
 // The answer of a call: no mark's answer is due yet; a line; a good gap; a refusal number.
-#[derive(Drop)]
+#[derive(Clone, Copy)]
 pub enum Answer {
     Nothing,
     Line(LineFacts),

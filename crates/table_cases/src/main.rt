@@ -1,5 +1,8 @@
 // The cases of a table of readers (paper 02, A12) that are run and compared. They are lines of standard input: the file stdin says how to read them.
 // What each brings is in stdout, as worked out by hand.
+
+#![tactic(auto)]
+
 mod table;
 mod text;
 

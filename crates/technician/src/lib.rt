@@ -2,6 +2,9 @@
 //
 // In: a technician's number, and the owner of a place, 0 where it is free. Out: what is refused: 32 no such technician, 34 the place is free or
 // another's, or nothing, 0. Cost: constant.
+
+#![tactic(auto)]
+
 ghost use Rattle.std.specs.Prelude.{◌≡◌};
 ghost use Rattle.technician.specs.Technician.{is_technician, denial_by};
 

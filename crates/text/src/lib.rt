@@ -3,6 +3,9 @@
 // In: what to put, and a place of the buffer. Out: its text there, and the place after it. Nothing is refused: where the buffer ends before
 // the text does, the rest of the text is left out, and the place is that end; from a place beyond the end nothing is put, and the place
 // stays. So texts put one after another are their concatenation, put at once. Cost: linear in the text.
+
+#![tactic(auto)]
+
 ghost use Rattle.std.specs.Prelude.{◌≡◌, ◌∷◌, [], ◌+◌, ◌%◌, ◌<◌, ◌≤◌, length, take, drop};
 ghost use Rattle.text.specs.Text.{digit, decimal, hex_digit, hex_byte};
 ghost use Rattle.text.specs.Parts.{is_more};

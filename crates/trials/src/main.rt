@@ -1,6 +1,9 @@
 // Captures that are made and judged: those that misled before, and their like. Each is written as lines by our own writer, both sensors',
 // with one kind of damage. They are lines of standard input: the file stdin says how to read them. What `frames` says of each is in stdout,
 // below its title.
+
+#![tactic(auto)]
+
 ghost use Rattle.std.specs.Prelude.{◌≡◌, ◌≤◌, length};
 
 use lent_buffer::Filled;

@@ -5,6 +5,9 @@
 // held index above 127, 24 shorter than two bytes, 25 address, 26 second byte of a read not the index and flag held, 27 read data at an
 // index up to 127 differs, 28 data past 127.
 // Cost: linear in the message.
+
+#![tactic(auto)]
+
 pub mod register;
 
 ghost use Rattle.std.specs.Prelude.{◌≡◌, ◌≤◌};
@@ -15,7 +18,7 @@ ghost use Rattle.two_wire.specs.declared.MessageAnswer.TheVariants as answer;
 use message_data::{left, runs_past, some_differs, store};
 
 // A sensor as messages see it. Calls leave an index up to 127; a state with another is refused with 11.
-#[derive(Drop)]
+#[derive(Clone, Copy)]
 pub struct Sensor {
     pub registers: [u8; 128],
     pub index: u8,
@@ -23,14 +26,14 @@ pub struct Sensor {
 }
 
 // What a message is answered.
-#[derive(Drop)]
+#[derive(Clone, Copy)]
 pub enum MessageAnswer {
     Accepted,
     Refused(u8),
 }
 
 // The state after a message, and its answer.
-#[derive(Drop)]
+#[derive(Clone, Copy)]
 pub struct Seen {
     pub sensor: Sensor,
     pub answer: MessageAnswer,

@@ -3,6 +3,9 @@
 // In: a sensor's state and a message's line, without its newline. Out: the text for it, with its newline, at the front of the lent buffer, its
 // length, and the state after it. `WRITE 32 1 ok` names the index and the count of data bytes, `REFUSED 27, read data differs` the refusal.
 // A message of more than 256 bytes is refused with 12. Cost: linear in the line. And the other way: a pair's message in hex.
+
+#![tactic(auto)]
+
 ghost use Rattle.std.specs.Prelude.{◌≡◌, ◌/◌, ◌<◌, length};
 ghost use Rattle.std.proofs.lemmas.List.Edits.{sets};
 ghost use Rattle.text.specs.Put.{Puts};
@@ -14,7 +17,7 @@ use text::{put, put_hex};
 use two_wire::{MessageAnswer, Sensor};
 
 // The state after a line, and the length of its text.
-#[derive(Drop)]
+#[derive(Clone, Copy)]
 pub struct MessageTold {
     pub sensor: Sensor,
     pub length: usize,

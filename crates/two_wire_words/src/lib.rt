@@ -2,6 +2,9 @@
 //
 // In: an accepted message, or a refusal's number, and a lent buffer. Out: the text at the front of the buffer, as far as it has room, and its length.
 // Cost: constant.
+
+#![tactic(auto)]
+
 ghost use Rattle.text.specs.Put.{Puts};
 ghost use Rattle.two_wire_words.specs.Words.{direction_word, accepted_text, refusal_words, refused_text};
 

@@ -4,6 +4,9 @@
 // straight after another; the rest of the buffer stays. Refused, in this order, and then nothing is written: 24 a list that ends within a
 // pair, 28 an index above 127, 12 room.
 // Cost: linear in the list.
+
+#![tactic(auto)]
+
 ghost use Rattle.std.specs.Prelude.{◌≡◌, false, ◌+◌, ◌≤◌, length};
 ghost use Rattle.std.proofs.lemmas.List.Edits.{sets};
 ghost use Rattle.lent_buffer.specs.Filled.{Gives};

@@ -11,6 +11,9 @@
 // | setup0, setup1, setup2, setup4 | 0 to 255 | 0 to 255 |
 // | setup3 | | 0 to 255 |
 // | setup5 | 0 to 255 | |
+
+#![tactic(auto)]
+
 ghost use Rattle.std.specs.Prelude.{◌≡◌, drop};
 ghost use Rattle.named_value.specs.Number.{value_in};
 ghost use Rattle.typed_setting.specs.Setting.{single, double, gain_code, shared_setting, setting_vv5404, setting_vv5300, setting_of};
@@ -20,7 +23,7 @@ use profile::Profile;
 use two_wire::register;
 
 // What a line asks for.
-#[derive(Drop)]
+#[derive(Clone, Copy)]
 pub enum Setting {
     // A register's index and value.
     Single(u8, u8),

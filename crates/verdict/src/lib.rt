@@ -3,6 +3,9 @@
 // In: what was found in a capture, to its end, and whether the signal was lost before it. Out: the verdict. GOOD: a frame is complete, and nothing is
 // out of order in the whole capture. CHECK THE CLIP: a frame is complete, but something is out of order. NOT GOOD: marks, and no complete frame. NO
 // SIGNAL: no mark. Repaired codes and line periods don't change it. Nothing is refused. Cost: constant.
+
+#![tactic(auto)]
+
 ghost use Rattle.std.specs.Prelude.{◌≡◌};
 ghost use Rattle.stream.specs.Written.{most_text};
 ghost use Rattle.verdict.specs.Verdict.{is_lost, in_order, by_frames, verdict_of};
@@ -13,7 +16,7 @@ use reader_head::Head;
 use signal_tally::First;
 use stream::Mark;
 
-#[derive(Drop)]
+#[derive(Clone, Copy)]
 pub enum Verdict {
     Good,
     CheckTheClip,

@@ -3,6 +3,9 @@
 // In: what was found in the capture, whether the signal was lost, and the verdict. Out: the report's bytes at the front of the buffer, and how
 // many they are. A count that is 0 has no line. Nothing is refused: a buffer of fewer than ROOM bytes stays as it was, and the count is 0.
 // Cost: linear in the report.
+
+#![tactic(auto)]
+
 ghost use Rattle.std.specs.Prelude.{length};
 ghost use Rattle.text.specs.Put.{Puts, AtFront};
 ghost use Rattle.verdict_report.specs.Report.{frame_counts, frames_lines, lost_line, other_sensor, hint_line, no_frame_line, advice_line, verdict_lines, report_of, report_if_room};

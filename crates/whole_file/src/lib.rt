@@ -1,6 +1,9 @@
 // A file that is saved whole or not at all: it is written beside an older one of its name, and takes that name once it is whole.
 //
 // Read: what a name stands for. Written: files under names. What cannot be made or renamed is told once, on standard error.
+
+#![tactic(auto)]
+
 ghost use Rattle.std.specs.Prelude.{◌++◌, ◌≤◌, length};
 ghost use Rattle.text.specs.Put.{Puts};
 
@@ -34,7 +37,7 @@ pub fn replace(beside: &[u8], name: &[u8]) -> bool {
 }
 
 // A file that is being written: its descriptor, or -1; whether it stands beside an older one of its name, and whether it is new.
-#[derive(Drop)]
+#[derive(Clone, Copy)]
 pub struct Saving {
     pub fd: i32,
     beside: bool,

@@ -2,6 +2,9 @@
 // line for each: mark_finder finds the mark, why_line says the line. The capture is read in pieces, from a file or from standard input, and
 // of the open mark no more bytes are kept than are looked at. An open, a read or a write that fails is told once, on standard error, and ends
 // the search.
+
+#![tactic(auto)]
+
 use command_words::{Asked, Usage};
 use libc::STDOUT_FILENO;
 use mark_finder::{Finder, Located};
@@ -42,7 +45,7 @@ fn seek_asked(asked: Asked) {
 }
 
 // A search: the finder, whether a line was told, and whether the search has ended.
-#[derive(Drop)]
+#[derive(Clone, Copy)]
 struct Search {
     finder: Finder,
     told: bool,

@@ -4,6 +4,9 @@
 // Out: the line's bytes at the front of the buffer, and how many they are. The line tells the mark's number and place, what the mark is and why
 // it is refused, and the bytes around the bad place. Nothing is refused: a buffer of fewer than ROOM bytes stays as it was, and the count is 0.
 // The first MOST bytes are looked at, and what is longer is told as longer, with the reader's own number. Cost: linear in the bytes looked at.
+
+#![tactic(auto)]
+
 ghost use Rattle.std.specs.Prelude.{◌≡◌, ◌≤◌, ◌<◌, min, length, get_or};
 ghost use Rattle.profile.specs.Profile.{profile_number};
 ghost use Rattle.text.specs.Put.{Puts, AtFront};

@@ -2,6 +2,9 @@
 //
 // In: what is known of a mark, a lent buffer and a place in it. Out: the words there, and the place after them. Nothing is refused: where the
 // buffer ends before the words do, the rest is left out. Cost: linear in the words.
+
+#![tactic(auto)]
+
 ghost use Rattle.text.specs.Put.{Puts};
 ghost use Rattle.why_words.specs.ReasonWords.{kind_in_words, line_name, with_line_name, sum_word, sum_words, damaged_words, reserved_words, unfinished_words, length_words, bad_byte_words, end_words, count_words, long_line_words, answer_words, long_gap_words, good_gap_words, refused_number, explained_words};
 

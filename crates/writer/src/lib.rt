@@ -5,6 +5,9 @@
 // 736 + 2k of them in profile 0, 360 + 2k in profile 1; the rest of the buffer stays. Refused, in this order, and then nothing is
 // written: 11 profile, 13 kind, 14 number, 15 length of the body, 16 body or gap byte, 17 more than 255 nulls, 12 room.
 // Cost: linear in what is written.
+
+#![tactic(auto)]
+
 ghost use Rattle.std.specs.Prelude.{[], ◌∷◌, ◌+◌, ◌*◌, ◌≤◌, length, replicate};
 ghost use Rattle.profile.specs.Profile.{null_byte};
 ghost use Rattle.lent_buffer.specs.Filled.{Gives};
