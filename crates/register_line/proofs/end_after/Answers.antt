@@ -1,0 +1,9 @@
+-- A blank leaves the end where it is; any other character moves it.
+use borrow.Author.Rules.{rules}
+use Rattle.register_line.proofs.end_after.Goals as goal
+
+pub returns-then-is_blank : goal.returns-then-is_blank
+returns-then-is_blank c = simp (← c.is_blank.ensures, c.if-is_blank.true)
+
+pub returns : goal.returns
+returns c = simp (← c.is_blank.ensures, c.if-is_blank.false)
