@@ -29,7 +29,7 @@ use Rattle.recovery.specs.MarksLaws.{strip_none}
 use Rattle.recovery.specs.MarkFreeLaws.{strip_wrong}
 use Rattle.recovery.specs.ReadBackLaws.{run_append, line_opens}
 use Rattle.recovery.specs.WrittenLaws.{all_content}
-use Rattle.recovery.specs.Examples.{sample, sample_writable}
+use Rattle.recovery.proofs.Examples.{sample, sample_writable}
 use Rattle.reader_laws.specs.Passing.{Byte}
 use Rattle.explained.specs.Agree.{AgreeOnto, at_base, onto_other, onto_f, onto_free}
 use Rattle.explained.specs.Equivalent.{trailing_f, base_of, trailing_f_at, below, above, Rests, one_rest, two_rests, rests_if, rests_f, Equivalent, the_same, texts_agree}

@@ -1,0 +1,6 @@
+pub mod Examples
+pub mod ExplainedLaws
+pub mod Interchangeable
+pub mod RunsExplainedLaws
+pub mod StandsFor
+pub mod Used

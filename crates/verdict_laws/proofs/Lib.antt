@@ -1,0 +1,7 @@
+pub mod CaptureVerdictLaws
+pub mod CleanCaptureLaws
+pub mod Examples
+pub mod GoodCaptureLaws
+pub mod JudgedFrames
+pub mod ListedVerdictLaws
+pub mod LongEnough
