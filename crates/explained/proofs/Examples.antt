@@ -78,8 +78,8 @@ unfolding passes shows_mark
 inner_mark_lem =
     explained inner_mark
     (record {
-      code-byte = omega arith;
-      window-small = omega arith;
-      kept-typed = record { first_byte = omega arith; second_byte = omega arith; size = refl; bytes = bytes_small };
+      code_byte = omega arith;
+      window_small = omega arith;
+      kept_typed = record { first_byte = omega arith; second_byte = omega arith; size = refl; bytes = bytes_small };
     })
     refl

@@ -27,7 +27,8 @@ use Rattle.refinement.specs.ReaderCalls.{reader_call}
 use Rattle.refinement.specs.ReaderCallsLaws.{alike}
 use Rattle.explained.specs.Explained.{Store, Out, outs, TypedReader, Explained}
 use Rattle.explained.specs.Equivalent.{base_of, base_small, Equivalent, same_call}
-use Rattle.explained.specs.Reachable.{Reachable, reachable}
+use Rattle.explained.specs.Reachable.{Reachable}
+use Rattle.explained.proofs.ReachableLaws.{reachable}
 use Rattle.explained.proofs.Interchangeable.{reader_with, differ_unused, BothPass, same_feed, same_finish}
 use Rattle.explained.proofs.StandsFor.{stored_text, StandsFor, stands_for}
 
@@ -85,7 +86,7 @@ stray_late p (v ∷ c) e = go (stored_kept p c).stray (leb (gap_start p) (length
 
 pub explained : (r : Reader) → TypedReader r → passes r.head ≡ true → Explained r
 explained r typed e =
-    go (stands_for p m c w s typed.code-byte typed.kept-typed typed.window-small h.window_fits h.stray_late)
+    go (stands_for p m c w s typed.code_byte typed.kept_typed typed.window_small h.window_fits h.stray_late)
   where
     h : Passed r.head
     h = passed r.head e
@@ -122,13 +123,13 @@ explained r typed e =
         text = x.new ++ base_of m
 
         text_small : AllNibbles text
-        text_small = all_nibbles_append x.new-small (base_small m typed.code-byte)
+        text_small = all_nibbles_append x.new_small (base_small m typed.code_byte)
 
         no_mark : detect text ≡ not_yet
-        no_mark = no_mark_yet text text_small (ap shows_mark x.is-window ∙ h.no_mark_there)
+        no_mark = no_mark_yet text text_small (ap shows_mark x.is_window ∙ h.no_mark_there)
 
         q : Reachable p (state_with m text)
-        q = reachable p m typed.code-byte h.handed_fits x.new-small no_mark
+        q = reachable p m typed.code_byte h.handed_fits x.new_small no_mark
 
         r₂ : Reader
         r₂ = reader_with p m c w (stored_text p s.body (drop 8 text))
@@ -136,7 +137,7 @@ explained r typed e =
         ok_two : Ok r₂.head
         ok_two =
             record {
-              byte = typed.code-byte;
+              byte = typed.code_byte;
               test =
                   record {
                     count_small = h.count_small;
@@ -146,7 +147,7 @@ explained r typed e =
                     stray_late = λ z.
                         let l = stray_late p (drop 8 text) z in
                         let d = length-drop 8 text in
-                        let n = x.is-count in
+                        let n = x.is_count in
                         omega arith;
                   };
             }
@@ -154,8 +155,8 @@ explained r typed e =
         both : BothPass p r r₂
         both =
             record {
-              alike = differ_unused m c w s (stored_text p s.body (drop 8 text)) typed.window-small x.is_store;
-              ok = record { byte = typed.code-byte; test = h };
+              alike = differ_unused m c w s (stored_text p s.body (drop 8 text)) typed.window_small x.is_store;
+              ok = record { byte = typed.code_byte; test = h };
               ok_two = ok_two;
             }
 
@@ -168,13 +169,13 @@ explained r typed e =
                         record {
                           profile_same = refl;
                           at_same = refl;
-                          count_same = (let n = x.is-count in let l = h.count_small in omega arith);
-                          window_same = sym x.is-window;
+                          count_same = (let n = x.is_count in let l = h.count_small in omega arith);
+                          window_same = sym x.is_window;
                           kept_same = refl;
                           small = text_small;
                         };
                     base = s.body;
-                    base_length = typed.kept-typed.size;
+                    base_length = typed.kept_typed.size;
                     body_same = refl;
                   };
               ok = ok_two;

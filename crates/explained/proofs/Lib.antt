@@ -4,3 +4,4 @@ pub mod Interchangeable
 pub mod RunsExplainedLaws
 pub mod StandsFor
 pub mod Used
+pub mod ReachableLaws

@@ -193,7 +193,7 @@ runs_explained r typed e =
           let f = fed_follows p room roomy x.small (fresh_reader p) fresh (fresh_follows p) in
           runs_same cs r (fed_reader room (fresh_reader p) x.nibbles)
           (record {
-            ok = record { byte = typed.code-byte; test = passed r.head e };
+            ok = record { byte = typed.code_byte; test = passed r.head e };
             ok_two = f.ok;
             same_profile = sym f.same.head_same.profile_same;
             same_outs = x.same_later room roomy;

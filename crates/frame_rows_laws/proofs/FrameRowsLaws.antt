@@ -27,7 +27,8 @@ use Rattle.frame_layout.specs.FrameLayout.{layout, kinds_of, last_place, kind_at
 use Rattle.frame_judge.specs.Frame.{opens, begun, passes, gives}
 use Rattle.frame_judge.specs.Calls.{Line, called, after, is_break, accepts, accepted, is_laid_out_at, laid_from, IsFrame}
 use Rattle.frame_layout.specs.FrameLength.{frame_length}
-use Rattle.frame_laws.specs.FrameLaws.{passes_high, after_snoc, accepted_snoc, opens_is, first_is, later_opens_none, due_with, sof_within, IsDue, Effect, wrong_kind, wrong_number, waits, breaks, strays, starts, restarts, goes, ends, effect, reached_passes, complete_frame}
+use Rattle.frame_laws.specs.FrameLaws.{passes_high, after_snoc, accepted_snoc, opens_is, first_is, later_opens_none, due_with, sof_within, IsDue, Effect, wrong_kind, wrong_number, waits, breaks, strays, starts, restarts, goes, ends, effect, reached_passes}
+use Rattle.frame_laws.proofs.WholeFrames.{complete_frame}
 use Rattle.frame_handing.specs.Handing.{handed_over, as_lines, handed_lines}
 use Rattle.pixel_order.specs.declared.Way.TheVariants.{ToPixels}
 use Rattle.pixel_order.proofs.PixelOrderLaws.{reordered_length}

@@ -21,7 +21,8 @@ use Rattle.frame_layout.specs.FrameLayout.{last_place}
 use Rattle.frame_judge.specs.Frame.{begun, passes, judge_of}
 use Rattle.frame_judge.specs.Calls.{Line, line, called, rulings, IsFrame}
 use Rattle.frame_laws.specs.CompleteFrames.{to_complete}
-use Rattle.frame_laws.specs.FrameLaws.{first_is, sof_within, Effect, wrong_kind, wrong_number, waits, breaks, strays, starts, restarts, goes, ends, effect, passes_after, reached_passes, frame_complete_lem}
+use Rattle.frame_laws.specs.FrameLaws.{first_is, sof_within, Effect, wrong_kind, wrong_number, waits, breaks, strays, starts, restarts, goes, ends, effect, passes_after, reached_passes}
+use Rattle.frame_laws.proofs.WholeFrames.{frame_complete_lem}
 use Rattle.frame_handing.specs.Handing.{handed_lines}
 use Rattle.frame_row.specs.declared.Keeping.{Keeping}
 use Rattle.frame_rows.specs.declared.Gatherer.{Gatherer}

@@ -10,7 +10,7 @@ use Rattle.stream.specs.Nibbles.{AllNibbles, no_nibble, and_nibble}
 use Rattle.frame_layout.specs.declared.Borders.{Borders}
 use Rattle.frame_layout.specs.FrameLayout.{layout, kinds_of}
 use Rattle.frame_judge.specs.Calls.{Line, line, IsFrame, numbered_from}
-use Rattle.frame_laws.specs.FrameLaws.{frame_counted}
+use Rattle.frame_laws.proofs.WholeFrames.{frame_counted}
 use Rattle.slip_laws.proofs.Examples.{samples_from, sample_frame, frame_writable}
 use Rattle.picture_file.specs.PictureFile.{size}
 use Rattle.frame_row.specs.declared.Order.{Order}

@@ -22,7 +22,7 @@ use Rattle.frame_layout.specs.FrameLayout.{layout, kinds_of}
 use Rattle.frame_judge.specs.Calls.{IsFrame, numbered_from}
 use Rattle.frame_judge.specs.Calls as judged
 use Rattle.frame_layout.specs.FrameLength.{frame_length}
-use Rattle.frame_laws.specs.FrameLaws.{frame_counted}
+use Rattle.frame_laws.proofs.WholeFrames.{frame_counted}
 use Rattle.frame_handing.specs.Handing.{is_broken_line, all_handed}
 use Rattle.frame_laws.specs.SentFrames.{judged_line, all_lines, AllFrames, no_frames, and_frame}
 use Rattle.slip_laws.specs.Slip.{slipped, Inside}

@@ -23,7 +23,8 @@ use Rattle.frame_layout.specs.PlaceLaws.{sof_only_first}
 use Rattle.frame_judge.specs.Frame.{passes, gives, refuses, judge_of}
 use Rattle.frame_judge.specs.Calls.{Line, line, called, after, rulings, is_complete, is_laid_out_at, laid_from, IsFrame}
 use Rattle.frame_laws.specs.CompleteFrames.{to_complete}
-use Rattle.frame_laws.specs.FrameLaws.{after_append, rulings_append, frame_complete_lem, Effect, wrong_kind, wrong_number, waits, breaks, strays, starts, restarts, goes, ends, effect, passes_after}
+use Rattle.frame_laws.specs.FrameLaws.{after_append, rulings_append, Effect, wrong_kind, wrong_number, waits, breaks, strays, starts, restarts, goes, ends, effect, passes_after}
+use Rattle.frame_laws.proofs.WholeFrames.{frame_complete_lem}
 use Rattle.frame_laws.specs.SentFrames.{judged_line, all_lines, AllFrames, no_frames, and_frame}
 use Rattle.slip_laws.specs.SlipFrames.{all_complete, at_slip, lost}
 use Rattle.slip_laws.proofs.LeftHanded.{broken_one}

@@ -13,7 +13,7 @@ use Rattle.frame_layout.specs.declared.Borders.{Borders}
 use Rattle.frame_layout.specs.FrameLayout.{layout, kinds_of, last_place}
 use Rattle.frame_judge.specs.Calls.{Line, line, IsFrame, numbered_from}
 use Rattle.frame_layout.specs.FrameLength.{frame_length}
-use Rattle.frame_laws.specs.FrameLaws.{frame_counted}
+use Rattle.frame_laws.proofs.WholeFrames.{frame_counted}
 use Rattle.frame_laws.specs.SentFrames.{judged_lines, AllFrames, no_frames, and_frame}
 use Rattle.verdict.specs.declared.Verdict.TheVariants.{Good}
 use Rattle.verdict_laws.specs.CleanCapture.{verdict_on}

@@ -28,7 +28,8 @@ use Rattle.frame_layout.specs.FrameLayout.{last_place}
 use Rattle.frame_judge.specs.Frame.{passes, line_due, settled_by, gives, refuses, opens, begun, broken_kind, judge_of}
 use Rattle.frame_judge.specs.Calls.{Line, line, called, after, rulings, is_break, accepts, accepted, IsFrame}
 use Rattle.frame_handing.specs.Handing.{is_broken_line, as_lines, all_handed}
-use Rattle.frame_laws.specs.FrameLaws.{passes_high, rulings_append, after_snoc, accepted_snoc, Effect, wrong_kind, wrong_number, waits, breaks, strays, starts, restarts, goes, ends, effect, reached_passes, complete_frame}
+use Rattle.frame_laws.specs.FrameLaws.{passes_high, rulings_append, after_snoc, accepted_snoc, Effect, wrong_kind, wrong_number, waits, breaks, strays, starts, restarts, goes, ends, effect, reached_passes}
+use Rattle.frame_laws.proofs.WholeFrames.{complete_frame}
 use Rattle.frame_tally.specs.Tally.{is_unfinished}
 use Rattle.verdict.specs.declared.Verdict.TheVariants.{Good}
 use Rattle.verdict_laws.specs.CaptureVerdict.{capture_verdict, frame_broken, is_opening, before_first, from_first, is_whole, is_waiting, some_outside, few_before, line_outside, is_refused, mark_refused}

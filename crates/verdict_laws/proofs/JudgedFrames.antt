@@ -16,7 +16,8 @@ use Rattle.frame_judge.specs.declared.Judged.{Judged}
 use Rattle.frame_layout.specs.FrameLayout.{last_place}
 use Rattle.frame_judge.specs.Calls.{Line, called, after, rulings, is_complete, is_break, is_laid_out_at, laid_from, IsFrame}
 use Rattle.frame_laws.specs.CompleteFrames.{to_complete}
-use Rattle.frame_laws.specs.FrameLaws.{after_append, rulings_append, frame_complete_lem, first_is, later_opens_none, Effect, wrong_kind, wrong_number, waits, breaks, strays, starts, restarts, goes, ends, effect, reached_passes, after_snoc}
+use Rattle.frame_laws.specs.FrameLaws.{after_append, rulings_append, first_is, later_opens_none, Effect, wrong_kind, wrong_number, waits, breaks, strays, starts, restarts, goes, ends, effect, reached_passes, after_snoc}
+use Rattle.frame_laws.proofs.WholeFrames.{frame_complete_lem}
 use Rattle.verdict_laws.specs.CaptureVerdict.{is_opening, before_first, from_first, is_whole, whole_lines, is_waiting, some_outside}
 use Rattle.verdict_laws.proofs.CaptureVerdictLaws.{still_waits}
 

@@ -5,3 +5,4 @@ pub mod GoodCaptureLaws
 pub mod JudgedFrames
 pub mod ListedVerdictLaws
 pub mod LongEnough
+pub mod TwoFrames

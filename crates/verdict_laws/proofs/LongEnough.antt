@@ -2,12 +2,10 @@
 use Rattle.std.specs.Prelude.{◌≡◌, refl, Bool, true, false, List, [], ◌∷◌, ◌++◌, ℕ, zero, suc, ◌+◌, ◌-◌, ◌*◌, ◌≤◌, ◌<◌, leb, length}
 use Rattle.std.proofs.Common.{◌∙◌, ap, arith, length-append, leb-true, leb-false}
 use Rattle.profile.specs.declared.Profile.{Profile}
-use Rattle.stream.specs.Written.{Sent, AllWritable, written, stream}
-use Rattle.recovery.specs.CutStream.{cut_out}
-use Rattle.verdict.specs.declared.Verdict.TheVariants.{Good}
+use Rattle.stream.specs.Written.{Sent, written, stream}
 use Rattle.frame_laws.specs.SentFrames.{all_lines, AllFrames, and_frame}
-use Rattle.verdict_laws.specs.CleanCapture.{HoldsFrame, FramesWithin, none_within, one_within, verdict_on}
-use Rattle.verdict_laws.proofs.CleanCaptureLaws.{stream_append, tail_after, clean_good}
+use Rattle.verdict_laws.specs.CleanCapture.{HoldsFrame, FramesWithin, none_within, one_within}
+use Rattle.verdict_laws.proofs.CleanCaptureLaws.{stream_append, tail_after}
 
 -- a list that is not empty has a last one
 record Snoc (ss : List Sent) : Type 0 where
@@ -36,24 +34,24 @@ holds_first p ss fs h n l =
       last_line = s.last_line;
       later = fs;
       one_of = ap {B = List (List Sent)} (λ x. x ∷ fs) s.is;
-      starts-after = omega arith;
-      ends-before = omega (arith, l, long, tail_after s.last_line, length-append (written s.last_line) []);
+      starts_after = omega arith;
+      ends_before = omega (arith, l, long, tail_after s.last_line, length-append (written s.last_line) []);
     }
 
 -- a frame after the first, where the capture begins within the first or after it
 holds_later : (ss : List Sent) (fs : List (List Sent)) (i n j m : ℕ) → i ≤ length (stream ss) + j → length (stream ss) + j + m ≤ i + n → HoldsFrame fs j m → HoldsFrame (ss ∷ fs) i n
 holds_later ss fs i n j m a z h =
     let long = stream_append ss (all_lines h.earlier) in
-    let b = h.starts-after in
-    let c = h.ends-before in
+    let b = h.starts_after in
+    let c = h.ends_before in
     record {
       earlier = ss ∷ h.earlier;
       front = h.front;
       last_line = h.last_line;
       later = h.later;
       one_of = ap {B = List (List Sent)} (λ x. ss ∷ x) h.one_of;
-      starts-after = omega (arith, a, b, long);
-      ends-before = omega (arith, z, c, long);
+      starts_after = omega (arith, a, b, long);
+      ends_before = omega (arith, z, c, long);
     }
 
 -- the law: of a capture within the stream, of two frames' worth at least
@@ -81,8 +79,3 @@ two_frames_hold p (and_frame b {ss = ss} {fs = fs} f h) most (one_within a w) i 
         holds_later ss fs i n (i - long) n (omega arith) (omega arith) (more (i - long) (omega (arith, m, e, stream_append ss (all_lines fs))))
     go zero false q e more = holds_first p ss fs (and_frame b f h) n (omega arith)
     go (suc i) false q e more = within (suc i) (leb-false long (suc i) q) e
-
--- and so it is GOOD
-pub two_frames_good : (p : Profile) {fs : List (List Sent)} → AllFrames p fs → AllWritable p (all_lines fs) → (most : ℕ) → FramesWithin most fs → (i n : ℕ) → 0 < n → 2 * most ≤ n
-    → i + n ≤ length (stream (all_lines fs)) → verdict_on p (cut_out (all_lines fs) i n) ≡ Good
-two_frames_good p h g most w i n z l e = clean_good p h g i n (two_frames_hold p h most w i n z l e)
