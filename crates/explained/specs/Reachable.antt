@@ -98,7 +98,7 @@ none_completed n (zero_f f q) = ap (mark_if 15 n) (no_group q)
 -- Nibbles that bring no mark.
 
 -- newest first, on a base
-data NoMarkIn (base : List ℕ) : List ℕ → Type 0 where
+pub data NoMarkIn (base : List ℕ) : List ℕ → Type 0 where
   none_since : NoMarkIn base []
   one_more_lem : (n : ℕ) (v : List ℕ) → detect (n ∷ (v ++ base)) ≡ not_yet → NoMarkIn base v → NoMarkIn base (n ∷ v)
 
