@@ -269,7 +269,7 @@ first_opens p w₀ x y = subst (Opened p (kind_before p w₀) (16 * x + y) x y) 
         ∙ ap (λ (l : List ℕ). completes (y ∷ l)) (onto_append [] w₀ (opener ++ (x ∷ [])))
 
     two : Opened p (kind_before p w₀) (16 * x + y) x y (step p (state_with s.at (x ∷ s.text)) y).state
-    two = completed (detect (y ∷ x ∷ s.text)) p s.at (y ∷ x ∷ s.text) is_mark x y s.text refl refl
+    two = completed (detect (y ∷ x ∷ s.text)) p s.at (y ∷ x ∷ s.text) is_mark_lem x y s.text refl refl
 
     whole : run p fresh (w₀ ++ (opener ++ (x ∷ y ∷ []))) ≡ (step p (state_with s.at (x ∷ s.text)) y).state
     whole =
