@@ -54,12 +54,12 @@ holds_later ss fs i n j m a z h =
       ends_before = omega (arith, z, c, long);
     }
 
--- the law: of a capture within the stream, of two frames' worth at least
-pub two_frames_hold : (p : Profile) {fs : List (List Sent)} → AllFrames p fs → (most : ℕ) → FramesWithin most fs → (i n : ℕ) → 0 < n → 2 * most ≤ n
+-- of a capture within the stream, of two frames' worth at least, with the length before the frames
+two_hold : (p : Profile) (most : ℕ) {fs : List (List Sent)} → AllFrames p fs → FramesWithin most fs → (i n : ℕ) → 0 < n → 2 * most ≤ n
     → i + n ≤ length (stream (all_lines fs)) → HoldsFrame fs i n
-two_frames_hold p h most none_within i n z l e = absurd (omega arith)
-two_frames_hold p (and_frame b {ss = ss} {fs = fs} f h) most (one_within a w) i n z l e =
-    go i (leb long i) refl e (λ j. two_frames_hold p h most w j n z l)
+two_hold p most h none_within i n z l e = absurd (omega arith)
+two_hold p most (and_frame b {ss = ss} {fs = fs} f h) (one_within a w) i n z l e =
+    go i (leb long i) refl e (λ j. two_hold p most h w j n z l)
   where
     long : ℕ
     long = length (stream ss)
@@ -79,3 +79,8 @@ two_frames_hold p (and_frame b {ss = ss} {fs = fs} f h) most (one_within a w) i 
         holds_later ss fs i n (i - long) n (omega arith) (omega arith) (more (i - long) (omega (arith, m, e, stream_append ss (all_lines fs))))
     go zero false q e more = holds_first p ss fs (and_frame b f h) n (omega arith)
     go (suc i) false q e more = within (suc i) (leb-false long (suc i) q) e
+
+-- the law: of a capture within the stream, of two frames' worth at least
+pub two_frames_hold : (p : Profile) {fs : List (List Sent)} → AllFrames p fs → (most : ℕ) → FramesWithin most fs → (i n : ℕ) → 0 < n → 2 * most ≤ n
+    → i + n ≤ length (stream (all_lines fs)) → HoldsFrame fs i n
+two_frames_hold p h most w i n z l e = two_hold p most h w i n z l e
