@@ -28,7 +28,7 @@ use Rattle.reader.specs.Reader.{Took, take_head, take_outcome, taking, reader_of
 use Rattle.run.specs.Run.{ran, onward, lent_run_of}
 use Rattle.run.specs.RunLaws.{onward_on}
 use Rattle.reader_laws.specs.Passing.{Ok}
-use Rattle.reader_laws.specs.Passes.{passes_test, take_ok}
+use Rattle.reader_laws.proofs.Passes.{passes_test, take_ok}
 use Rattle.reader_laws.specs.Bodies.{length_body}
 use Rattle.run_ahead.specs.declared.Reached.{Reached}
 use Rattle.capture_bytes.specs.EndToEnd.{lent_leads}

@@ -18,9 +18,9 @@ use Rattle.reader.specs.Reader.{taking, reader_of}
 use Rattle.reader.specs.ReaderLaws.{take_profile}
 use Rattle.run.specs.Run.{Ran, ran, onward, run_of, lent_run_of}
 use Rattle.reader_laws.specs.Passing.{Byte, Ok}
-use Rattle.reader_laws.specs.Passes.{passed, passes_test}
+use Rattle.reader_laws.proofs.Passes.{passed, passes_test}
 use Rattle.reader_laws.specs.ByRuns.{ByNibbles}
-use Rattle.reader_laws.specs.ByRunsLaws.{run_on}
+use Rattle.reader_laws.proofs.ByRunsLaws.{run_on}
 
 -- a run with k nibbles before it
 abbrev pub later : ℕ → Ran → Ran

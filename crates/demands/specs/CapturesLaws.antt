@@ -10,14 +10,14 @@ use Rattle.recovery.specs.Calls.{line_in, gap_in}
 use Rattle.recovery.specs.Collected.{collected}
 use Rattle.recovery.specs.CollectedLaws.{collected_append}
 use Rattle.recovery.specs.CleanAnswers.{said_in, said, clean_answers}
-use Rattle.recovery.specs.CleanAnswersLaws.{clean_answers_lem}
+use Rattle.recovery.proofs.CleanAnswersLaws.{clean_answers_lem}
 use Rattle.recovery.specs.CallAnswers.{brought_by}
 use Rattle.recovery.specs.CutStream.{cut_out}
-use Rattle.recovery.specs.CutStreamLaws.{cut_stream}
+use Rattle.recovery.proofs.CutStreamLaws.{cut_stream}
 use Rattle.refinement.specs.Refine.{Follows}
 use Rattle.refinement.specs.Runs.{RunCall, on_runs, runs_taken, FinishLastRun}
 use Rattle.refinement.specs.RunAnswers.{runs_finish}
-use Rattle.refinement.specs.RunAnswersLaws.{runs_follow, runs_said}
+use Rattle.refinement.proofs.RunAnswersLaws.{runs_follow, runs_said}
 use Rattle.demands.specs.DemandTwo.{answers_to}
 use Rattle.demands.specs.Captures.{CaptureRead}
 

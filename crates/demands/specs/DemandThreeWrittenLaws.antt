@@ -6,7 +6,7 @@ use Rattle.profile.specs.declared.Profile.{Profile}
 use Rattle.stream.specs.Written.{Sent, Writable, AllWritable, no_lines, and_line, written, stream}
 use Rattle.writer.specs.WriterTable.{LineAnswer, line, write_sent}
 use Rattle.writer.specs.WriterLaws.{sent_answer}
-use Rattle.refinement.specs.RunsLaws.{runs_demand_three}
+use Rattle.refinement.proofs.RunsLaws.{runs_demand_three}
 use Rattle.demands.specs.DemandThreeWritten.{WroteAll, wrote_none, and_wrote, MeetsWritten}
 
 -- one line

@@ -25,18 +25,18 @@ use Rattle.writer.specs.WriterTable.{write_sent}
 use Rattle.writer.specs.WriterLaws.{writes}
 use Rattle.mark_answer.specs.SoundLaws.{at_most_nine}
 use Rattle.reader.specs.ReaderLaws.{take_sound}
-use Rattle.reader_laws.specs.Passes.{passes_test, fresh_ok, take_ok}
+use Rattle.reader_laws.proofs.Passes.{passes_test, fresh_ok, take_ok}
 use Rattle.reader_laws.specs.Passing.{Ok}
 use Rattle.recovery.specs.Calls.{Call, feed, done, FinishLast, CallResult, changed, taken_by, on_taken, DemandThree}
 use Rattle.recovery.specs.Calls as calls
 use Rattle.recovery.specs.WrittenLaws.{all_changed}
-use Rattle.recovery.specs.Examples.{sample, sample_writable, four, four_writable, from, to, new, new_nibbles, room, stretch_ordered, stretch_within}
+use Rattle.recovery.proofs.Examples.{sample, sample_writable, four, four_writable, from, to, new, new_nibbles, room, stretch_ordered, stretch_within}
 use Rattle.refinement.specs.CallTable.{not_a_nibble_lem, no_room_lem, taken}
-use Rattle.refinement.specs.CallTableLaws.{feeds_by_table}
+use Rattle.refinement.proofs.CallTableLaws.{feeds_by_table}
 use Rattle.refinement.specs.ReaderCalls.{gives, reader_call}
 use Rattle.refinement.specs.ReaderCallsLaws.{reader_demand_three}
 use Rattle.refinement.specs.Runs.{RunCall, run, one, runs_taken, all_one_by_one, FinishLastRun, done_last, run_first, SameAsFeeds}
-use Rattle.refinement.specs.RunsLaws.{takes_it}
+use Rattle.refinement.proofs.RunsLaws.{takes_it}
 use Rattle.refinement.specs.RunAnswers.{runs_finish}
 use Rattle.refinement.specs.RunBySingles.{untouched}
 use Rattle.demands.specs.DemandThreeWritten.{WroteAll, wrote_none, and_wrote}

@@ -3,11 +3,8 @@ pub mod DemandThreeWrittenLaws
 pub mod StretchesWritten
 pub mod StretchesWrittenLaws
 pub mod DemandTwo
-pub mod DemandTwoLaws
 pub mod Examples
-pub mod FlipExamples
 pub mod StretchExamples
 pub mod WrongPrograms
-pub mod WrongProgramsLaws
 pub mod Captures
 pub mod CapturesLaws

@@ -12,10 +12,10 @@ use Rattle.stream.specs.Written.{Sent, stream}
 use Rattle.stream.specs.Nibbles.{nibbles_only}
 use Rattle.reader.specs.Reader.{fresh_reader}
 use Rattle.recovery.specs.Calls.{as_sent, line_collector}
-use Rattle.recovery.specs.Examples.{sample, four}
+use Rattle.recovery.proofs.Examples.{sample, four}
 use Rattle.refinement.specs.Runs.{RunCall, runs_collected}
 use Rattle.stretch_laws.specs.Stretches.{changed_of, Sublist}
-use Rattle.stretch_laws.specs.Examples.{two_stretches, segments_clean, whole_lines_lem}
+use Rattle.stretch_laws.proofs.Examples.{two_stretches, segments_clean, whole_lines_lem}
 use Rattle.demands.specs.StretchesWrittenLaws.{stretches_written}
 use Rattle.demands.specs.Examples.{four_wrote, calls_on, calls_last, calls_taken}
 

@@ -1,7 +1,7 @@
 -- Many stretches of what the writer left: its outputs joined are a clean stream.
 use Rattle.std.proofs.Common.{◌∙◌}
 use Rattle.profile.specs.declared.Profile.{Profile}
-use Rattle.stretch_laws.specs.StretchCallsLaws.{reads_stretches}
+use Rattle.stretch_laws.proofs.StretchCallsLaws.{reads_stretches}
 use Rattle.demands.specs.DemandThreeWrittenLaws.{wrote_clean}
 use Rattle.demands.specs.StretchesWritten.{ReadsWrittenStretches}
 

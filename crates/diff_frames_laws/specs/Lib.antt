@@ -1,2 +1,1 @@
 pub mod FrameList
-pub mod FrameListLaws

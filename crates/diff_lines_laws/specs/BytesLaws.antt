@@ -8,7 +8,7 @@ use Rattle.diff_records.specs.Difference.{Difference, only_first, only_second, b
 use Rattle.diff_records.specs.ReadBack.{front_of, front_size, first_differences, differences_in}
 use Rattle.diff_lines_laws.specs.Applied.{Each, done, also}
 use Rattle.diff_lines_laws.specs.EachLaws.{each_append, each_unless}
-use Rattle.diff_records.specs.DifferenceLaws.{step_first, step_second, step_both}
+use Rattle.diff_records.proofs.DifferenceLaws.{step_first, step_second, step_both}
 use Rattle.diff_lines_laws.specs.MergeLaws.{MergeSteps, walked}
 
 -- a line that is given whole has 356 bytes

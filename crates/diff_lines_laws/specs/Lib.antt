@@ -2,9 +2,4 @@ pub mod Applied
 pub mod Meaning
 pub mod EachLaws
 pub mod MergeLaws
-pub mod ApplyLaws
-pub mod OrderLaws
 pub mod BytesLaws
-pub mod MeaningLaws
-pub mod UniqueLaws
-pub mod CompareLaws

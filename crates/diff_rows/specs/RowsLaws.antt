@@ -6,15 +6,15 @@ use Rattle.text.specs.Text.{ascii, decimal}
 use Rattle.text.specs.TextLaws.{decimal_short}
 use Rattle.profile.specs.Profile.{width}
 use Rattle.line_records.specs.Lines.{FullLine, line_size, no_line, front_line, Next, none, some}
-use Rattle.line_records.specs.LinesLaws.{body_length_lem, lent_from, lent_from_is}
+use Rattle.line_records.proofs.LinesLaws.{body_length_lem, lent_from, lent_from_is}
 use Rattle.diff_records.specs.Difference.{Difference, only_first, only_second, both_kinds, both_bytes, unless, places_from, between_lines, encoded_all}
 use Rattle.diff_records.specs.Next.{next_number, next_differences, unequal, different}
-use Rattle.diff_records.specs.DifferenceLaws.{first_size, second_size, between_size}
-use Rattle.diff_records.specs.NextLaws.{next_line_lem, lesser_line, next_first, next_second, next_both, next_none, Stepped, stepped}
+use Rattle.diff_records.proofs.DifferenceLaws.{first_size, second_size, between_size}
+use Rattle.diff_records.proofs.NextLaws.{next_line_lem, lesser_line, next_first, next_second, next_both, next_none, Stepped, stepped}
 use Rattle.diff_records.specs.ReadBack.{front_of, front_size, differences_in}
 use Rattle.diff_lines_laws.specs.Applied.{Each, done, also}
 use Rattle.diff_lines_laws.specs.BytesLaws.{SizedIn, bytes_back, sized_between}
-use Rattle.diff_lines_laws.specs.CompareLaws.{AllBytes}
+use Rattle.diff_lines_laws.proofs.CompareLaws.{AllBytes}
 use Rattle.diff_change.specs.Front.{change_of}
 use Rattle.diff_change.specs.FrontLaws.{differences_step}
 use Rattle.diff_change_row.specs.ChangeRow.{change_row, line_word, kind_word, kinds_words, pair_words}

@@ -6,10 +6,10 @@ use mathlib.Core.List.{List, [], ◌∷◌, ◌++◌}
 use Rattle.std.proofs.Math.Seq.{drop-drop}
 use Rattle.profile.specs.Profile.{width}
 use Rattle.line_records.specs.Lines.{head_size, front_line, full_lines, Next}
-use Rattle.line_records.specs.LinesLaws.{lent_from, lent_from_is}
+use Rattle.line_records.proofs.LinesLaws.{lent_from, lent_from_is}
 use Rattle.diff_records.specs.Difference.{Difference, both_kinds, both_bytes, unless, places_from, between_lines, differences}
 use Rattle.diff_records.specs.Next.{next_differences, how_far}
-use Rattle.diff_records.specs.NextLaws.{Stepped, stepped}
+use Rattle.diff_records.proofs.NextLaws.{Stepped, stepped}
 use Rattle.diff_summary.specs.declared.Summary.{Summary}
 use Rattle.diff_change.specs.Front.{change_of}
 use Rattle.diff_summary.specs.Summary.{with_change, with_differences}

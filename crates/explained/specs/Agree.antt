@@ -277,7 +277,7 @@ agree_turned (onto_other n {f} h q) m = agree_turned q (other f n h m)
 agree_turned (onto_f {f} q) m = agree_turned q (an_f f m)
 agree_turned (onto_free f a b g ha hb q) m = agree_turned q (free f a b g ha hb m)
 
-pub agree_small : {z f : ℕ} {base t t₂ : List ℕ} → AllNibbles base → AgreeOnto z base f t t₂ → AllNibbles t × AllNibbles t₂
+pub agree_small : {z : ℕ} {base : List ℕ} {f : ℕ} {t t₂ : List ℕ} → AllNibbles base → AgreeOnto z base f t t₂ → AllNibbles t × AllNibbles t₂
 agree_small s at_base = (s, s)
 agree_small s (onto_other n h q) =
     let r = agree_small s q in (and_nibble {n = n} (omega arith) r.0, and_nibble {n = n} (omega arith) r.1)
@@ -286,7 +286,7 @@ agree_small s (onto_f q) =
 agree_small s (onto_free f a b g ha hb q) =
     let r = agree_small s q in (and_nibble {n = a} (omega arith) r.0, and_nibble {n = b} (omega arith) r.1)
 
-pub agree_length : {z f : ℕ} {base t t₂ : List ℕ} → AgreeOnto z base f t t₂ → length t ≡ length t₂
+pub agree_length : {z : ℕ} {base : List ℕ} {f : ℕ} {t t₂ : List ℕ} → AgreeOnto z base f t t₂ → length t ≡ length t₂
 agree_length at_base = refl
 agree_length (onto_other n h q) = ap suc (agree_length q)
 agree_length (onto_f q) = ap suc (agree_length q)

@@ -132,11 +132,11 @@ onto_any {z} {f} {base} {t} {t₂} n h m = go (ltb n 15) refl
         let k : 15 ≡ n = omega arith in
         (suc f, subst (λ (x : ℕ). AgreeOnto z base (suc f) (x ∷ t) (x ∷ t₂)) k (onto_f m))
 
-one_less : {z k : ℕ} {base t t₂ : List ℕ} → AgreeBelow z base (suc k) t t₂ → AgreeBelow z base k t t₂
+one_less : {z : ℕ} {base : List ℕ} {k : ℕ} {t t₂ : List ℕ} → AgreeBelow z base (suc k) t t₂ → AgreeBelow z base k t t₂
 one_less (above n k h (below f m)) = let q = onto_any n h m in below q.0 q.1
 one_less (above n k h (above n₂ k₂ h₂ u)) = above n k₂ h (one_less (above n₂ k₂ h₂ u))
 
-all_agree : {z k : ℕ} {base t t₂ : List ℕ} → AgreeBelow z base k t t₂ → (g : ℕ) × AgreeOnto z base g t t₂
+all_agree : {z : ℕ} {base : List ℕ} {k : ℕ} {t t₂ : List ℕ} → AgreeBelow z base k t t₂ → (g : ℕ) × AgreeOnto z base g t t₂
 all_agree (below f m) = (f, m)
 all_agree (above n k h u) = let q = all_agree u in onto_any n h q.1
 

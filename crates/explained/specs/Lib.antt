@@ -2,11 +2,5 @@ pub mod Explained
 pub mod Agree
 pub mod Equivalent
 pub mod Reachable
-pub mod Used
-pub mod Interchangeable
-pub mod StandsFor
-pub mod ExplainedLaws
 pub mod RunsExplained
-pub mod RunsExplainedLaws
 pub mod LentCalls
-pub mod Examples

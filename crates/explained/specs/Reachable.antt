@@ -10,26 +10,20 @@ use Rattle.line_code.specs.declared.Meaning.TheVariants.{EndOfLine, Line, Reserv
 use Rattle.line_code.specs.declared.Reading.{Reading}
 use Rattle.line_code.specs.declared.Reading.TheVariants.{Says, Damaged}
 use Rattle.line_code.specs.declared.Repair.{Repair}
-use Rattle.line_code.specs.declared.Repair.TheVariants.{Clean}
-use Rattle.line_code.specs.LineCode.{clean_byte, reading_of, meaning_of, kind_numbered, reserved_of, is_end}
-use Rattle.line_code.specs.LineCodeLaws.{clean_reading}
+use Rattle.line_code.specs.LineCode.{clean_byte, is_end}
 use Rattle.profile.specs.declared.Profile.{Profile}
 use Rattle.stream.specs.declared.Before.{Before}
 use Rattle.stream.specs.declared.Before.TheVariants.{NoLine, RefusedLine, HandedOut}
 use Rattle.stream.specs.declared.Mark.{Mark}
 use Rattle.stream.specs.declared.Mark.TheVariants.{NoMark, Open}
-use Rattle.stream.specs.Answers.{turned, answer_of}
+use Rattle.stream.specs.Answers.{turned}
 use Rattle.stream.specs.Stream.{State, strip, group, Completed, not_yet, mark_if, detect, advance, fresh, run}
 use Rattle.stream.specs.Written.{mark_of, content}
 use Rattle.stream.specs.Nibbles.{AllNibbles, no_nibble, and_nibble}
-use Rattle.stream.specs.NibblesLaws.{all_nibbles_append}
-use Rattle.reader_head.specs.Head.{handed_fits}
 use Rattle.recovery.specs.Resync.{state_with}
 use Rattle.recovery.specs.MarksLaws.{strip_none}
 use Rattle.recovery.specs.MarkFreeLaws.{strip_wrong}
-use Rattle.recovery.specs.ReadBackLaws.{run_append, line_opens}
-use Rattle.recovery.specs.WrittenLaws.{all_content}
-use Rattle.recovery.specs.Examples.{sample, sample_writable}
+use Rattle.recovery.proofs.Examples.{sample}
 use Rattle.reader_laws.specs.Passing.{Byte}
 use Rattle.explained.specs.Agree.{AgreeOnto, at_base, onto_other, onto_f, onto_free}
 use Rattle.explained.specs.Equivalent.{trailing_f, base_of, trailing_f_at, below, above, Rests, one_rest, two_rests, rests_if, rests_f, Equivalent, the_same, texts_agree}
@@ -104,11 +98,11 @@ none_completed n (zero_f f q) = ap (mark_if 15 n) (no_group q)
 -- Nibbles that bring no mark.
 
 -- newest first, on a base
-data NoMarkIn (base : List ℕ) : List ℕ → Type 0 where
+pub data NoMarkIn (base : List ℕ) : List ℕ → Type 0 where
   none_since : NoMarkIn base []
   one_more_lem : (n : ℕ) (v : List ℕ) → detect (n ∷ (v ++ base)) ≡ not_yet → NoMarkIn base v → NoMarkIn base (n ∷ v)
 
-run_lengthens : (p : Profile) (m : Mark) (base : List ℕ) {v : List ℕ} (w : List ℕ) → NoMarkIn base v
+pub run_lengthens : (p : Profile) (m : Mark) (base : List ℕ) {v : List ℕ} (w : List ℕ) → NoMarkIn base v
     → run p (state_with m base) (turned v w) ≡ run p (state_with m (v ++ base)) w
 run_lengthens p m base w none_since = refl
 run_lengthens p m base w (one_more_lem n v e s) =
@@ -169,11 +163,11 @@ replace m no_nibble =
 replace m (and_nibble {n} {t = v} h s) = replace_one m n v h (replace m s)
 
 -- nibbles that bring no mark, and lead from the mark's code to an equivalent text
-record Leads (m : Mark) (v : List ℕ) : Type 0 where
-  new : List ℕ
-  no_mark : NoMarkIn (base_of m) new
-  equivalent : Equivalent (state_with m (v ++ base_of m)) (state_with m (new ++ base_of m))
-  small : AllNibbles new
+pub record Leads (m : Mark) (v : List ℕ) : Type 0 where
+  pub new : List ℕ
+  pub no_mark : NoMarkIn (base_of m) new
+  pub equivalent : Equivalent (state_with m (v ++ base_of m)) (state_with m (new ++ base_of m))
+  pub small : AllNibbles new
 
 still_none : {z : ℕ} {base : List ℕ} {o o₂ : Option (List ℕ)} (x y : ℕ) → Rests z base o o₂ → mark_if x y o ≡ not_yet
     → mark_if x y o₂ ≡ not_yet
@@ -181,7 +175,7 @@ still_none x y (one_rest o) e = e
 still_none x y (two_rests f q) e = absurd (let z : ◌≡◌ {A = ℕ} 0 1 = cc in omega arith)
 
 -- the newest four nibbles stay
-leads : (m : Mark) {v : List ℕ} → Byte m → AllNibbles v → detect (v ++ base_of m) ≡ not_yet → Leads m v
+pub leads : (m : Mark) {v : List ℕ} → Byte m → AllNibbles v → detect (v ++ base_of m) ≡ not_yet → Leads m v
 leads m b no_nibble e = record { new = []; no_mark = none_since; equivalent = the_same _; small = no_nibble }
 leads m b (and_nibble {n = a} ha no_nibble) e =
     record { new = a ∷ []; no_mark = one_more_lem a [] e none_since; equivalent = the_same _; small = and_nibble ha no_nibble }
@@ -220,52 +214,37 @@ leads m b (and_nibble {n = a} ha (and_nibble {n = c} hc (and_nibble {n = d} hd (
 
 -- a mark before it of the kind wanted, if any, then its own: between them nothing, so that the mark before is refused, or a line's number and
 -- body, so that it is handed out
-abbrev marks_for : Profile → Before → ℕ → List ℕ
+abbrev pub marks_for : Profile → Before → ℕ → List ℕ
 marks_for p NoLine c = mark_of c
 marks_for p (RefusedLine k) c = mark_of (clean_byte (Line k)) ++ mark_of c
 marks_for p (HandedOut k) c = mark_of (clean_byte (Line k)) ++ (content (sample p k 0) ++ mark_of c)
 
-abbrev nibbles_to : Profile → Mark → List ℕ
+abbrev pub nibbles_to : Profile → Mark → List ℕ
 nibbles_to p NoMark = []
 nibbles_to p (Open before c) = marks_for p before c
 
 -- a code that is read as end of line
-data EndRead (d : Reading) : Type 0 where
+pub data EndRead (d : Reading) : Type 0 where
   end_read : (q : Repair) → d ≡ Says EndOfLine q → EndRead d
 
-reads_end : (d : Reading) → is_end d ≡ true → EndRead d
+pub reads_end : (d : Reading) → is_end d ≡ true → EndRead d
 reads_end (Says EndOfLine q) h = end_read q refl
 reads_end (Says (Line k) q) h = absurd (true≢false (sym h))
 reads_end (Says ReservedEC q) h = absurd (true≢false (sym h))
 reads_end (Says ReservedF1 q) h = absurd (true≢false (sym h))
 reads_end Damaged h = absurd (true≢false (sym h))
 
-after_line_lem : (p : Profile) (k : Kind) (c : ℕ) → EndRead (reading_of c) → run p fresh (marks_for p (HandedOut k) c) ≡ state_with (Open (HandedOut k) c) (c % 16 ∷ c / 16 ∷ [])
-after_line_lem p k c (end_read q e) =
-    line_opens p (sample p k 0) (sample_writable p k 0 (omega arith)) (clean_byte (Line k)) c Clean q (clean_reading (Line k)) e fresh
-
-opened_at_lem : (before : Before) (c : ℕ) (t : List ℕ) → state_with (Open before (16 * (c / 16) + c % 16)) t ≡ state_with (Open before c) t
+pub opened_at_lem : (before : Before) (c : ℕ) (t : List ℕ) → state_with (Open before (16 * (c / 16) + c % 16)) t ≡ state_with (Open before c) t
 opened_at_lem before c t = let e : 16 * (c / 16) + c % 16 ≡ c = omega arith in ap (λ (x : ℕ). state_with (Open before x) t) e
 
-to_mark : (p : Profile) (m : Mark) → handed_fits m ≡ true → run p fresh (nibbles_to p m) ≡ state_with m (base_of m)
-unfolding clean_byte reading_of meaning_of kind_numbered reserved_of answer_of
-to_mark p NoMark h = refl
-to_mark p (Open (HandedOut k) c) h = after_line_lem p k c (reads_end (reading_of c) h)
-to_mark p (Open NoLine c) h = opened_at_lem NoLine c (c % 16 ∷ c / 16 ∷ [])
-to_mark p (Open (RefusedLine BL) c) h = opened_at_lem (RefusedLine BL) c (c % 16 ∷ c / 16 ∷ [])
-to_mark p (Open (RefusedLine BK) c) h = opened_at_lem (RefusedLine BK) c (c % 16 ∷ c / 16 ∷ [])
-to_mark p (Open (RefusedLine VL) c) h = opened_at_lem (RefusedLine VL) c (c % 16 ∷ c / 16 ∷ [])
-to_mark p (Open (RefusedLine SOF) c) h = opened_at_lem (RefusedLine SOF) c (c % 16 ∷ c / 16 ∷ [])
-to_mark p (Open (RefusedLine EOF) c) h = opened_at_lem (RefusedLine EOF) c (c % 16 ∷ c / 16 ∷ [])
-
-mark_small : (c : ℕ) → c < 256 → AllNibbles (mark_of c)
+pub mark_small : (c : ℕ) → c < 256 → AllNibbles (mark_of c)
 mark_small c h =
     let f : 15 < 16 = omega arith in
     let z : 0 < 16 = omega arith in
     and_nibble f (and_nibble f (and_nibble f (and_nibble f (and_nibble z (and_nibble z
     (and_nibble {n = c / 16} (omega arith) (and_nibble {n = c % 16} (omega arith) no_nibble)))))))
 
-clean_small : (k : Kind) → clean_byte (Line k) < 256
+pub clean_small : (k : Kind) → clean_byte (Line k) < 256
 unfolding clean_byte
 clean_small BL = omega arith
 clean_small BK = omega arith
@@ -273,15 +252,7 @@ clean_small VL = omega arith
 clean_small SOF = omega arith
 clean_small EOF = omega arith
 
-to_mark_small : (p : Profile) (m : Mark) → Byte m → AllNibbles (nibbles_to p m)
-to_mark_small p NoMark h = no_nibble
-to_mark_small p (Open NoLine c) h = mark_small c h
-to_mark_small p (Open (RefusedLine k) c) h = all_nibbles_append (mark_small _ (clean_small k)) (mark_small c h)
-to_mark_small p (Open (HandedOut k) c) h =
-    all_nibbles_append (mark_small _ (clean_small k))
-    (all_nibbles_append (all_content p (sample p k 0) (sample_writable p k 0 (omega arith))) (mark_small c h))
-
-small_turned : {v w : List ℕ} → AllNibbles v → AllNibbles w → AllNibbles (turned v w)
+pub small_turned : {v w : List ℕ} → AllNibbles v → AllNibbles w → AllNibbles (turned v w)
 small_turned no_nibble t = t
 small_turned (and_nibble h s) t = small_turned s (and_nibble h t)
 
@@ -290,21 +261,3 @@ pub record Reachable (p : Profile) (s : State) : Type 0 where
   pub nibbles : List ℕ
   pub small : AllNibbles nibbles
   pub equivalent : Equivalent s (run p fresh nibbles)
-
-pub reachable : (p : Profile) (m : Mark) {v : List ℕ} → Byte m → handed_fits m ≡ true → AllNibbles v → detect (v ++ base_of m) ≡ not_yet
-    → Reachable p (state_with m (v ++ base_of m))
-reachable p m {v} b fits s e = go (leads m b s e)
-  where
-    go : Leads m v → Reachable p (state_with m (v ++ base_of m))
-    go q =
-        record {
-          nibbles = nibbles_to p m ++ turned q.new [];
-          small = all_nibbles_append (to_mark_small p m b) (small_turned q.small no_nibble);
-          equivalent =
-              subst (λ (x : State). Equivalent (state_with m (v ++ base_of m)) x)
-              (sym
-              (run_append p fresh (nibbles_to p m) (turned q.new [])
-              ∙ ap (λ (x : State). run p x (turned q.new [])) (to_mark p m fits)
-              ∙ run_lengthens p m (base_of m) [] q.no_mark))
-              q.equivalent;
-        }

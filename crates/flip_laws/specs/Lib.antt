@@ -1,5 +1,3 @@
 pub mod Flips
 pub mod FlippedCodes
-pub mod FlippedCodesLaws
 pub mod Arrivals
-pub mod FlipsLaws

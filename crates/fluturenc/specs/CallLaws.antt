@@ -14,8 +14,8 @@ use Rattle.reader.specs.declared.Reader.{Reader}
 use Rattle.reader_head.specs.Head.{top_place, passes, leave_body}
 use Rattle.reader.specs.Reader.{Took, fresh_reader, taking, finish_of}
 use Rattle.run.specs.Run.{Ran, ran, run_of, onward}
-use Rattle.run.specs.RunLaws.{none_taken}
-use Rattle.reader_laws.specs.Passes.{passes_test, Finishing, finish_state, finish_taken, finishing, fresh_ok, take_ok, finish_ok}
+use Rattle.run.proofs.NothingTaken.{none_taken}
+use Rattle.reader_laws.proofs.Passes.{passes_test, Finishing, finish_state, finish_taken, finishing, fresh_ok, take_ok, finish_ok}
 use Rattle.reader_laws.specs.Passing.{Ok}
 use Rattle.reader_laws.specs.Bodies.{length_body}
 use Rattle.frame_judge.specs.declared.Judge.{Judge}

@@ -11,7 +11,7 @@ use Rattle.reader_head.specs.declared.Head.{Head}
 use Rattle.reader.specs.declared.Reader.{Reader}
 use Rattle.reader_head.specs.Head.{passes}
 use Rattle.run.specs.Run.{Ran, ran, run_of, lent_run_of}
-use Rattle.run.specs.RunLaws.{none_taken}
+use Rattle.run.proofs.NothingTaken.{none_taken}
 use Rattle.exported_state.specs.State.{head_length, state_length, head_bytes, head_stored, stored, head_in, body_in, reader_in, tagged, holds_reader}
 use Rattle.fluturenc.specs.Calls.{state_after, feed_ran, feed_call}
 

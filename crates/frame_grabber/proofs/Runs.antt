@@ -26,7 +26,7 @@ use Rattle.run.specs.Run.{Ran, lent_run_of, onward}
 use Rattle.run.specs.Gives.{LentRunGives}
 use Rattle.reader_laws.specs.Passing.{Ok}
 use Rattle.reader_laws.specs.ByRuns.{ByNibbles, RunOn}
-use Rattle.reader_laws.specs.ByRunsLaws.{run_on, lent_onward}
+use Rattle.reader_laws.proofs.ByRunsLaws.{run_on, lent_onward}
 use Rattle.capture_bytes.specs.UnpackedLaws.{nibbles_small}
 use Rattle.frame_rows.specs.declared.Gatherer.{Gatherer}
 use Rattle.frame_rows.specs.declared.Gathered.{Gathered}

@@ -14,7 +14,7 @@ use Rattle.reader.specs.declared.Reader.{Reader}
 use Rattle.reader.specs.Reader.{Took, fresh_reader, taking, feed_of}
 use Rattle.mark_answer.specs.Sound.{Sound, sound_nothing, sound_line, sound_gap, sound_refused}
 use Rattle.reader.specs.ReaderLaws.{take_profile, take_sound}
-use Rattle.reader_laws.specs.Passes.{passes_test, fresh_ok, Feeding, feed_state, feed_nibble, feed_room, feed_taken, feeding}
+use Rattle.reader_laws.proofs.Passes.{passes_test, fresh_ok, Feeding, feed_state, feed_nibble, feed_room, feed_taken, feeding}
 use Rattle.frame_handing.specs.declared.Handed.TheVariants as hand
 use Rattle.frame_judge.specs.Frame.{broken_kind}
 use Rattle.frame_handing.specs.Handing.{is_broken_line, as_lines, handed_lines}
@@ -25,8 +25,8 @@ use Rattle.frame_row.specs.FrameRow.{is_visible}
 use Rattle.frame_rows.specs.FrameRows.{Shown, complete}
 use Rattle.frame_rows.specs.FrameRows as rows
 use Rattle.frame_rows_laws.specs.Gathering.{call, start, is_refused_call, unless_refused, shown, taken, Laid, Every}
-use Rattle.frame_rows_laws.specs.FrameRowsLaws.{complete_rows}
-use Rattle.frame_rows_laws.specs.PictureLaws.{rows_written}
+use Rattle.frame_rows_laws.proofs.FrameRowsLaws.{complete_rows}
+use Rattle.frame_rows_laws.proofs.PictureLaws.{rows_written}
 use Rattle.frame_grabber.specs.FrameGrabber.{fresh_grabber, blank, given, seek, After, grab_of}
 use Rattle.frame_grabber.specs.Pieces.{joined, grab_pieces, givens, lines_in, FrameFound, Pictured}
 use Rattle.frame_grabber.specs.SeekLaws.{seeks}

@@ -6,7 +6,7 @@ use Rattle.profile.specs.Profile.{longest}
 use Rattle.reader.specs.declared.Reader.{Reader}
 use Rattle.reader_head.specs.Head.{passes}
 use Rattle.reader.specs.Reader.{feed_of}
-use Rattle.reader_laws.specs.Passes.{passes_test, feed_ok}
+use Rattle.reader_laws.proofs.Passes.{passes_test, feed_ok}
 use Rattle.reader_laws.specs.Passing.{Ok}
 use Rattle.frame_rows.specs.declared.Progress.{Progress}
 use Rattle.frame_rows.specs.declared.Progress.TheVariants as progress

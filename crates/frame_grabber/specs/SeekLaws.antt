@@ -18,7 +18,7 @@ use Rattle.frame_rows.specs.FrameRows.{Output, Shown, nothing, complete, refused
 use Rattle.frame_rows.specs.FrameRows as rows
 use Rattle.frame_row.specs.FrameRow.{row_size, row_fits, with_row}
 use Rattle.frame_rows_laws.specs.Gathering.{Given, call, calls, shown}
-use Rattle.frame_rows_laws.specs.FrameRowsLaws.{row_fits_lem, with_row_length, Hands, none, one, hands}
+use Rattle.frame_rows_laws.proofs.FrameRowsLaws.{row_fits_lem, with_row_length, Hands, none, one, hands}
 use Rattle.frame_grabber.specs.FrameGrabber.{given, is_said, Sought, sought, seek}
 use Rattle.frame_grabber.specs.Pieces.{givens, Seeks}
 

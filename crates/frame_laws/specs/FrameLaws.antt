@@ -1,9 +1,7 @@
 -- Laws of frames: the judge's test is true of exactly the states that calls reach, a whole frame is Complete, and nothing else is.
-use Rattle.std.specs.Prelude.{◌≡◌, refl, Bool, true, false, ◌&&◌, ◌||◌, cond, List, [], ◌∷◌, ◌++◌, ℕ, zero, suc, ◌+◌, ◌-◌, ◌≤◌, ◌<◌, eqb, leb, ltb, length, get_or, replicate, take}
-use Rattle.std.proofs.Common.{sym, ap, ap₂, subst, ◌∙◌, true≢false, append-nil, append_assoc, not-suc-le-zero, le_of_suc-le-suc, arith, add-one, eqb-true, leb-true, leb-false, ltb-true, ltb-false, le-leb, lt-ltb, le-ltb, eq-eqb, lit≤, length-append, length-take}
+use Rattle.std.specs.Prelude.{◌≡◌, refl, Bool, true, false, ◌&&◌, ◌||◌, cond, List, [], ◌∷◌, ◌++◌, ℕ, zero, suc, ◌+◌, ◌-◌, ◌≤◌, ◌<◌, eqb, leb, ltb, length, get_or, take}
+use Rattle.std.proofs.Common.{sym, ap, ap₂, subst, ◌∙◌, true≢false, append-nil, append_assoc, not-suc-le-zero, le_of_suc-le-suc, arith, add-one, eqb-true, leb-true, leb-false, ltb-true, ltb-false, le-leb, lt-ltb, le-ltb, eq-eqb, lit≤, length-append}
 use Rattle.std.proofs.Math.Bool.{or-true}
-use Rattle.std.proofs.lemmas.Bool.{lt-leb}
-use Rattle.std.proofs.lemmas.List.{length-replicate}
 use Rattle.bits.specs.Every.{and_left, and_right, and_both}
 use Rattle.refusal.specs.Refusal.{bad_kind, number_too_large, not_the_line_due, broken_line}
 use Rattle.line_code.specs.declared.Kind.{Kind}
@@ -23,11 +21,10 @@ use Rattle.frame_judge.specs.declared.Ruling.TheVariants as ruling
 use Rattle.frame_judge.specs.declared.Judged.{Judged}
 use Rattle.frame_layout.specs.FrameLayout.{layout, kinds_of, last_place, end_place, settling_place, kind_at_place, stands_at, number_due, due_at}
 use Rattle.frame_judge.specs.Frame.{within, passes, line_due, settled_by, gives, refuses, opens, begun, broken_kind, broken, due_taken, whole, judge_of}
-use Rattle.frame_layout.specs.PlaceLaws.{blank_after_lem, sof_only_first}
-use Rattle.frame_layout.specs.FrameLength.{frame_length}
-use Rattle.frame_judge.specs.Calls.{Line, line, called, after, rulings, is_complete, accepts, accepted_one, accepted, is_laid_out_at, laid_from, FirstLines, IsFrame, numbered_from, frame_lines}
+use Rattle.frame_layout.specs.PlaceLaws.{sof_only_first}
+use Rattle.frame_judge.specs.Calls.{Line, line, called, after, rulings, is_complete, accepts, accepted_one, accepted, is_laid_out_at, laid_from, FirstLines, numbered_from}
 use Rattle.bits.specs.Agree.{agree}
-use Rattle.frame_laws.specs.CompleteFrames.{to_complete, Completes}
+use Rattle.frame_laws.specs.CompleteFrames.{to_complete}
 
 -- The layout.
 
@@ -41,14 +38,14 @@ settling_early VV5404 = lit≤ tt
 settling_early VV5300 = lit≤ tt
 
 -- the EOF line is not after the last
-end_before : (p : Profile) (b : Borders) → end_place p b ≤ last_place p
+pub end_before : (p : Profile) (b : Borders) → end_place p b ≤ last_place p
 end_before VV5404 On = lit≤ tt
 end_before VV5404 Off = lit≤ tt
 end_before VV5300 On = lit≤ tt
 end_before VV5300 Off = lit≤ tt
 
 -- each place is a number of a line
-last_small : (p : Profile) → last_place p ≤ greatest
+pub last_small : (p : Profile) → last_place p ≤ greatest
 last_small VV5404 = lit≤ tt
 last_small VV5300 = lit≤ tt
 
@@ -102,106 +99,56 @@ later_opens_none p b place l f = by (eqb l.kind (kind_number SOF)) refl
 -- Lines as laid out.
 
 -- a line of the kind at a place, with a number that is due there
-kind_fits : (p : Profile) (b : Borders) (place : ℕ) (k : Kind) (n : ℕ) → kind_at_place p b place ≡ k → number_due p b place n ≡ true → n ≤ greatest
+pub kind_fits : (p : Profile) (b : Borders) (place : ℕ) (k : Kind) (n : ℕ) → kind_at_place p b place ≡ k → number_due p b place n ≡ true → n ≤ greatest
     → is_laid_out_at p b place (line (kind_number k) n) ≡ true
 kind_fits p b place k n e d h = and_both _ _ (and_both _ _ (eq-eqb _ _ (ap kind_number (sym e))) d) (le-leb n greatest h)
 
 -- a place's own number is due there
-own_number : (p : Profile) (b : Borders) (place : ℕ) → number_due p b place place ≡ true
+pub own_number : (p : Profile) (b : Borders) (place : ℕ) → number_due p b place place ≡ true
 own_number p b place = ap (λ (t : Bool). t || ltb (end_place p b) place) (eq-eqb place place refl)
 
--- lines of the kinds at the places from one on, each numbered with its place
-laid_counted : (p : Profile) (b : Borders) (place : ℕ) (ks : List Kind)
-    → ((i at : ℕ) → at ≡ place + i → i < length ks → kind_at_place p b at ≡ get_or ks i BL) → place + length ks ≤ greatest + 1 → laid_from p b place (numbered_from place ks) ≡ true
-laid_counted p b place [] e h = refl
-laid_counted p b place (k ∷ ks) e h =
-    and_both _ _ (kind_fits p b place k place (e 0 place (omega arith) (omega arith)) (own_number p b place) (omega arith))
-    (subst (λ (i : ℕ). laid_from p b (suc place) (numbered_from i ks) ≡ true) (sym (add-one place))
-    (laid_counted p b (suc place) ks (λ i at q l. e (suc i) at (omega arith) (omega arith)) (omega arith)))
-
--- lines after the EOF line, with its number
-laid_held : (p : Profile) (b : Borders) (place n : ℕ) → end_place p b < place → laid_from p b place (replicate n (line (kind_number BL) (end_place p b))) ≡ true
-laid_held p b place zero h = refl
-laid_held p b place (suc n) h =
-    and_both _ _ (kind_fits p b place BL (end_place p b) (blank_after_lem p b place h) (or_right (eqb (end_place p b) place) _ (lt-ltb (end_place p b) place h)) (end_small p b))
-    (laid_held p b (suc place) n (omega arith))
-  where
-    or_right : (a t : Bool) → t ≡ true → (a || t) ≡ true
-    or_right true t e = refl
-    or_right false t e = e
-
-    end_small : (p : Profile) (b : Borders) → end_place p b ≤ greatest
-    end_small p b = omega (arith, end_before p b, last_small p)
-
-laid_append : (p : Profile) (b : Borders) (place end : ℕ) (ls ms : List Line) → place + length ls ≡ end → laid_from p b place ls ≡ true → laid_from p b end ms ≡ true
+pub laid_append : (p : Profile) (b : Borders) (place end : ℕ) (ls ms : List Line) → place + length ls ≡ end → laid_from p b place ls ≡ true → laid_from p b end ms ≡ true
     → laid_from p b place (ls ++ ms) ≡ true
 laid_append p b place end [] ms e h g = subst (λ (i : ℕ). laid_from p b i ms ≡ true) (omega arith) g
 laid_append p b place end (l ∷ ls) ms e h g =
     and_both (is_laid_out_at p b place l) _ (and_left (is_laid_out_at p b place l) _ h) (laid_append p b (suc place) end ls ms (omega arith) (and_right (is_laid_out_at p b place l) _ h) g)
 
-length_numbered : (n : ℕ) (ks : List Kind) → length (numbered_from n ks) ≡ length ks
+pub length_numbered : (n : ℕ) (ks : List Kind) → length (numbered_from n ks) ≡ length ks
 length_numbered n [] = refl
 length_numbered n (k ∷ ks) = ap suc (length_numbered (n + 1) ks)
 
-get_d_take : (n i : ℕ) (ks : List Kind) → i < n → get_or (take n ks) i BL ≡ get_or ks i BL
+pub get_d_take : (n i : ℕ) (ks : List Kind) → i < n → get_or (take n ks) i BL ≡ get_or ks i BL
 get_d_take zero i ks h = absurd (not-suc-le-zero h)
 get_d_take (suc n) i [] h = refl
 get_d_take (suc n) zero (k ∷ ks) h = refl
 get_d_take (suc n) (suc i) (k ∷ ks) h = get_d_take n i ks (le_of_suc-le-suc h)
 
-kind_listed : (p : Profile) (b : Borders) (i at : ℕ) → at ≡ 0 + i → kind_at_place p b at ≡ get_or (kinds_of (layout p b)) i BL
+pub kind_listed : (p : Profile) (b : Borders) (i at : ℕ) → at ≡ 0 + i → kind_at_place p b at ≡ get_or (kinds_of (layout p b)) i BL
 unfolding kind_at_place
 kind_listed p b i at e =
     let q : at ≡ i = omega (arith, e) in
     ap (λ (j : ℕ). get_or (kinds_of (layout p b)) j BL) q
 
--- a frame may count on to its last line
-pub frame_counted : (p : Profile) (b : Borders) → IsFrame p b (frame_lines p b)
-frame_counted p b = (
-  length_numbered 0 (kinds_of (layout p b)) ∙ frame_length p b,
-  laid_counted p b 0 (kinds_of (layout p b)) (λ i at e h. kind_listed p b i at e) (omega (arith, frame_length p b, last_small p)),
-)
-
--- or hold the EOF line's number
-pub frame_held : (p : Profile) (b : Borders)
-    → IsFrame p b (numbered_from 0 (take (end_place p b + 1) (kinds_of (layout p b))) ++ replicate (last_place p - end_place p b) (line (kind_number BL) (end_place p b)))
-frame_held p b =
-    let ks : List Kind = take (end_place p b + 1) (kinds_of (layout p b)) in
-    let ms : List Line = replicate (last_place p - end_place p b) (line (kind_number BL) (end_place p b)) in
-    let e : length ks ≡ end_place p b + 1 = length-take (end_place p b + 1) (kinds_of (layout p b)) ∙ omega (arith, frame_length p b, end_before p b) in
-    let l : length (numbered_from 0 ks) ≡ end_place p b + 1 = length_numbered 0 ks ∙ e in
-    let m : length ms ≡ last_place p - end_place p b = length-replicate (last_place p - end_place p b) (line (kind_number BL) (end_place p b)) in (
-      length-append (numbered_from 0 ks) ms ∙ omega (arith, l, m, end_before p b),
-      laid_append p b 0 (end_place p b + 1) (numbered_from 0 ks) ms (omega (arith, l))
-          (laid_counted p b 0 ks
-          (λ i at q h. kind_listed p b i at q ∙ sym (get_d_take (end_place p b + 1) i (kinds_of (layout p b)) (omega (arith, e))))
-          (omega (arith, e, end_before p b, last_small p)))
-          (laid_held p b (end_place p b + 1) (last_place p - end_place p b) (omega arith)),
-    )
-
 -- the line at a place, and the lines before it
-abbrev line_at : Profile → Borders → ℕ → Line
+abbrev pub line_at : Profile → Borders → ℕ → Line
 line_at p b place = line (kind_number (kind_at_place p b place)) place
 
-own_fits : (p : Profile) (b : Borders) (place : ℕ) → place ≤ greatest → is_laid_out_at p b place (line_at p b place) ≡ true
-own_fits p b place h = kind_fits p b place (kind_at_place p b place) place refl (own_number p b place) h
-
-abbrev lines_before : Profile → Borders → ℕ → List Line
+abbrev pub lines_before : Profile → Borders → ℕ → List Line
 lines_before p b zero = []
 lines_before p b (suc n) = lines_before p b n ++ (line_at p b n ∷ [])
 
 -- The judge's own test.
 
-within_low : (from to n : ℕ) → within from to n ≡ true → from ≤ n
+pub within_low : (from to n : ℕ) → within from to n ≡ true → from ≤ n
 within_low from to n h = leb-true from n (and_left _ _ h)
 
-within_high : (from to n : ℕ) → within from to n ≡ true → n ≤ to
+pub within_high : (from to n : ℕ) → within from to n ≡ true → n ≤ to
 within_high from to n h = leb-true n to (and_right (leb from n) _ h)
 
 within_holds : (from to n : ℕ) → from ≤ n → n ≤ to → within from to n ≡ true
 within_holds from to n g h = and_both _ _ (le-leb from n g) (le-leb n to h)
 
-passes_low : (p : Profile) (place : ℕ) (s : KnownBorders) → passes p (Due place s) ≡ true → 1 ≤ place
+pub passes_low : (p : Profile) (place : ℕ) (s : KnownBorders) → passes p (Due place s) ≡ true → 1 ≤ place
 passes_low p place Unsettled h = within_low 1 (settling_place p) place h
 passes_low p place (Settled b) h = omega (arith, within_low (settling_place p + 1) (last_place p) place h)
 
@@ -236,11 +183,11 @@ abbrev known_at : Profile → Borders → ℕ → KnownBorders
 known_at p b place = cond (leb place (settling_place p)) Unsettled (Settled b)
 
 -- the judge at a place of a frame
-abbrev judge_at : Profile → Borders → ℕ → Judge
+abbrev pub judge_at : Profile → Borders → ℕ → Judge
 judge_at p b zero = Waiting
 judge_at p b (suc n) = Due (suc n) (known_at p b (suc n))
 
-judge_begun : (p : Profile) (b : Borders) → judge_at p b 1 ≡ begun
+pub judge_begun : (p : Profile) (b : Borders) → judge_at p b 1 ≡ begun
 judge_begun VV5404 b = refl
 judge_begun VV5300 b = refl
 
@@ -249,12 +196,6 @@ pub sof_within : (p : Profile) (place : ℕ) (s : KnownBorders) → passes p (Du
 unfolding judge_of
 sof_within p zero s h = absurd (let z = passes_low p zero s h in omega arith)
 sof_within p (suc n) s h = simp (h, sof_not_due p s n 0)
-
--- an SOF numbered 0 opens a frame from any judge
-sof_opens : (p : Profile) (j : Judge) → passes p j ≡ true → (called p j (line (kind_number SOF) 0)).judge ≡ begun
-unfolding judge_of
-sof_opens p Waiting h = refl
-sof_opens p (Due place s) h = ap (λ (r : Judged). r.judge) (sof_within p place s h)
 
 pub opens_is : (l : Line) → opens l.kind l.number ≡ true → l ≡ line (kind_number SOF) 0
 opens_is l h =
@@ -341,43 +282,19 @@ fitting p b n l h f =
 abbrev goes_on : Profile → Borders → ℕ → Judged
 goes_on p b place = gives (judge_at p b (suc place)) ruling.Going
 
-fitting_going : (p : Profile) (b : Borders) (n : ℕ) (l : Line) → n < last_place p - 1 → is_laid_out_at p b (suc n) l ≡ true → called p (judge_at p b (suc n)) l ≡ goes_on p b (suc n)
+pub fitting_going : (p : Profile) (b : Borders) (n : ℕ) (l : Line) → n < last_place p - 1 → is_laid_out_at p b (suc n) l ≡ true → called p (judge_at p b (suc n)) l ≡ goes_on p b (suc n)
 fitting_going p b n l h f = fitting p b n l (omega arith) f ∙ simp (lt-ltb (suc n) (last_place p) (omega arith), settled_at p b (suc n) l f, add-one (suc n))
 
 fitting_last : (p : Profile) (b : Borders) (n : ℕ) (l : Line) → suc n ≡ last_place p → is_laid_out_at p b (suc n) l ≡ true → called p (judge_at p b (suc n)) l ≡ gives Waiting ruling.Complete
 fitting_last p b n l e f = fitting p b n l (omega (arith, e)) f ∙ simp (le-ltb (suc n) (last_place p) (omega (arith, e)))
 
--- The states that calls reach.
-
-going : (p : Profile) (b : Borders) (place : ℕ) → place < last_place p → (called p (judge_at p b place) (line_at p b place)).judge ≡ judge_at p b (suc place)
-unfolding judge_of
-going p b zero h = subst (λ (l : Line). (called p Waiting l).judge ≡ judge_at p b 1) (sym (first_is p b (line_at p b 0) (own_fits p b 0 (omega arith)))) (sym (judge_begun p b))
-going p b (suc n) h =
-    ap (λ (r : Judged). r.judge) (fitting_going p b n (line_at p b (suc n)) (omega arith) (own_fits p b (suc n) (omega (arith, last_small p))))
-
-reach : (p : Profile) (b : Borders) (place : ℕ) → place ≤ last_place p → after p Waiting (lines_before p b place) ≡ judge_at p b place
-reach p b zero h = refl
-reach p b (suc n) h =
-    after_snoc p Waiting (lines_before p b n) (line_at p b n)
-    ∙ ap (λ (j : Judge). (called p j (line_at p b n)).judge) (reach p b n (omega arith))
-    ∙ going p b n (omega arith)
-
--- a judge that passes is reached by the first lines of a frame
-pub passes_reached : (p : Profile) (j : Judge) → passes p j ≡ true → (ls : List Line) × (after p Waiting ls ≡ j)
-passes_reached p Waiting h = ([], refl)
-passes_reached p (Due zero s) h = absurd (let z = passes_low p zero s h in omega arith)
-passes_reached p (Due (suc n) Unsettled) h =
-    (lines_before p On (suc n), reach p On (suc n) (passes_high p (suc n) Unsettled h) ∙ simp (le-leb (suc n) (settling_place p) (within_high 1 (settling_place p) (suc n) h)))
-passes_reached p (Due (suc n) (Settled b)) h =
-    (lines_before p b (suc n), reach p b (suc n) (passes_high p (suc n) (Settled b) h) ∙ simp (lt-leb (suc n) (settling_place p) (omega (arith, within_low (settling_place p + 1) (last_place p) (suc n) h))))
-
 -- A whole frame.
 
-from_call : (p : Profile) (j : Judge) (l : Line) (r : Judged) (ls : List Line) → called p j l ≡ r
+pub from_call : (p : Profile) (j : Judge) (l : Line) (r : Judged) (ls : List Line) → called p j l ≡ r
     → (rulings p j (l ∷ ls) ≡ r.ruling ∷ rulings p r.judge ls) × (after p j (l ∷ ls) ≡ after p r.judge ls)
 from_call p j l r ls e = (ap (λ (x : Judged). x.ruling ∷ rulings p x.judge ls) e, ap (λ (x : Judged). after p x.judge ls) e)
 
-rest_complete : (p : Profile) (b : Borders) (n : ℕ) (l : Line) (ls : List Line) → suc n + length ls ≡ last_place p → laid_from p b (suc n) (l ∷ ls) ≡ true
+pub rest_complete : (p : Profile) (b : Borders) (n : ℕ) (l : Line) (ls : List Line) → suc n + length ls ≡ last_place p → laid_from p b (suc n) (l ∷ ls) ≡ true
     → (rulings p (judge_at p b (suc n)) (l ∷ ls) ≡ to_complete (length ls)) × (after p (judge_at p b (suc n)) (l ∷ ls) ≡ Waiting)
 rest_complete p b n l [] e h =
     from_call p (judge_at p b (suc n)) l (gives Waiting ruling.Complete) [] (fitting_last p b n l (omega arith) (and_left _ _ h))
@@ -385,26 +302,6 @@ rest_complete p b n l (m ∷ ls) e h =
     let f = from_call p (judge_at p b (suc n)) l (goes_on p b (suc n)) (m ∷ ls) (fitting_going p b n l (omega arith) (and_left _ _ h)) in
     let r = rest_complete p b (suc n) m ls (omega arith) (and_right (is_laid_out_at p b (suc n) l) _ h) in
     (f.0 ∙ ap (λ (vs : List Ruling). ruling.Going ∷ vs) r.0, f.1 ∙ r.1)
-
--- a whole frame is Complete wherever the judge is: in another frame its first line is refused, and opens it
-pub frame_complete_anywhere : (p : Profile) (j : Judge) → passes p j ≡ true → (b : Borders) (ls : List Line) → IsFrame p b ls → Completes p j (called p j (line (kind_number SOF) 0)).ruling ls
-frame_complete_anywhere p j h b [] f = absurd (let e = f.0 in omega arith)
-frame_complete_anywhere p j h b (l ∷ []) f = absurd (let e = f.0 in omega (arith, settling_early p))
-frame_complete_anywhere p j h b (l ∷ m ∷ ls) f =
-    let s : Line = line (kind_number SOF) 0 in
-    let v : Ruling = (called p j s).ruling in
-    let e : length ls ≡ last_place p - 1 = (let e = f.0 in omega arith) in
-    let c = from_call p j s (gives begun v) (m ∷ ls) (ap (λ (x : Judge). gives x v) (sof_opens p j h)) in
-    let r = subst (λ (x : Judge). (rulings p x (m ∷ ls) ≡ to_complete (length ls)) × (after p x (m ∷ ls) ≡ Waiting)) (judge_begun p b)
-    (rest_complete p b 0 m ls (omega (arith, settling_early p)) (and_right (is_laid_out_at p b 0 l) _ f.1)) in
-    subst (λ (x : Line). Completes p j v (x ∷ m ∷ ls)) (sym (first_is p b l (and_left _ _ f.1)))
-    (c.0 ∙ ap (λ (vs : List Ruling). v ∷ vs) (r.0 ∙ ap to_complete e), c.1 ∙ r.1)
-
--- from a waiting judge: Going for each line but the last, then Complete
-pub frame_complete_lem : (p : Profile) (b : Borders) (ls : List Line) → IsFrame p b ls → (rulings p Waiting ls ≡ to_complete (last_place p)) × (after p Waiting ls ≡ Waiting)
-unfolding judge_of
-frame_complete_lem VV5404 b ls f = frame_complete_anywhere VV5404 Waiting refl b ls f
-frame_complete_lem VV5300 b ls f = frame_complete_anywhere VV5300 Waiting refl b ls f
 
 -- What one call does.
 
@@ -530,7 +427,7 @@ due_fits p place Unsettled l b h d o = and_both _ _ (by (ltb place (settling_pla
         subst (λ (x : Borders). due x ≡ true) same f
 
 -- the lines accepted so far end in those of the frame that the judge is in: its first lines, with each setting that is still open
-abbrev Traced : Profile → List Line → Judge → Type 0
+abbrev pub Traced : Profile → List Line → Judge → Type 0
 Traced p past Waiting = Unit {0}
 Traced p past (Due place s) = (earlier : List Line) × (ls : List Line) × (past ≡ earlier ++ ls) × ((b : Borders) → MayBe s b → FirstLines p b place ls)
 
@@ -540,7 +437,7 @@ first_longer p b place ls l h f =
     (simp length-append (omega (arith, f.0)), laid_append p b 0 place ls (l ∷ []) (omega (arith, f.0)) f.1 (and_both _ _ h refl))
 
 -- the lines accepted so far, one line longer
-longer : (p : Profile) (past : List Line) (place : ℕ) (s : KnownBorders) (l : Line) → passes p (Due place s) ≡ true → IsDue p s place l
+pub longer : (p : Profile) (past : List Line) (place : ℕ) (s : KnownBorders) (l : Line) → passes p (Due place s) ≡ true → IsDue p s place l
     → Traced p past (Due place s) → Traced p (past ++ (l ∷ [])) (Due (suc place) (settled_by p s place l.kind))
 longer p past place s l h d (earlier, ls, e, f) = (
   earlier,
@@ -566,7 +463,7 @@ traced_effect p past j l _ (goes place s e d g) h t =
     simp add-one (longer p past place s l (subst (λ (i : Judge). passes p i ≡ true) e h) d (subst (λ (i : Judge). Traced p past i) e t))
 traced_effect p past j l _ (ends place s e d g) h t = tt
 
-traced : (p : Profile) (past : List Line) (j : Judge) (ls : List Line) → passes p j ≡ true → Traced p past j → Traced p (past ++ accepted p j ls) (after p j ls)
+pub traced : (p : Profile) (past : List Line) (j : Judge) (ls : List Line) → passes p j ≡ true → Traced p past j → Traced p (past ++ accepted p j ls) (after p j ls)
 traced p past j [] h t = simp append-nil t
 traced p past j (l ∷ ls) h t =
     let e = effect p j l h in
@@ -574,7 +471,7 @@ traced p past j (l ∷ ls) h t =
     (traced p (past ++ accepted_one p j l) (called p j l).judge ls (passes_effect p j l (called p j l) e h) (traced_effect p past j l (called p j l) e h t))
 
 -- only a line that is due at the last place is answered Complete
-ends_only : (p : Profile) (j : Judge) (l : Line) (r : Judged) → Effect p j l r → r.ruling ≡ ruling.Complete
+pub ends_only : (p : Profile) (j : Judge) (l : Line) (r : Judged) → Effect p j l r → r.ruling ≡ ruling.Complete
     → (place : ℕ) × (s : KnownBorders) × (j ≡ Due place s) × (IsDue p s place l) × (last_place p ≤ place)
 ends_only p j l _ wrong_kind e = absurd (true≢false (sym (ap is_complete e)))
 ends_only p j l _ wrong_number e = absurd (true≢false (sym (ap is_complete e)))
@@ -585,27 +482,3 @@ ends_only p j l _ (starts q o) e = absurd (true≢false (sym (ap is_complete e))
 ends_only p j l _ (restarts o) e = absurd (true≢false (sym (ap is_complete e)))
 ends_only p j l _ (goes place s q d g) e = absurd (true≢false (sym (ap is_complete e)))
 ends_only p j l _ (ends place s q d g) e = (place, s, q, d, g)
-
--- a line that is due at the last place, where the borders are settled, ends a whole frame
-last_ends_frame : (p : Profile) (past : List Line) (place : ℕ) (s : KnownBorders) (l : Line) → passes p (Due place s) ≡ true → IsDue p s place l → last_place p ≤ place
-    → Traced p past (Due place s) → (b : Borders) × (earlier : List Line) × (frame : List Line) × (past ++ (l ∷ []) ≡ earlier ++ frame) × IsFrame p b frame
-last_ends_frame p past place Unsettled l h d g t = absurd (omega (arith, settling_early p, within_high 1 (settling_place p) place h))
-last_ends_frame p past place (Settled b) l h d g t = by (longer p past place (Settled b) l h d t)
-  where
-    by : Traced p (past ++ (l ∷ [])) (Due (suc place) (Settled b))
-        → (b : Borders) × (earlier : List Line) × (frame : List Line) × (past ++ (l ∷ []) ≡ earlier ++ frame) × IsFrame p b frame
-    by (earlier, frame, e, f) =
-        (b, earlier, frame, e, subst (λ (n : ℕ). FirstLines p b n frame) (omega (arith, passes_high p place (Settled b) h)) (f b refl))
-
--- if a call is answered Complete, the accepted lines up to it end in exactly the lines of a frame, borders on or off: no damaged frame is Complete
-pub complete_frame : (p : Profile) (ls : List Line) (l : Line) → (called p (after p Waiting ls) l).ruling ≡ ruling.Complete
-    → (b : Borders) × (earlier : List Line) × (frame : List Line) × (accepted p Waiting (ls ++ (l ∷ [])) ≡ earlier ++ frame) × IsFrame p b frame
-complete_frame p ls l v =
-    let j : Judge = after p Waiting ls in
-    let past : List Line = accepted p Waiting ls in
-    let t : passes p j ≡ true = reached_passes p ls in
-    let f = ends_only p j l (called p j l) (effect p j l t) v in
-    let all : accepted p Waiting (ls ++ (l ∷ [])) ≡ past ++ (l ∷ []) = accepted_snoc p Waiting ls l ∙ ap (λ (a : Ruling). past ++ cond (accepts a) (l ∷ []) []) v in
-    subst (λ (x : List Line). (b : Borders) × (earlier : List Line) × (frame : List Line) × (x ≡ earlier ++ frame) × IsFrame p b frame) (sym all)
-    (last_ends_frame p past f.0 f.1 l (subst (λ (i : Judge). passes p i ≡ true) f.2 t) f.3 f.4
-    (subst (λ (i : Judge). Traced p past i) f.2 (traced p [] Waiting ls refl tt)))

@@ -1,4 +1,1 @@
 pub mod Gathering
-pub mod FrameRowsLaws
-pub mod PictureLaws
-pub mod WholeFrameLaws

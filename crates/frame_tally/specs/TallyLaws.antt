@@ -21,7 +21,8 @@ use Rattle.frame_judge.specs.Frame.{passes, refuses, broken, judge_of, breaks_fr
 use Rattle.frame_judge.specs.Calls.{Line, line, called, after, rulings, is_complete, is_break, IsFrame}
 use Rattle.frame_handing.specs.Handing.{is_broken_line, handed_over, as_lines, handed_lines, all_handed}
 use Rattle.frame_laws.specs.CompleteFrames.{to_complete}
-use Rattle.frame_laws.specs.FrameLaws.{after_append, frame_complete_lem}
+use Rattle.frame_laws.specs.FrameLaws.{after_append}
+use Rattle.frame_laws.proofs.WholeFrames.{frame_complete_lem}
 use Rattle.counts.specs.Counts.{one_more, counting}
 use Rattle.counts.specs.CountsLaws.{counted, some}
 use Rattle.frame_tally.specs.declared.Tally.{Tally}

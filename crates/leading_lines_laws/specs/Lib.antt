@@ -1,2 +1,1 @@
 pub mod LeadingRun
-pub mod LeadingRunLaws

@@ -3,7 +3,7 @@ use Rattle.std.specs.Prelude.{◌≡◌, refl, true, List, [], ◌∷◌, ◌++�
 use Rattle.std.proofs.Common.{sym, ap, subst, ◌∙◌, arith, eqb-true, length-append, length-drop, take-append-drop, take_at, drop_at, drop-drop, get_or-drop}
 use Rattle.profile.specs.Profile.{width}
 use Rattle.line_records.specs.Lines.{FullLine, line_size, front_line, first_lines, full_lines, head_count, headed_lines, none_cut, as_lent}
-use Rattle.line_records.specs.LinesLaws.{lines_step, lines_none, body_length_lem}
+use Rattle.line_records.proofs.LinesLaws.{lines_step, lines_none, body_length_lem}
 
 -- each body has 356 bytes
 pub data FullBodies : List FullLine → Type 0 where

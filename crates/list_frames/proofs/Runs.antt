@@ -22,7 +22,7 @@ use Rattle.findings.specs.Findings.{take_of}
 use Rattle.findings.specs.FindingsLaws.{nothing_found}
 use Rattle.list_news.specs.NewsLines.{news_line, news_room}
 use Rattle.text.specs.Put.{Put}
-use Rattle.lister_laws.specs.RunLaws.{ByReader, Along, ran, head_is, body_is, answer_is, along_next, along_end}
+use Rattle.lister_laws.proofs.RunLaws.{ByReader, Along, ran, head_is, body_is, answer_is, along_next, along_end}
 use Rattle.list_frames.specs.declared.FrameLister.{FrameLister}
 use Rattle.list_frames.specs.declared.FramesListed.{FramesListed}
 use Rattle.list_frames.specs.FrameLister.{with_outcome, outcome_line, after_nibble, nibble_text, frame_lists, listed_of, ListsFrames}

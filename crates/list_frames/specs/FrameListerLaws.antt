@@ -3,7 +3,7 @@ use Rattle.std.specs.Prelude.{◌≡◌, refl, List, ℕ, ◌≤◌, length}
 use Rattle.stream.specs.Written.{nibbles}
 use Rattle.reader_head.specs.Head.{passes}
 use Rattle.lister_laws.specs.Lists.{listed_up_to, end_to_end, PieceCalls}
-use Rattle.lister_laws.specs.ListsLaws.{from_within, none_within, pieces_listed}
+use Rattle.lister_laws.proofs.ListsLaws.{from_within, none_within, pieces_listed}
 use Rattle.list_frames.specs.declared.FrameLister.{FrameLister}
 use Rattle.list_frames.specs.FrameLister.{frame_lists, list_after, list_text, taken_of, listed_of}
 

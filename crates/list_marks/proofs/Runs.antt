@@ -18,7 +18,7 @@ use Rattle.run.specs.Gives.{LentRunGives}
 use Rattle.reader_laws.specs.ByRuns.{took}
 use Rattle.list_rows.specs.Rows.{row_room, row_of}
 use Rattle.text.specs.Put.{Put}
-use Rattle.lister_laws.specs.RunLaws.{ByReader, Along, ran, head_is, body_is, answer_is, along_next, along_end}
+use Rattle.lister_laws.proofs.RunLaws.{ByReader, Along, ran, head_is, body_is, answer_is, along_next, along_end}
 use Rattle.list_marks.specs.declared.MarkLister.{MarkLister}
 use Rattle.list_marks.specs.declared.MarksListed.{MarksListed}
 use Rattle.list_marks.specs.MarkLister.{marks_with, with_outcome, outcome_row, after_nibble, nibble_text, mark_lists, listed_of, ListsMarks}

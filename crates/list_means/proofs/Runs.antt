@@ -19,7 +19,7 @@ use Rattle.run.specs.Gives.{LentRunGives}
 use Rattle.reader_laws.specs.ByRuns.{took}
 use Rattle.mean_rows.specs.MeanRows.{means_room}
 use Rattle.text.specs.Put.{Put}
-use Rattle.lister_laws.specs.RunLaws.{ByReader, Along, ran, head_is, body_is, answer_is, line_is, along_next, along_end}
+use Rattle.lister_laws.proofs.RunLaws.{ByReader, Along, ran, head_is, body_is, answer_is, line_is, along_next, along_end}
 use Rattle.mean_gap.specs.declared.Awaits.{Awaits}
 use Rattle.mean_gap.specs.declared.Awaits.TheVariants as awaits
 use Rattle.list_means.specs.declared.MeanLister.{MeanLister}

@@ -3,7 +3,7 @@ use Rattle.std.specs.Prelude.{◌≡◌, refl, List, ℕ, ◌≤◌, length}
 use Rattle.stream.specs.Written.{nibbles}
 use Rattle.reader_head.specs.Head.{passes}
 use Rattle.lister_laws.specs.Lists.{lister_after, text_after, listed_up_to, end_to_end, PieceCalls}
-use Rattle.lister_laws.specs.ListsLaws.{from_within, none_within, pieces_listed}
+use Rattle.lister_laws.proofs.ListsLaws.{from_within, none_within, pieces_listed}
 use Rattle.list_means.specs.declared.MeanLister.{MeanLister}
 use Rattle.list_means.specs.MeanLister.{means_lists, taken_of, listed_of}
 

@@ -1,4 +1,2 @@
 pub mod Lists
-pub mod ListsLaws
-pub mod RunLaws
 pub mod PartLaws

@@ -1,5 +1,5 @@
 -- The answer of a mark, from its text's length and what is kept of it. It is derived: `stored_answer` in refinement/specs/Stored.antt shows that it is
--- the answer of stream/specs/Answers.antt from the text itself, which `table` in recovery/specs/AnswerTableLaws.antt ties to 01's table.
+-- the answer of stream/specs/Answers.antt from the text itself, which `table` in recovery/proofs/AnswerTableLaws.antt ties to 01's table.
 use Rattle.std.specs.Prelude.{List, ℕ}
 use Rattle.std.proofs.Math.Option.{Option, none, some}
 use Rattle.refusal.specs.Refusal.{damaged_code, reserved_code, unfinished_line}

@@ -1,4 +1,1 @@
 pub mod Standing
-pub mod RunMeans
-pub mod BeginLaws
-pub mod StandingLaws

@@ -1,2 +1,1 @@
 pub mod PictureFile
-pub mod PictureFileLaws

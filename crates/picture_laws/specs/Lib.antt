@@ -1,5 +1,2 @@
 pub mod FrameSent
 pub mod UntilSaidLaws
-pub mod UnopenedLaws
-pub mod FrameSentLaws
-pub mod Examples

@@ -18,8 +18,8 @@ use Rattle.frame_rows.specs.declared.Gatherer.{Gatherer}
 use Rattle.frame_row.specs.FrameRow.{row_size, row_fits, with_row}
 use Rattle.frame_rows.specs.FrameRows.{Shown, Output, nothing, AfterCall, moved, quiet, refuses, place_due, row_kept, completing, completed, after_break, refused_by, by_ruling, handed}
 use Rattle.frame_rows_laws.specs.Gathering.{Given, call, calls, shown}
-use Rattle.frame_rows_laws.specs.FrameRowsLaws.{with_row_length, Hands, none, one, hands}
-use Rattle.frame_rows_laws.specs.WholeFrameLaws.{KeepsCalling}
+use Rattle.frame_rows_laws.proofs.FrameRowsLaws.{with_row_length, Hands, none, one, hands}
+use Rattle.frame_rows_laws.proofs.WholeFrameLaws.{KeepsCalling}
 use Rattle.frame_grabber.specs.FrameGrabber.{blank, given, is_said, sought, seek}
 use Rattle.frame_grabber.specs.Pieces.{givens, fed_all}
 use Rattle.frame_grabber.specs.SeekLaws.{not_said}

@@ -10,7 +10,7 @@ use lib.Seq.{take_all, paste-suc}
 use Rattle.profile.specs.Profile.{width}
 use Rattle.pixel_order.specs.declared.Way.{Way}
 use Rattle.pixel_order.specs.PixelOrder.{source_of, reordered}
-use Rattle.pixel_order.specs.PixelOrderLaws.{reordered_length, reordered_at}
+use Rattle.pixel_order.proofs.PixelOrderLaws.{reordered_length, reordered_at}
 
 -- a buffer whose first i bytes are those of a line in order
 abbrev pub filled : Way → List ℕ → List ℕ → ℕ → List ℕ

@@ -1,2 +1,1 @@
 pub mod PixelOrder
-pub mod PixelOrderLaws

@@ -5,12 +5,6 @@ pub mod FreePlaces
 pub mod OwnPlaces
 pub mod Places
 pub mod Views
-pub mod Isolation
-pub mod OpeningLaws
-pub mod Parts
-pub mod OpeningDemand
 pub mod Lowest
 pub mod Closed
 pub mod Reached
-pub mod OwnPlacesLaws
-pub mod Examples

@@ -13,7 +13,7 @@ use Rattle.reader.specs.declared.Reader.{Reader}
 use Rattle.reader.specs.Reader.{fresh_reader}
 use Rattle.refinement.specs.ReaderCallsLaws.{answered}
 use Rattle.refinement.specs.Runs.{RunCall, run_result, on_runs}
-use Rattle.refinement.specs.RunsReached.{runs_never_eleven}
+use Rattle.refinement.proofs.RunsReached.{runs_never_eleven}
 use Rattle.reader_table.specs.declared.ReaderTable.{ReaderTable}
 use Rattle.technician.specs.Technician.{is_technician}
 use Rattle.reader_table.specs.Table.{free_place, place_count, empty_table, place_at, held_by, Placing, at_place, not_placed, open_place_of, not_called, lent_to, call_held, call_place_of}

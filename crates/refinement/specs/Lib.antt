@@ -1,5 +1,4 @@
 pub mod CallTable
-pub mod CallTableLaws
 pub mod Window
 pub mod WindowLaws
 pub mod StoredText
@@ -9,10 +8,5 @@ pub mod RefineLaws
 pub mod ReaderCalls
 pub mod ReaderCallsLaws
 pub mod Runs
-pub mod RunsLaws
-pub mod RunsReached
 pub mod RunAnswers
-pub mod RunAnswersLaws
-pub mod Brought
 pub mod RunBySingles
-pub mod RunBySinglesLaws

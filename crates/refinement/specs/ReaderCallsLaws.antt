@@ -12,9 +12,9 @@ use Rattle.reader.specs.declared.Reader.{Reader}
 use Rattle.reader_head.specs.Head.{passes}
 use Rattle.reader.specs.Reader.{fresh_reader, refusing, new_of, taking, feed_of}
 use Rattle.recovery.specs.Calls.{Call, feed, done, CallResult, on_run, MeetsDemandThree, turned_away, fed, meaning_call}
-use Rattle.recovery.specs.DemandThree.{carried}
+use Rattle.recovery.proofs.DemandThree.{carried}
 use Rattle.reader.specs.ReaderLaws.{legible_feed}
-use Rattle.reader_laws.specs.Passes.{passes_test, fresh_ok, feed_ok, finish_ok, feed_refused, finish_refused, feed_eleven, finish_eleven}
+use Rattle.reader_laws.proofs.Passes.{passes_test, fresh_ok, feed_ok, finish_ok, feed_refused, finish_refused, feed_eleven, finish_eleven}
 use Rattle.reader_laws.specs.Passing.{Ok}
 use Rattle.refinement.specs.Refine.{Follows}
 use Rattle.refinement.specs.RefineLaws.{fresh_follows, feed_tests, taking_steps, finish_steps}

@@ -41,7 +41,7 @@ use Rattle.mark_text.specs.MarkTextLaws.{gap_start_small}
 use Rattle.reader_laws.specs.Passing.{Ok, finished}
 use Rattle.refinement.specs.StoredText.{stored_kept, stored_body}
 use Rattle.refinement.specs.Stored.{byte_keep, body_out, stored_length, wrong_length_lem, stored_answer}
-use Rattle.reader_laws.specs.Passes.{fresh_ok, take_ok, passes_test}
+use Rattle.reader_laws.proofs.Passes.{fresh_ok, take_ok, passes_test}
 use Rattle.refinement.specs.Refine.{SameHead, Same, Follows, fed_reader, fed_outcomes}
 
 -- The count's stop: numbers that are equal, or both past every body and every period that is told.

@@ -324,15 +324,15 @@ keep_two p b s l h c m e q =
       code = q.code;
       rest = q.rest ++ (v ∷ []);
       is_bytes =
-          ap (λ (w : List ℕ). w ++ (v ∷ [])) q.is-bytes
+          ap (λ (w : List ℕ). w ++ (v ∷ [])) q.is_bytes
           ∙ ap₂ {C = List ℕ} (λ i j. q.code ∷ i ∷ j ∷ (q.rest ++ (v ∷ []))) (sym f) (sym g);
-      is_length = length-append q.rest (v ∷ []) ∙ (let z = q.is-length in omega arith);
+      is_length = length-append q.rest (v ∷ []) ∙ (let z = q.is_length in omega arith);
       is_body = λ up.
           let n = stored_length b c in
           body_two k l h (stored_body b c) m e (omega arith) (omega arith)
           ∙ ap (λ (w : List ℕ). set w m v)
           (q.is_body (omega arith) ∙ ap (λ (w : List ℕ). q.rest ++ w) (drop-cons b m 0 (omega arith)))
-          ∙ set_at q.rest (get_or b m 0) (drop (suc m) b) v m q.is-length
+          ∙ set_at q.rest (get_or b m 0) (drop (suc m) b) v m q.is_length
           ∙ sym (append_assoc q.rest (v ∷ []) (drop (suc m) b));
     }
 
@@ -364,7 +364,7 @@ module _ (p : Profile) (k : Kind) (r : Repair) (b : List ℕ) (size : length b �
   whole_stored : {c : List ℕ} (m : ℕ) → Pairs c (suc (suc (suc m))) → WholeBytes p b c m
       → line_from p k r (bytes_onto c []) next ≡ kept_line p k r (length c) (stored_kept p c) (stored_body b c) next
   whole_stored {c} m q h =
-      ap (λ bs. line_from p k r bs next) (bytes_onto_all q [] ∙ ap {B = Option (List ℕ)} some (append-nil (bytes c) ∙ h.is-bytes))
+      ap (λ bs. line_from p k r bs next) (bytes_onto_all q [] ∙ ap {B = Option (List ℕ)} some (append-nil (bytes c) ∙ h.is_bytes))
       ∙ go (eqb (length c) (2 * body_length p + body_place)) refl
     where
       len : length c ≡ 2 * m + body_place
@@ -381,14 +381,14 @@ module _ (p : Profile) (k : Kind) (r : Repair) (b : List ℕ) (size : length b �
           ≡ require (eqb (length c) (2 * body_length p + body_place)) wrong_length (line_shape x y (take (body_length p) (stored_body b c)))
       go true g =
           let n = eqb-true (length c) (2 * body_length p + body_place) g in
-          let l = h.is-length in
+          let l = h.is_length in
           let same : length h.rest ≡ body_length p = omega (arith, len) in
           let t : take (body_length p) (stored_body b c) ≡ h.rest =
           ap (take (body_length p)) (h.is_body (omega (arith, len, body_small p))) ∙ take_at h.rest (drop m b) (body_length p) same in
           ap₂ (λ a w. require a wrong_length (line_shape x y w)) (eq-eqb (length h.rest) (body_length p) same ∙ sym g) (sym t)
       go false g =
           let n = eqb-false (length c) (2 * body_length p + body_place) g in
-          let l = h.is-length in
+          let l = h.is_length in
           refuses _ wrong_length _ (ne_eqb (length h.rest) (body_length p) (λ z. n (omega (arith, len)))) ∙ sym (refuses _ wrong_length _ g)
 
   short : (n : ℕ) (c : List ℕ) → (n ≡ 2 * body_length p + body_place → ⊥) → kept_line p k r n (stored_kept p c) (stored_body b c) next ≡ refused wrong_length

@@ -1,2 +1,3 @@
 pub mod LegibleRuns
 pub mod Running
+pub mod NothingTaken

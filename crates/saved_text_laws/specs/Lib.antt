@@ -1,4 +1,1 @@
-pub mod FieldRanges
-pub mod NumberRead
 pub mod SettingsRead
-pub mod SettingsReadLaws

@@ -1,10 +1,4 @@
 pub mod Slip
 pub mod ShortTexts
-pub mod SlipLaws
 pub mod SlipFrames
 pub mod Handed
-pub mod LeftHanded
-pub mod LostRulings
-pub mod SlipFramesLaws
-pub mod SlipTally
-pub mod Examples

@@ -8,7 +8,7 @@ use Rattle.profile.specs.declared.Profile.{Profile}
 use Rattle.stream.specs.declared.Mark.{Mark}
 use Rattle.stream.specs.declared.Mark.TheVariants.{NoMark, Open}
 use Rattle.stream.specs.Answers.{Outcome, nothing, line, gap, refused, is_line, line_nibbles}
-use Rattle.stream.specs.TextLengthLaws.{line_length}
+use Rattle.stream.proofs.TextLengthLaws.{line_length}
 use Rattle.stream.specs.Stream.{State, Completed, not_yet, mark, detect, answer_at, advance}
 use Rattle.recovery.specs.Calls.{LineOut, line_in, mark_nibbles}
 use Rattle.recovery.specs.Resync.{state_with}

@@ -1,3 +1,1 @@
 pub mod SlipVerdict
-pub mod SlipVerdictLaws
-pub mod Examples

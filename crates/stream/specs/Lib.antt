@@ -1,6 +1,5 @@
 pub mod Answers
 pub mod AnswersLaws
-pub mod TextLengthLaws
 pub mod Stream
 pub mod TextLaws
 pub mod Written

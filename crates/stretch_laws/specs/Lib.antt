@@ -1,5 +1,1 @@
 pub mod Stretches
-pub mod StretchesLaws
-pub mod StretchCallsLaws
-pub mod WholeLinesLaws
-pub mod Examples

@@ -1,11 +1,4 @@
 pub mod CaptureVerdict
-pub mod CaptureVerdictLaws
 pub mod CleanCapture
-pub mod JudgedFrames
-pub mod CleanCaptureLaws
-pub mod LongEnough
 pub mod ListedVerdict
-pub mod ListedVerdictLaws
 pub mod GoodCapture
-pub mod GoodCaptureLaws
-pub mod Examples

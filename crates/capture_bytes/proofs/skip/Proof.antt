@@ -3,7 +3,7 @@ use mathlib.Core.Path.{sym, ◌∙◌}
 use native.Mathlib.Omega.{arith}
 use borrow.Author.Rules.{rules}
 use Rattle.reader_laws.specs.Passing.{Ok}
-use Rattle.reader_laws.specs.Passes.{passed}
+use Rattle.reader_laws.proofs.Passes.{passed}
 use Rattle.capture_bytes.proofs.Blocks.{skips_here, skips_led}
 use Rattle.capture_bytes.proofs.skip.Statement.{statement}
 use Rattle.capture_bytes.proofs.skip.Tie as tie

@@ -5,7 +5,7 @@ use native.Mathlib.Omega.{arith}
 use lib.ListN.{length, get_or}
 use borrow.Author.Rules.{rules}
 use Rattle.reader_head.specs.declared.Head.{Head}
-use Rattle.reader_laws.specs.Passes.{passed}
+use Rattle.reader_laws.proofs.Passes.{passed}
 use Rattle.capture_bytes.proofs.Blocks.{bump_one, leave_length, leads_on, nibble_first}
 use Rattle.capture_bytes.proofs.skip_sound.Statement.{statement}
 use Rattle.capture_bytes.proofs.skip_sound.Tie as tie

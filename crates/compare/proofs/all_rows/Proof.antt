@@ -5,7 +5,7 @@ use native.Mathlib.Omega.{arith}
 use lib.ListN.{length, length-drop}
 use lib.Seq.{length-take-le}
 use borrow.Author.Rules.{rules}
-use Rattle.line_records.specs.LinesLaws.{lent_from_is}
+use Rattle.line_records.proofs.LinesLaws.{lent_from_is}
 use Rattle.compare.proofs.all_rows.Statement.{statement}
 use Rattle.compare.proofs.all_rows.Tie as tie
 

@@ -6,7 +6,7 @@ use borrow.Author.Tests.{lt-leb, le-leb}
 use lib.ListN.{length}
 use Rattle.line_records.specs.Lines.{full_lines}
 use Rattle.diff_records.specs.Difference.{differences, encoded_all}
-use Rattle.diff_records.specs.NextLaws.{left_bytes, left_length, left_end, in_first, in_second}
+use Rattle.diff_records.proofs.NextLaws.{left_bytes, left_length, left_end, in_first, in_second}
 use borrow.Author.Rules.{rules}
 use Rattle.diff_lines.proofs.fits.Goals as goal
 

@@ -1,7 +1,7 @@
 -- Five bytes for kinds that differ, seven for each place.
 use native.Mathlib.Omega.{arith}
 use Rattle.line_records.specs.Lines.{front_line}
-use Rattle.diff_records.specs.DifferenceLaws.{between_size}
+use Rattle.diff_records.proofs.DifferenceLaws.{between_size}
 use borrow.Author.Rules.{rules}
 use Rattle.diff_records.proofs.between_size.Goals as goal
 

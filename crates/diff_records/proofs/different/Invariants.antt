@@ -6,7 +6,7 @@ use native.Mathlib.Omega.{arith}
 use borrow.Author.Rules.{rules}
 use lib.ListN.{length, drop, drop_of_length-le}
 use Rattle.diff_records.specs.Next.{different}
-use Rattle.diff_records.specs.DifferenceLaws.{different_step}
+use Rattle.diff_records.proofs.DifferenceLaws.{different_step}
 use Rattle.diff_records.proofs.different.Given as goal
 
 abbrev pub invariant-loop-p : goal.invariant-loop-p

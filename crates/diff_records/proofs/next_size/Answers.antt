@@ -1,10 +1,10 @@
 -- The size of what the least number gives, by whose it is.
 use mathlib.Core.Path.{sym, ap, ◌∙◌}
 use lib.ListN.{length}
-use Rattle.line_records.specs.LinesLaws.{body_length_lem}
+use Rattle.line_records.proofs.LinesLaws.{body_length_lem}
 use Rattle.diff_records.specs.Difference.{encoded_all}
-use Rattle.diff_records.specs.DifferenceLaws.{first_size, second_size}
-use Rattle.diff_records.specs.NextLaws.{next_line_lem, lesser_line, next_first, next_second, next_both, next_none}
+use Rattle.diff_records.proofs.DifferenceLaws.{first_size, second_size}
+use Rattle.diff_records.proofs.NextLaws.{next_line_lem, lesser_line, next_first, next_second, next_both, next_none}
 use borrow.Author.Rules.{rules}
 use Rattle.diff_records.proofs.next_size.Goals as goal
 

@@ -1,7 +1,7 @@
 -- The kinds, then the places, are what differs between the lines.
 use mathlib.Core.Path.{sym}
 use Rattle.text.specs.PutLaws.{then}
-use Rattle.diff_records.specs.DifferenceLaws.{between_is}
+use Rattle.diff_records.proofs.DifferenceLaws.{between_is}
 use Rattle.diff_records.specs.RestLaws.{puts_is}
 use borrow.Author.Rules.{rules}
 use Rattle.diff_records.proofs.put_between.Goals as goal

@@ -1,7 +1,7 @@
 -- Equal kinds put nothing; others are one difference.
 use mathlib.Core.Path.{sym}
 use Rattle.text.specs.PutLaws.{puts_none}
-use Rattle.diff_records.specs.DifferenceLaws.{kinds_are, none_is}
+use Rattle.diff_records.proofs.DifferenceLaws.{kinds_are, none_is}
 use Rattle.diff_records.specs.RestLaws.{puts_is}
 use borrow.Author.Rules.{rules}
 use Rattle.diff_records.proofs.put_kinds.Goals as goal

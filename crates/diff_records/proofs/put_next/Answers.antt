@@ -3,7 +3,7 @@ use mathlib.Core.Path.{sym, ap, ◌∙◌}
 use mathlib.Core.List.{append-nil}
 use Rattle.text.specs.PutLaws.{puts_none}
 use Rattle.diff_records.specs.Difference.{encoded, encoded_all}
-use Rattle.diff_records.specs.NextLaws.{next_line_lem, lesser_line, next_first, next_second, next_both, next_none}
+use Rattle.diff_records.proofs.NextLaws.{next_line_lem, lesser_line, next_first, next_second, next_both, next_none}
 use Rattle.diff_records.specs.RestLaws.{puts_is}
 use borrow.Author.Rules.{rules}
 use Rattle.diff_records.proofs.put_next.Goals as goal

@@ -4,7 +4,7 @@ use mathlib.Core.List.{List}
 use Prim.Native.Nat.{ℕ, ◌≤◌, ◌-◌}
 use lib.ListN.{length, drop, drop_of_length-le}
 use Rattle.diff_records.specs.Difference.{places_from, encoded_all}
-use Rattle.diff_records.specs.DifferenceLaws.{places_step}
+use Rattle.diff_records.proofs.DifferenceLaws.{places_step}
 use Rattle.diff_records.specs.RestLaws.{Rest, rest_all, rest_put, rest_none}
 use borrow.Author.Rules.{rules}
 use Rattle.diff_records.proofs.put_places.Goals as goal

@@ -8,7 +8,7 @@ use borrow.Author.Rules.{rules}
 use Rattle.text.specs.PutLaws.{whole, front_text}
 use Rattle.diff_records.specs.ReadBack.{differences_in}
 use Rattle.diff_records.specs.RestLaws.{puts_is}
-use Rattle.diff_records.specs.NextLaws.{next_is, stepped}
+use Rattle.diff_records.proofs.NextLaws.{next_is, stepped}
 use Rattle.diff_rows.specs.Rows.{rows_text}
 use Rattle.diff_rows.specs.RowsLaws.{next_back, next_few}
 use Rattle.diff_rows.proofs.next_rows.Statement.{statement}

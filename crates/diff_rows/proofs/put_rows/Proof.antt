@@ -4,7 +4,7 @@ use Prim.Native.Nat.{◌≤◌, ◌-◌, ◌+◌}
 use native.Mathlib.Omega.{arith}
 use lib.ListN.{length, drop}
 use borrow.Author.Rules.{rules}
-use Rattle.line_records.specs.LinesLaws.{lent_from}
+use Rattle.line_records.proofs.LinesLaws.{lent_from}
 use Rattle.diff_records.specs.ReadBack.{differences_in}
 use Rattle.diff_records.specs.RestLaws.{Rest, rest_all, rest_put, rest_none, puts_is}
 use Rattle.diff_records.specs.ReadBack.{front_size}

@@ -5,7 +5,7 @@ use native.Mathlib.Omega.{arith}
 use lib.ListN.{length}
 use Rattle.line_records.specs.Lines.{full_lines}
 use Rattle.diff_records.specs.Difference.{differences}
-use Rattle.diff_records.specs.NextLaws.{in_first, in_second}
+use Rattle.diff_records.proofs.NextLaws.{in_first, in_second}
 use Rattle.diff_summary.specs.Summary.{with_differences, summary_of}
 use Rattle.diff_summary.specs.SummaryLaws.{differences_from, walk_counted, walk_end}
 use borrow.Author.Rules.{rules}

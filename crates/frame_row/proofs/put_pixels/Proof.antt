@@ -6,7 +6,7 @@ use Rattle.line_code.specs.LineCode.{kind_number}
 use Rattle.profile.specs.Profile.{width}
 use Rattle.pixel_order.specs.declared.Way.TheVariants.{ToPixels}
 use Rattle.pixel_order.specs.PixelOrder.{reordered}
-use Rattle.pixel_order.specs.PixelOrderLaws.{in_order_lem}
+use Rattle.pixel_order.proofs.PixelOrderLaws.{in_order_lem}
 use Rattle.frame_row.proofs.Putting.{put_copied, put_used}
 use Rattle.frame_row.proofs.put_pixels.Statement.{statement}
 use Rattle.frame_row.proofs.put_pixels.Tie as tie

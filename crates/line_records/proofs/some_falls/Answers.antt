@@ -6,7 +6,7 @@ use borrow.Author.Rules.{rules}
 use borrow.Author.Tests.{lt-leb, le-leb}
 use lib.ListN.{length, drop}
 use Rattle.line_records.specs.Lines.{headed_lines, rises_from, rises}
-use Rattle.line_records.specs.LinesLaws.{heads_at, heads_over}
+use Rattle.line_records.proofs.LinesLaws.{heads_at, heads_over}
 use Rattle.line_records.proofs.some_falls.Goals as goal
 
 pub loop-i-init : goal.loop-i-init

@@ -6,7 +6,7 @@ use borrow.Author.Rules.{rules}
 use borrow.Author.Tests.{lt-leb, le-leb}
 use lib.ListN.{length, drop, get_or}
 use Rattle.line_records.specs.Lines.{headed_lines, kinds_known}
-use Rattle.line_records.specs.LinesLaws.{heads_at, heads_over, kind_at}
+use Rattle.line_records.proofs.LinesLaws.{heads_at, heads_over, kind_at}
 use Rattle.line_records.proofs.some_kind_bad.Given as goal
 
 abbrev pub invariant-loop-i : goal.invariant-loop-i

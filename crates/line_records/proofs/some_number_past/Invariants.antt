@@ -5,7 +5,7 @@ use borrow.Author.Rules.{rules}
 use borrow.Author.Tests.{lt-leb, le-leb}
 use lib.ListN.{length, drop}
 use Rattle.line_records.specs.Lines.{headed_lines, numbers_small}
-use Rattle.line_records.specs.LinesLaws.{heads_at, heads_over}
+use Rattle.line_records.proofs.LinesLaws.{heads_at, heads_over}
 use Rattle.line_records.proofs.some_number_past.Given as goal
 
 abbrev pub invariant-loop-i : goal.invariant-loop-i

@@ -1,5 +1,5 @@
 -- The header, digit by digit: each is its number's, and each number has three.
-use Rattle.picture_file.specs.PictureFileLaws.{header_digits}
+use Rattle.picture_file.proofs.PictureFileLaws.{header_digits}
 use borrow.Author.Rules.{rules}
 use Rattle.pgm.proofs.header.Statement.{statement}
 use Rattle.pgm.proofs.header.Tie as tie

@@ -6,7 +6,7 @@ use borrow.Author.Rules.{rules}
 use borrow.Author.Tests.{eq-eqb, ne_eqb}
 use lib.ListN.{length, drop}
 use Rattle.picture_file.specs.PictureFile.{header_length, starts}
-use Rattle.picture_file.specs.PictureFileLaws.{header_length_lem}
+use Rattle.picture_file.proofs.PictureFileLaws.{header_length_lem}
 use Rattle.pgm.proofs.Scanning.{starts_step, starts_end}
 use Rattle.pgm.proofs.heads.Statement.{statement}
 use Rattle.pgm.proofs.heads.Tie as tie

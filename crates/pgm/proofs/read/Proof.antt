@@ -3,7 +3,7 @@ use borrow.Author.Rules.{rules}
 use borrow.Author.Rules.{part_to_end}
 use Rattle.lent_buffer.specs.FilledLaws.{refuses}
 use Rattle.picture_file.specs.PictureFile.{header_length, either, read_of}
-use Rattle.picture_file.specs.PictureFileLaws.{cut_header}
+use Rattle.picture_file.proofs.PictureFileLaws.{cut_header}
 use Rattle.pgm.proofs.read.Statement.{statement}
 use Rattle.pgm.proofs.read.Tie as tie
 

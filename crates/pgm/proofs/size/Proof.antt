@@ -1,6 +1,6 @@
 -- Height times width, both small, so that the product is exact.
 use native.Mathlib.Omega.{arith}
-use Rattle.picture_file.specs.PictureFileLaws.{height_most}
+use Rattle.picture_file.proofs.PictureFileLaws.{height_most}
 use borrow.Author.Rules.{rules}
 use Rattle.pgm.proofs.size.Statement.{statement}
 use Rattle.pgm.proofs.size.Tie as tie

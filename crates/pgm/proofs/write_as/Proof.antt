@@ -3,7 +3,7 @@ use borrow.Author.Tests.{lt-leb, le-leb}
 use Rattle.lent_buffer.specs.Filled.{require}
 use Rattle.lent_buffer.specs.FilledLaws.{refuses, fills}
 use Rattle.picture_file.specs.PictureFile.{header_length, image_of}
-use Rattle.picture_file.specs.PictureFileLaws.{header_length_lem, image_length_lem}
+use Rattle.picture_file.proofs.PictureFileLaws.{header_length_lem, image_length_lem}
 use Rattle.pgm.proofs.Copying.{copied}
 use borrow.Author.Rules.{rules}
 use Rattle.pgm.proofs.write_as.Statement.{statement}

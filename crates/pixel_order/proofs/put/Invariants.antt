@@ -5,7 +5,7 @@ use native.Mathlib.Omega.{arith}
 use borrow.Author.Rules.{rules}
 use lib.ListN.{length, length-set}
 use Rattle.profile.specs.Profile.{width}
-use Rattle.pixel_order.specs.PixelOrderLaws.{source_inside}
+use Rattle.pixel_order.proofs.PixelOrderLaws.{source_inside}
 use Rattle.pixel_order.proofs.Putting.{filled, put_next, put_all}
 use Rattle.pixel_order.proofs.put.Given as goal
 

@@ -1,5 +1,5 @@
 -- What the least number gives is counted, by whose it is.
-use Rattle.diff_records.specs.NextLaws.{next_line_lem, next_first, next_second, next_both, next_none}
+use Rattle.diff_records.proofs.NextLaws.{next_line_lem, next_first, next_second, next_both, next_none}
 use borrow.Author.Rules.{rules}
 use Rattle.diff_summary.proofs.Summary.with_next.Goals as goal
 

@@ -5,7 +5,7 @@ use native.Mathlib.Omega.{arith}
 use lib.ListN.{length}
 use borrow.Author.Rules.{rules}
 use Rattle.profile.specs.Profile.{longest}
-use Rattle.reader_laws.specs.Passes.{passed}
+use Rattle.reader_laws.proofs.Passes.{passed}
 use Rattle.frame_grabber.specs.FrameGrabber.{blank}
 use Rattle.frame_grabber.proofs.Runs.{reader, Along, along_start, taken_fits, left_less, along_next, along_end, refused_state}
 use Rattle.frame_grabber.proofs.Grabber.grab.Statement.{statement}

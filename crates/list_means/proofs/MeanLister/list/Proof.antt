@@ -5,9 +5,9 @@ use native.Mathlib.Omega.{arith}
 use lib.ListN.{length}
 use borrow.Author.Rules.{rules}
 use Rattle.profile.specs.Profile.{longest}
-use Rattle.reader_laws.specs.Passes.{passed}
+use Rattle.reader_laws.proofs.Passes.{passed}
 use Rattle.text.specs.PutLaws.{put_length, put_within}
-use Rattle.lister_laws.specs.RunLaws.{Along, along_start, taken_fits, left_less, text_fits}
+use Rattle.lister_laws.proofs.RunLaws.{Along, along_start, taken_fits, left_less, text_fits}
 use Rattle.list_means.proofs.Runs.{lister, by_reader, means_next, means_end, nothing_listed}
 use Rattle.list_means.proofs.MeanLister.list.Statement.{statement}
 use Rattle.list_means.proofs.MeanLister.list.Tie as tie

@@ -1,0 +1,3 @@
+pub mod DemandTwoLaws
+pub mod FlipExamples
+pub mod WrongProgramsLaws

@@ -1,0 +1,2 @@
+pub mod FlippedCodesLaws
+pub mod FlipsLaws

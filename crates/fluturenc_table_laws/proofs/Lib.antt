@@ -1,0 +1,3 @@
+pub mod BytesHistoryLaws
+pub mod BytesOpeningLaws
+pub mod TableBytesLaws

@@ -1,0 +1,3 @@
+pub mod FrameRowsLaws
+pub mod PictureLaws
+pub mod WholeFrameLaws

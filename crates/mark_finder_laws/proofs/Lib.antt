@@ -1,0 +1,3 @@
+pub mod BeginLaws
+pub mod RunMeans
+pub mod StandingLaws

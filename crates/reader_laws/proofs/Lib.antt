@@ -1,0 +1,2 @@
+pub mod ByRunsLaws
+pub mod Passes

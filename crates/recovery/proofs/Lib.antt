@@ -1,0 +1,13 @@
+pub mod AnswerTableLaws
+pub mod CallAnswersLaws
+pub mod CallsLaws
+pub mod CleanAnswersLaws
+pub mod CutExamples
+pub mod CutReading
+pub mod CutStreamLaws
+pub mod Damage
+pub mod DemandThree
+pub mod Examples
+pub mod Gaps
+pub mod MarkTextsLaws
+pub mod Periods

@@ -1,0 +1,3 @@
+pub mod FieldRanges
+pub mod NumberRead
+pub mod SettingsReadLaws

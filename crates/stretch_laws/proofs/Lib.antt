@@ -1,0 +1,4 @@
+pub mod Examples
+pub mod StretchCallsLaws
+pub mod StretchesLaws
+pub mod WholeLinesLaws
