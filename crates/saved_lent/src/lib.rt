@@ -7,8 +7,9 @@
 
 #![tactic(auto)]
 
-ghost use Rattle.std.specs.Prelude.{◌≡◌};
+ghost use Rattle.std.specs.Prelude.{◌≡◌, length};
 ghost use Rattle.saved_setting.specs.SavedSettings.{held_reply, saved_wanted, found_in, saved_again, Leaves};
+ghost use Rattle.saved_setting.specs.SavedSettings.{places_of};
 
 use saved_places::{back_in, find_in, save_in};
 use saved_setting::{EightPlaces, Held, PLACES, Saved, SavedSetting, Wanted};
@@ -20,27 +21,8 @@ pub fn save(list: &mut [SavedSetting], wanted: Wanted) -> Saved
     if list.len() != PLACES {
         return Saved::Refused(refusal::NOT_SAVED_SETTINGS);
     }
-    let o = save_in(
-        EightPlaces {
-            a: list[0],
-            b: list[1],
-            c: list[2],
-            d: list[3],
-            e: list[4],
-            f: list[5],
-            g: list[6],
-            h: list[7],
-        },
-        wanted,
-    );
-    list[0] = o.places.a;
-    list[1] = o.places.b;
-    list[2] = o.places.c;
-    list[3] = o.places.d;
-    list[4] = o.places.e;
-    list[5] = o.places.f;
-    list[6] = o.places.g;
-    list[7] = o.places.h;
+    let o = save_in(places_in(list), wanted);
+    put_places(o.places, list);
     o.answer
 }
 
@@ -51,19 +33,7 @@ pub fn find(list: &[SavedSetting], version: u16) -> Held
     if list.len() != PLACES {
         return Held::Refused(refusal::NOT_SAVED_SETTINGS);
     }
-    find_in(
-        EightPlaces {
-            a: list[0],
-            b: list[1],
-            c: list[2],
-            d: list[3],
-            e: list[4],
-            f: list[5],
-            g: list[6],
-            h: list[7],
-        },
-        version,
-    )
+    find_in(places_in(list), version)
 }
 
 // Saves a copy of the setting under a version, as it was saved then, under a new version.
@@ -73,26 +43,39 @@ pub fn go_back(list: &mut [SavedSetting], version: u16) -> Saved
     if list.len() != PLACES {
         return Saved::Refused(refusal::NOT_SAVED_SETTINGS);
     }
-    let o = back_in(
-        EightPlaces {
-            a: list[0],
-            b: list[1],
-            c: list[2],
-            d: list[3],
-            e: list[4],
-            f: list[5],
-            g: list[6],
-            h: list[7],
-        },
-        version,
-    );
-    list[0] = o.places.a;
-    list[1] = o.places.b;
-    list[2] = o.places.c;
-    list[3] = o.places.d;
-    list[4] = o.places.e;
-    list[5] = o.places.f;
-    list[6] = o.places.g;
-    list[7] = o.places.h;
+    let o = back_in(places_in(list), version);
+    put_places(o.places, list);
     o.answer
+}
+
+// The eight places of a list.
+fn places_in(list: &[SavedSetting]) -> EightPlaces
+    requires { length list.now ≡ 8 }
+    ensures { places_of result ≡ list.now }
+{
+    EightPlaces {
+        a: list[0],
+        b: list[1],
+        c: list[2],
+        d: list[3],
+        e: list[4],
+        f: list[5],
+        g: list[6],
+        h: list[7],
+    }
+}
+
+// Stores eight places in a list of eight.
+fn put_places(places: EightPlaces, list: &mut [SavedSetting])
+    requires { length list.old ≡ 8 }
+    ensures { list.new ≡ places_of places }
+{
+    list[0] = places.a;
+    list[1] = places.b;
+    list[2] = places.c;
+    list[3] = places.d;
+    list[4] = places.e;
+    list[5] = places.f;
+    list[6] = places.g;
+    list[7] = places.h;
 }

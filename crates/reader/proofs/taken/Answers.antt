@@ -19,7 +19,7 @@ returns c =
 pub returns-then-is_mark : goal.returns-then-is_mark
 unfolding take_head take_outcome
 returns-then-is_mark c =
-    let s = c.slide.ensures in
+    let s = c.slide-newest.ensures in
     let m = c.is_mark.ensures in
     let t = c.if-is_mark.true in
     let e = c.complete.ensures in

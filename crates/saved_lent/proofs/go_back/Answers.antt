@@ -1,0 +1,6 @@
+-- A list that is not of eight is refused.
+use Rattle.saved_setting.specs.SavedSettingsLaws.{again_refused}
+use Rattle.saved_lent.proofs.go_back.Goals as goal
+
+pub returns-then-list-ne-PLACES : goal.returns-then-list-ne-PLACES
+returns-then-list-ne-PLACES c = again_refused _ c.if-list-ne-PLACES.true _
