@@ -148,7 +148,7 @@ pub fn store_head(h: Head, state: &mut [u8])
         return;
     }
     let head = head_bytes(h);
-    bytes::copy(&head, state);
+    state[..HEAD].copy_from_slice(&head);
 }
 
 fn profile_number(p: Profile) -> u8

@@ -9,6 +9,8 @@
 //
 // 11 comes first where the bytes are fewer than a table's. Refused calls change nothing, but that what stood before a 10 is taken. A place is
 // its owner's byte and a reader's state as crate fluturenc has it, and each call works on that in place.
+//
+// Crate fluturenc_table_c exports these functions under their names, for C and Rust.
 
 #![tactic(auto)]
 
@@ -33,16 +35,14 @@ const COUNT: usize = reader_table::PLACES;
 const NOBODY: u8 = 0;
 
 // The bytes of a table.
-#[unsafe(no_mangle)]
-pub extern "C" fn fluturenc_table_length() -> usize
+pub fn fluturenc_table_length() -> usize
     ensures { result ≡ table_length }
 {
     TABLE
 }
 
 // A table of free places. Refused: 12.
-#[unsafe(no_mangle)]
-pub extern "C" fn fluturenc_table_new(table: &mut [u8]) -> u8
+pub fn fluturenc_table_new(table: &mut [u8]) -> u8
     ensures { StateGives (new_table table.old) result table.new }
 {
     if table.len() < TABLE {
@@ -53,8 +53,7 @@ pub extern "C" fn fluturenc_table_new(table: &mut [u8]) -> u8
 }
 
 // Gives the lowest free place to a technician, with a fresh reader of the profile with this number.
-#[unsafe(no_mangle)]
-pub extern "C" fn fluturenc_table_open(table: &mut [u8], technician: u8, profile: u8) -> u8
+pub fn fluturenc_table_open(table: &mut [u8], technician: u8, profile: u8) -> u8
     ensures { StateGives (open_table table.old technician profile) result table.new }
 {
     if table.len() < TABLE {
@@ -72,8 +71,7 @@ pub extern "C" fn fluturenc_table_open(table: &mut [u8], technician: u8, profile
 }
 
 // Feeds nibbles to the reader of a place until one brings an answer or none is left.
-#[unsafe(no_mangle)]
-pub extern "C" fn fluturenc_table_feed(
+pub fn fluturenc_table_feed(
     table: &mut [u8],
     technician: u8,
     place: usize,
@@ -93,8 +91,7 @@ pub extern "C" fn fluturenc_table_feed(
 }
 
 // Answers the last mark of a place, and leaves it a fresh reader; the place stays its technician's.
-#[unsafe(no_mangle)]
-pub extern "C" fn fluturenc_table_finish(table: &mut [u8], technician: u8, place: usize) -> u64
+pub fn fluturenc_table_finish(table: &mut [u8], technician: u8, place: usize) -> u64
     ensures { StateGives (finish_table table.old technician place) result table.new }
 {
     let n = denial_at(table, technician, place);
@@ -106,8 +103,7 @@ pub extern "C" fn fluturenc_table_finish(table: &mut [u8], technician: u8, place
 }
 
 // Frees a place.
-#[unsafe(no_mangle)]
-pub extern "C" fn fluturenc_table_close(table: &mut [u8], technician: u8, place: usize) -> u8
+pub fn fluturenc_table_close(table: &mut [u8], technician: u8, place: usize) -> u8
     ensures { StateGives (close_table table.old technician place) result table.new }
 {
     let n = denial_at(table, technician, place);
