@@ -47,6 +47,7 @@ pub fn fluturenc_state_length() -> usize
 }
 
 // Puts a fresh reader of the profile with this number into the state. Refused: 11, 12, in this order.
+#[tactic(auto, unfolding(crate::specs::Calls::open_call))]
 pub fn fluturenc_open(profile: u8, state: &mut [u8]) -> u8
     ensures { StateGives (open_call profile state.old) result state.new }
 {
@@ -63,6 +64,7 @@ pub fn fluturenc_open(profile: u8, state: &mut [u8]) -> u8
 
 // Feeds nibbles until one brings an answer or none is left. Refused: 11, 12, in this order, and then by place 10. The reader's run is lent
 // the body where it stands in the state, so that no call copies it; a call that takes nothing leaves every byte of the state as it was.
+#[tactic(auto, unfolding(crate::specs::Calls::feed_call))]
 pub fn fluturenc_feed(state: &mut [u8], nibbles: &[u8], line: &mut [u8], taken: &mut usize) -> u64
     ensures { FeedCallGives (feed_call state.old nibbles.now line.old) result taken.new state.new line.new }
 {
@@ -85,6 +87,7 @@ pub fn fluturenc_feed(state: &mut [u8], nibbles: &[u8], line: &mut [u8], taken: 
 }
 
 // Answers the last mark, if there is one, and leaves a fresh reader. Refused: 11.
+#[tactic(auto, unfolding(crate::specs::Calls::finish_call))]
 pub fn fluturenc_finish(state: &mut [u8]) -> u64
     ensures { StateGives (finish_call state.old) result state.new }
 {
@@ -118,6 +121,7 @@ pub fn fluturenc_write(
 }
 
 // Judges one line of a profile 0 frame, or a broken one. Refused, and then the judge stays as it was: 11, 13, 14, in this order.
+#[tactic(auto, unfolding(crate::specs::Calls::judge_call))]
 pub fn fluturenc_judge(judge: &mut u32, kind: u8, number: u16) -> u8
     ensures { JudgeGives (judge_call judge.old kind number) result judge.new }
 {

@@ -43,6 +43,7 @@ pub fn fluturenc_settings_length() -> usize
 }
 
 // Saves a setting, fine and coarse exposure clipped. Refused: 37 not a list of 64 bytes in order, 29 gain, divisor or frame rate, 31 no version left.
+#[tactic(auto, unfolding(crate::specs::SavedBytes::list_in))]
 pub fn fluturenc_settings_save(
     list: &mut [u8],
     fine: u16,
@@ -90,6 +91,7 @@ pub fn fluturenc_settings_find(list: &[u8], version: u16, setting: &mut [u8]) ->
 }
 
 // Saves a copy of the setting under a version, as it was saved then. Refused: 37, 30, 31.
+#[tactic(auto, unfolding(crate::specs::SavedBytes::list_in))]
 pub fn fluturenc_settings_back(list: &mut [u8], version: u16, new: &mut u16) -> u8
     ensures { SaveGives (saved_again (list_in list.old) version) result new.new list.old list.new }
 {
@@ -132,6 +134,7 @@ fn put_found(found: Held, messages: &mut [u8]) -> Filled
 }
 
 // The setting under a version of a list in bytes.
+#[tactic(auto, unfolding(crate::specs::SavedBytes::list_in))]
 fn held_in(list: &[u8], version: u16) -> Held
     ensures { held_reply result ≡ found_in (list_in list.now) version }
 {
@@ -216,6 +219,7 @@ fn four_at(list: &[u8], at: usize) -> FourPlaces
 }
 
 // The setting whose bytes start at a byte.
+#[tactic(auto, unfolding(crate::specs::SavedBytes::front_setting))]
 fn setting_at(list: &[u8], at: usize) -> SavedSetting
     requires { at + place_size ≤ length list.now }
     ensures { result ≡ front_setting (drop at list.now) }

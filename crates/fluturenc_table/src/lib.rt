@@ -42,6 +42,7 @@ pub fn fluturenc_table_length() -> usize
 }
 
 // A table of free places. Refused: 12.
+#[tactic(auto, unfolding(crate::specs::TableCalls::new_table))]
 pub fn fluturenc_table_new(table: &mut [u8]) -> u8
     ensures { StateGives (new_table table.old) result table.new }
 {
@@ -53,6 +54,7 @@ pub fn fluturenc_table_new(table: &mut [u8]) -> u8
 }
 
 // Gives the lowest free place to a technician, with a fresh reader of the profile with this number.
+#[tactic(auto, unfolding(crate::specs::TableCalls::open_table))]
 pub fn fluturenc_table_open(table: &mut [u8], technician: u8, profile: u8) -> u8
     ensures { StateGives (open_table table.old technician profile) result table.new }
 {
@@ -71,6 +73,7 @@ pub fn fluturenc_table_open(table: &mut [u8], technician: u8, profile: u8) -> u8
 }
 
 // Feeds nibbles to the reader of a place until one brings an answer or none is left.
+#[tactic(auto, unfolding(crate::specs::TableCalls::feed_table))]
 pub fn fluturenc_table_feed(
     table: &mut [u8],
     technician: u8,
@@ -91,6 +94,7 @@ pub fn fluturenc_table_feed(
 }
 
 // Answers the last mark of a place, and leaves it a fresh reader; the place stays its technician's.
+#[tactic(auto, unfolding(crate::specs::TableCalls::finish_table))]
 pub fn fluturenc_table_finish(table: &mut [u8], technician: u8, place: usize) -> u64
     ensures { StateGives (finish_table table.old technician place) result table.new }
 {
@@ -103,6 +107,7 @@ pub fn fluturenc_table_finish(table: &mut [u8], technician: u8, place: usize) ->
 }
 
 // Frees a place.
+#[tactic(auto, unfolding(crate::specs::TableCalls::close_table))]
 pub fn fluturenc_table_close(table: &mut [u8], technician: u8, place: usize) -> u8
     ensures { StateGives (close_table table.old technician place) result table.new }
 {
@@ -115,6 +120,7 @@ pub fn fluturenc_table_close(table: &mut [u8], technician: u8, place: usize) -> 
 }
 
 // What a technician is refused of a place; 0 where it is theirs.
+#[tactic(auto, unfolding(crate::specs::TableBytes::denial_at, crate::specs::TableBytes::owner_at))]
 fn denial_at(table: &[u8], technician: u8, place: usize) -> u8
     ensures { result ≡ denial_at table.now technician place }
 {
@@ -127,6 +133,7 @@ fn denial_at(table: &[u8], technician: u8, place: usize) -> u8
     technician::denial(technician, NOBODY)
 }
 
+#[tactic(auto, unfolding(crate::specs::TableCalls::open_lowest))]
 fn open_lowest(table: &mut [u8], technician: u8, profile: u8) -> u8
     requires { table_length ≤ length table.old }
     ensures { StateGives (open_lowest table.old technician profile (lowest_from place_count 0 table.old)) result table.new }

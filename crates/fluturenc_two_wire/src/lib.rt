@@ -37,6 +37,7 @@ pub fn fluturenc_sensor_length() -> usize
 }
 
 // Puts a fresh sensor into the state. Refused: 12.
+#[tactic(auto, unfolding(crate::specs::SensorBytes::reset_call))]
 pub fn fluturenc_sensor_reset(sensor: &mut [u8]) -> u8
     ensures { StateGives (reset_call sensor.old) result sensor.new }
 {
@@ -50,6 +51,7 @@ pub fn fluturenc_sensor_reset(sensor: &mut [u8]) -> u8
 
 // Takes one message, the list of its acknowledged bytes. Refused: 11 the bytes hold no sensor, then 24, 25, 26, 27, 28 as crate two_wire
 // has them, in this order.
+#[tactic(auto, unfolding(crate::specs::SensorBytes::message_call))]
 pub fn fluturenc_sensor_message(sensor: &mut [u8], message: &[u8]) -> u8
     ensures { StateGives (message_call sensor.old message.now) result sensor.new }
 {
@@ -81,6 +83,7 @@ pub fn fluturenc_messages(pairs: &[u8], messages: &mut [u8], written: &mut usize
 }
 
 // Whether the bytes hold a sensor: their length, an index up to 127, and a flag.
+#[tactic(auto, unfolding(crate::specs::SensorBytes::holds_sensor))]
 fn holds_sensor(sensor: &[u8]) -> bool
     ensures { result ≡ holds_sensor sensor.now }
 {
@@ -93,6 +96,7 @@ fn holds_sensor(sensor: &[u8]) -> bool
     sensor[FLAG] <= 1
 }
 
+#[tactic(auto, unfolding(crate::specs::SensorBytes::sensor_in))]
 fn sensor_in(sensor: &[u8]) -> Sensor
     requires { sensor_length ≤ length sensor.now }
     ensures { result ≡ sensor_in sensor.now }
@@ -107,6 +111,7 @@ fn sensor_in(sensor: &[u8]) -> Sensor
 }
 
 // Puts a sensor into the state.
+#[tactic(auto, unfolding(crate::specs::SensorBytes::with_sensor))]
 fn store(s: Sensor, sensor: &mut [u8])
     requires { sensor_length ≤ length sensor.old }
     ensures { sensor.new ≡ with_sensor s sensor.old }
