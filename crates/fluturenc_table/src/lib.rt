@@ -73,7 +73,7 @@ pub fn fluturenc_table_open(table: &mut [u8], technician: u8, profile: u8) -> u8
 }
 
 // Feeds nibbles to the reader of a place until one brings an answer or none is left.
-#[tactic(auto, unfolding(crate::specs::TableCalls::feed_table))]
+#[tactic(auto, unfolding(crate::specs::TableCalls::feed_table, crate::specs::TableBytes::state_at, crate::specs::TableBytes::with_state, crate::specs::TableBytes::place_start))]
 pub fn fluturenc_table_feed(
     table: &mut [u8],
     technician: u8,
@@ -94,7 +94,7 @@ pub fn fluturenc_table_feed(
 }
 
 // Answers the last mark of a place, and leaves it a fresh reader; the place stays its technician's.
-#[tactic(auto, unfolding(crate::specs::TableCalls::finish_table))]
+#[tactic(auto, unfolding(crate::specs::TableCalls::finish_table, crate::specs::TableBytes::state_at, crate::specs::TableBytes::with_state, crate::specs::TableBytes::place_start))]
 pub fn fluturenc_table_finish(table: &mut [u8], technician: u8, place: usize) -> u64
     ensures { StateGives (finish_table table.old technician place) result table.new }
 {
@@ -107,7 +107,7 @@ pub fn fluturenc_table_finish(table: &mut [u8], technician: u8, place: usize) ->
 }
 
 // Frees a place.
-#[tactic(auto, unfolding(crate::specs::TableCalls::close_table))]
+#[tactic(auto, unfolding(crate::specs::TableCalls::close_table, crate::specs::TableBytes::place_start))]
 pub fn fluturenc_table_close(table: &mut [u8], technician: u8, place: usize) -> u8
     ensures { StateGives (close_table table.old technician place) result table.new }
 {
@@ -120,7 +120,7 @@ pub fn fluturenc_table_close(table: &mut [u8], technician: u8, place: usize) -> 
 }
 
 // What a technician is refused of a place; 0 where it is theirs.
-#[tactic(auto, unfolding(crate::specs::TableBytes::denial_at, crate::specs::TableBytes::owner_at))]
+#[tactic(auto, unfolding(crate::specs::TableBytes::denial_at, crate::specs::TableBytes::owner_at, crate::specs::TableBytes::place_start))]
 fn denial_at(table: &[u8], technician: u8, place: usize) -> u8
     ensures { result ≡ denial_at table.now technician place }
 {
@@ -133,7 +133,7 @@ fn denial_at(table: &[u8], technician: u8, place: usize) -> u8
     technician::denial(technician, NOBODY)
 }
 
-#[tactic(auto, unfolding(crate::specs::TableCalls::open_lowest))]
+#[tactic(auto, unfolding(crate::specs::TableCalls::open_lowest, crate::specs::TableCalls::opened_at, crate::specs::TableBytes::state_at, crate::specs::TableBytes::with_state, crate::specs::TableBytes::place_start))]
 fn open_lowest(table: &mut [u8], technician: u8, profile: u8) -> u8
     requires { table_length ≤ length table.old }
     ensures { StateGives (open_lowest table.old technician profile (lowest_from place_count 0 table.old)) result table.new }
@@ -149,6 +149,7 @@ fn open_lowest(table: &mut [u8], technician: u8, profile: u8) -> u8
 }
 
 // The lowest free place; the count of places where all are taken.
+#[tactic(auto, unfolding(crate::specs::TableBytes::place_start))]
 fn lowest_free(table: &[u8]) -> usize
     requires { table_length ≤ length table.now }
     ensures { result ≡ lowest_from place_count 0 table.now }
@@ -163,6 +164,7 @@ fn lowest_free(table: &[u8]) -> usize
     i
 }
 
+#[tactic(auto, unfolding(crate::specs::TableBytes::place_start))]
 fn free_all(table: &mut [u8])
     requires { table_length ≤ length table.old }
     ensures { table.new ≡ places_freed place_count table.old }
