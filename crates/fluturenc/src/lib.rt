@@ -64,7 +64,7 @@ pub fn fluturenc_open(profile: u8, state: &mut [u8]) -> u8
 
 // Feeds nibbles until one brings an answer or none is left. Refused: 11, 12, in this order, and then by place 10. The reader's run is lent
 // the body where it stands in the state, so that no call copies it; a call that takes nothing leaves every byte of the state as it was.
-#[tactic(auto, unfolding(crate::specs::Calls::feed_call))]
+#[tactic(auto, unfolding(crate::specs::Calls::feed_call, exported_state::specs::State::holds_reader))]
 pub fn fluturenc_feed(state: &mut [u8], nibbles: &[u8], line: &mut [u8], taken: &mut usize) -> u64
     ensures { FeedCallGives (feed_call state.old nibbles.now line.old) result taken.new state.new line.new }
 {

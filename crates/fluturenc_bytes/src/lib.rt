@@ -21,6 +21,7 @@ const HEAD: usize = exported_state::HEAD;
 
 // Feeds the nibbles of bytes from a place on, which is counted in nibbles, until one brings an answer or none is left. Refused: 11, 12, in this
 // order. The run is lent the body where it stands in the state; a call that takes nothing leaves every byte of the state as it was.
+#[tactic(auto, unfolding(fluturenc::specs::Calls::feed_call, exported_state::specs::State::holds_reader))]
 pub fn fluturenc_feed_bytes(
     state: &mut [u8],
     bytes: &[u8],
