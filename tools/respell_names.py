@@ -9,6 +9,15 @@ writes nothing unless it is given --write.
 import collections, glob, os, re, sys
 
 OTHER = {"opens-at": "opens_at_lem"}
+# Lemmas and variables with the name of a field and of a definition at once.
+AFTER = [
+    ("crates/recovery/specs/Examples.antt", r"^gap_fits\b", "gap_fits_lem"),
+    ("crates/recovery/specs/Examples.antt", r"gap_fits = gap_fits p k", "gap_fits = gap_fits_lem p k"),
+    ("crates/reason_laws/specs/TrueLaws.antt", r"\(is_end : CodeSays", "(is_end_lem : CodeSays"),
+    ("crates/reason_laws/specs/TrueLaws.antt", r"is_end = is_end;", "is_end = is_end_lem;"),
+    ("crates/reason_laws/specs/MarkLaws.antt", r"^    is_mark (?=[:=])", "    is_mark_lem "),
+    ("crates/reason_laws/specs/MarkLaws.antt", r"s\.text is_mark x y", "s.text is_mark_lem x y"),
+]
 TOKEN = re.compile(r"[^\s(){}\[\],;.`\"|:=λ∙]+|\.|\"[^\"]*\"|.", re.S)
 PART = r"[^\s(){}\[\],;.`\"]+"
 
@@ -26,6 +35,7 @@ def bad(n):
     return bool(re.match(r"[a-zα-ω]", n)) and (("-" in n and n != "-") or re.search(r"[A-Z]", n)) and not n.startswith("0x")
 
 
+FIELDS = set()  # the fields of records: they keep to their records, and get no ending
 CAMEL = set()   # the new names of definitions in camel case: a lemma that would have one of these gets _lem
 
 
@@ -33,7 +43,7 @@ def new(n):
     if n in OTHER:
         return OTHER[n]
     s = snake(n).lower()
-    if s in CAMEL and not ("-" not in n and re.search(r"[A-Z]", n)):
+    if s in CAMEL and n not in FIELDS and not ("-" not in n and re.search(r"[A-Z]", n)):
         return s + "_lem"
     return s
 
@@ -81,12 +91,14 @@ def main():
                     n = part.strip().split(" ")[0]
                     if n:
                         fields.add(n)
+    all_fields = fields
     fields = {n for n in fields if bad(n)}
+    FIELDS.update(all_fields)
     for names in declared.values():
         CAMEL.update(snake(n).lower() for n in names if "-" not in n)
     for p, names in every.items():
-        declared[p] |= {n for n in names if n in CAMEL and re.match(r"[a-z]", n)}
-    kept = {n for names in every.values() for n in names if n in CAMEL}
+        declared[p] |= {n for n in names if n in CAMEL and n not in FIELDS and re.match(r"[a-z]", n)}
+    kept = {n for names in every.values() for n in names if n in CAMEL and n not in FIELDS}
     exported = collections.defaultdict(set)   # module path 'crate.specs.M' or just all names by crate
     for p, names in declared.items():
         exported[p.split("/")[1]] |= names
@@ -187,6 +199,8 @@ def main():
                 for prm in re.findall(r"(\w+):", head[1]):
                     if prm in words and re.search(rf"\b{prm}\b", m[0][head.end():]):
                         print(f"{p}: parameter {prm} would hide a word of its clauses")
+    for p, old, new_text in AFTER:
+        result[p] = re.sub(old, new_text, result[p], flags=re.M)
     if write:
         for p, t in result.items():
             if t != texts[p]:

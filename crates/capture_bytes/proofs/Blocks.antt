@@ -355,7 +355,7 @@ moved h c w = head h.profile h.at c w h.kept
 -- of a reader that is quiet there
 module _ {h : Head} (bytes : List ℕ) {at n : ℕ} (known : (i : ℕ) → get_or bytes i 0 < 256) (q : Quiet h (nibbles bytes) at n) (B : List ℕ) where
   no_mark_on : (x : ℕ) → at - 8 < x → x ≤ at - 8 + 2 * n → shows_mark (window_from (nibbles bytes) x) ≡ false
-  no_mark_on x l k = q.no_mark_lem x (omega (arith, q.behind)) (omega (arith, q.behind))
+  no_mark_on x l k = q.no_mark x (omega (arith, q.behind)) (omega (arith, q.behind))
 
   still_on : (x : ℕ) → at - 8 ≤ x → x < at - 8 + 2 * n → (h.kept.stray ≡ true) ⊎ (get_or (nibbles bytes) x 0 ≡ 15)
   still_on x l k = q.still x (omega (arith, q.behind)) (omega (arith, q.behind))
@@ -485,7 +485,7 @@ module _ (bs : List ℕ) (known : (i : ℕ) → get_or bs i 0 < 256) where
     -- where a stray nibble is noted, and no mark begins at the byte three before the place's own, nor at those after it
     pub quiet_far : h.kept.stray ≡ true → NoneBegun (get_or bs (at / 2 - 3) 0) (get_or bs (at / 2 - 1) 0) → NoneBegins bs (at / 2 + at % 2 - 3) n
         → Quiet h (nibbles bs) at n
-    quiet_far stray one many = record { behind = behind; up_to = ends; shown = shown_there; no_mark_lem = none; still = λ x l k. inl stray }
+    quiet_far stray one many = record { behind = behind; up_to = ends; shown = shown_there; no_mark = none; still = λ x l k. inl stray }
       where
         none : (x : ℕ) → at < x + 8 → x + 8 ≤ at + 2 * n → shows_mark (window_from (nibbles bs) x) ≡ false
         none x l k =
@@ -503,7 +503,7 @@ module _ (bs : List ℕ) (known : (i : ℕ) → get_or bs i 0 < 256) where
           behind = behind;
           up_to = ends;
           shown = shown_there;
-          no_mark_lem = λ x l k. none_null x (all (x + 4) (omega arith) (omega arith));
+          no_mark = λ x l k. none_null x (all (x + 4) (omega arith) (omega arith));
           still = λ x l k. inr (all x l (omega arith));
         }
       where

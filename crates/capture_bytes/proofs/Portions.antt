@@ -30,7 +30,7 @@ pub record Upto (h₀ : Head) (body₀ bytes line₀ : List ℕ) (from at : ℕ)
   pub same : lent_run_of h₀ body₀ (drop from (nibbles bytes)) (length line₀) ≡ later (at - from) (lent_run_of h body (drop at (nibbles bytes)) (length line))
   pub byte : Byte h.at
   pub profile : h.profile ≡ h₀.profile
-  pub as_lent_lem : line ≡ line₀
+  pub as_lent : line ≡ line₀
 
 pub start : (h : Head) (body bytes line : List ℕ) (from : ℕ) → Byte h.at → Upto h body bytes line from from h body line
 start h body bytes line from byte =
@@ -40,7 +40,7 @@ start h body bytes line from byte =
       same = ap (ran t.reader t.outcome) (let z : t.taken ≡ from - from + t.taken = omega arith in z);
       byte = byte;
       profile = refl;
-      as_lent_lem = refl;
+      as_lent = refl;
     }
 
 -- bytes that are skipped
@@ -58,7 +58,7 @@ upto_on {bytes = bytes} {from = from} {at} {line = line} {r} {body'} u k =
           ∙ ap (ran t.reader t.outcome) (let z : at - from + (r.at - at + t.taken) ≡ r.at - from + t.taken = omega arith in z);
       byte = subst Byte (sym k.same_mark) u.byte;
       profile = k.same_profile ∙ u.profile;
-      as_lent_lem = u.as_lent;
+      as_lent = u.as_lent;
     }
 
 and_more : (from at n k : ℕ) → from ≤ at → at - from ≤ n - from → k ≤ n - at → at + k - from ≤ n - from
@@ -124,7 +124,7 @@ module _ {h₀ : Head} {body₀ bytes line₀ : List ℕ} {from at : ℕ} {h : H
               ∙ ap (ran x.reader x.outcome) (let z : at - from + (length w + x.taken) ≡ at + length w - from + x.taken = omega arith in z);
           byte = goes.sound.byte;
           profile = goes.profile ∙ u.profile;
-          as_lent_lem = u.as_lent;
+          as_lent = u.as_lent;
         }
 
     pub next_portion : {p : Profile} {r : RunStepped} {body' line' : List ℕ} → LentRunGives p t r body' line line'

@@ -50,7 +50,7 @@ pub record Quiet (h : Head) (s : List ℕ) (at n : ℕ) : Type 0 where
   pub behind : 8 ≤ at
   pub up_to : at + 2 * n ≤ length s
   pub shown : h.window ≡ window_from s (at - 8)
-  pub no_mark_lem : (x : ℕ) → at < x + 8 → x + 8 ≤ at + 2 * n → shows_mark (window_from s x) ≡ false
+  pub no_mark : (x : ℕ) → at < x + 8 → x + 8 ≤ at + 2 * n → shows_mark (window_from s x) ≡ false
   pub still : (x : ℕ) → at ≤ x + 8 → x + 8 < at + 2 * n → (h.kept.stray ≡ true) ⊎ (get_or s x 0 ≡ 15)
 
 -- a run from the place i on, and from the place i' with what is read up to there, is the same; of the same mark, as sound, and within the nibbles

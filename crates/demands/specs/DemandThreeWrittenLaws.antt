@@ -3,7 +3,7 @@ use Rattle.std.specs.Prelude.{◌≡◌, refl, List, ◌++◌, ℕ, ◌≤◌, l
 use Rattle.std.proofs.Common.{◌∙◌, ap, ap₂, subst}
 use Rattle.lent_buffer.specs.Filled.{used}
 use Rattle.profile.specs.declared.Profile.{Profile}
-use Rattle.stream.specs.Written.{Sent, Writable, AllWritable, no_lines_lem, and_line, written, stream}
+use Rattle.stream.specs.Written.{Sent, Writable, AllWritable, no_lines, and_line, written, stream}
 use Rattle.writer.specs.WriterTable.{LineAnswer, line, write_sent}
 use Rattle.writer.specs.WriterLaws.{sent_answer}
 use Rattle.refinement.specs.RunsLaws.{runs_demand_three}
@@ -18,7 +18,7 @@ wrote p s room n w e = go ((sent_answer p s room (used n w)).0 e)
 
 -- all of them
 pub wrote_clean : (p : Profile) (ss : List Sent) (c : List ℕ) → WroteAll p ss c → AllWritable p ss × (c ≡ stream ss)
-wrote_clean p ss c wrote_none = (no_lines_lem, refl)
+wrote_clean p ss c wrote_none = (no_lines, refl)
 wrote_clean p ss c (and_wrote {s} {ss = rest} {w} {c = later} room n e h) =
     let one = wrote p s room n w e in
     let all = wrote_clean p rest later h in

@@ -8,7 +8,7 @@ use Rattle.profile.specs.declared.Profile.{Profile}
 use Rattle.lent_buffer.specs.Filled.{used}
 use Rattle.stream.specs.Answers.{Outcome, refused}
 use Rattle.stream.specs.Stream.{fresh}
-use Rattle.stream.specs.Written.{Sent, AllWritable, no_lines_lem, and_line, mark_of}
+use Rattle.stream.specs.Written.{Sent, AllWritable, no_lines, and_line, mark_of}
 use Rattle.writer.specs.Writer.{sent, write_of}
 use Rattle.writer.specs.WriterTable.{LineAnswer, line, WriteAnswer, of_line}
 use Rattle.writer.specs.WriterLaws.{answer, sent_answer}
@@ -25,7 +25,7 @@ use Rattle.demands.specs.DemandThreeWrittenLaws.{wrote}
 
 -- what arrives are lines that may be written, with their code bytes changed
 arrived_codes : (p : Profile) (all : List Arrived) (v : List ℕ) → AllArrived p all v → AllWritable p (all_sent all) × (v ≡ arriving all)
-arrived_codes p all v none_arrived = (no_lines_lem, refl)
+arrived_codes p all v none_arrived = (no_lines, refl)
 arrived_codes p all v (and_arrived {a} {later} {w} {v = rest} room n e h) =
     let one = wrote p a.sent room n w e in
     let more = arrived_codes p later rest h in

@@ -8,7 +8,7 @@ use Rattle.line_code.specs.declared.Kind.TheVariants.{BL}
 use Rattle.profile.specs.declared.Profile.{Profile}
 use Rattle.profile.specs.declared.Profile.TheVariants.{VV5404, VV5300}
 use Rattle.profile.specs.Profile.{body_length}
-use Rattle.stream.specs.Written.{Sent, AllWritable, no_lines_lem, and_line, written}
+use Rattle.stream.specs.Written.{Sent, AllWritable, no_lines, and_line, written}
 use Rattle.stream.specs.Nibbles.{AllNibbles, no_nibble, and_nibble}
 use Rattle.writer.specs.Writer.{room_for}
 use Rattle.writer.specs.WriterTable.{write_sent}
@@ -25,7 +25,7 @@ abbrev two : Profile → List Sent
 two p = sample p BL 3 ∷ sample p BL 4 ∷ []
 
 two_writable : (p : Profile) → AllWritable p (two p)
-two_writable p = and_line (sample_writable p BL 3 (lit≤ tt)) (and_line (sample_writable p BL 4 (lit≤ tt)) no_lines_lem)
+two_writable p = and_line (sample_writable p BL 3 (lit≤ tt)) (and_line (sample_writable p BL 4 (lit≤ tt)) no_lines)
 
 abbrev nibbles_of_two : Profile → List ℕ
 nibbles_of_two p = changed (two p) 0 0 []

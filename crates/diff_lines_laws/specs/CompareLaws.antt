@@ -111,9 +111,9 @@ module _ (first second w : List ℕ) (n room : ℕ) (h : compare_of first second
 
 -- A case at the edge.
 
-pub no_lines_lem : (room : ℕ) → compare_of [] [] room ≡ used 0 []
+pub no_lines : (room : ℕ) → compare_of [] [] room ≡ used 0 []
 unfolding compare_of full_lines headed_lines require
-no_lines_lem room = simp (le-leb 0 room (omega arith))
+no_lines room = simp (le-leb 0 room (omega arith))
 
 -- From the buffer, as a call leaves it.
 

@@ -303,11 +303,11 @@ given_both a b ls ms d ds r s n next f = by (eqb a.number (of_number d)) refl
         let u = eqb-false a.number (of_number d) e in
         Memᴰ.append_right (between_lines a b) (next (less_second b ls ms d (λ z. u (n ∙ z)) (less_first a ls (b ∷ ms) d u f)))
 
-no_lines_lem : (d : Difference) → Differs [] [] d → ⊥
-no_lines_lem (only_first l) f = Memᴰ.not-nil f.0
-no_lines_lem (only_second l) f = Memᴰ.not-nil f.0
-no_lines_lem (both_kinds n k m) f = Memᴰ.not-nil f.lines.one_in
-no_lines_lem (both_bytes n p x y) f = Memᴰ.not-nil f.lines.one_in
+no_lines : (d : Difference) → Differs [] [] d → ⊥
+no_lines (only_first l) f = Memᴰ.not-nil f.0
+no_lines (only_second l) f = Memᴰ.not-nil f.0
+no_lines (both_kinds n k m) f = Memᴰ.not-nil f.lines.one_in
+no_lines (both_bytes n p x y) f = Memᴰ.not-nil f.lines.one_in
 
 abbrev GivenP : List FullLine → List FullLine → Type 0
 GivenP ls ms = (m : ℕ) → rises_from m ls ≡ true → rises_from m ms ≡ true → (d : Difference) → Differs ls ms d → Memᴰ d (differences ls ms)
@@ -315,7 +315,7 @@ GivenP ls ms = (m : ℕ) → rises_from m ls ≡ true → rises_from m ms ≡ tr
 given_steps : MergeSteps GivenP
 given_steps =
     record {
-      none = λ m g h d f. absurd (no_lines_lem d f);
+      none = λ m g h d f. absurd (no_lines d f);
       first_left = λ a ls r m g h d f.
           given_first a ls [] d (differences ls []) (rises_tail m a ls g) (λ l i e. Memᴰ.not-nil i) (r (suc a.number) (rises_tail m a ls g) refl d) f;
       second_left = λ b ms r m g h d f.

@@ -266,13 +266,13 @@ pub data AgreeOnto (z : ℕ) (base : List ℕ) : ℕ → List ℕ → List ℕ �
 pub record Tails (z x y : ℕ) (u u₂ : List ℕ) : Type 0 where
   pub one : List ℕ
   pub two : List ℕ
-  pub is_one_lem : u ≡ x ∷ y ∷ one
+  pub is_one : u ≡ x ∷ y ∷ one
   pub is_two : u₂ ≡ x ∷ y ∷ two
   pub tails : Agree z one two
 
 pub agree_turned : {z x y f : ℕ} {t t₂ : List ℕ} → AgreeOnto z (y ∷ x ∷ []) f t t₂ → {w w₂ : List ℕ} → Agree f w w₂
     → Tails z x y (turned t w) (turned t₂ w₂)
-agree_turned at_base {w} {w₂} m = record { one = w; two = w₂; is_one_lem = refl; is_two = refl; tails = m }
+agree_turned at_base {w} {w₂} m = record { one = w; two = w₂; is_one = refl; is_two = refl; tails = m }
 agree_turned (onto_other n {f} h q) m = agree_turned q (other f n h m)
 agree_turned (onto_f {f} q) m = agree_turned q (an_f f m)
 agree_turned (onto_free f a b g ha hb q) m = agree_turned q (free f a b g ha hb m)

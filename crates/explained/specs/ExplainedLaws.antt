@@ -85,7 +85,7 @@ stray_late p (v ∷ c) e = go (stored_kept p c).stray (leb (gap_start p) (length
 
 pub explained : (r : Reader) → TypedReader r → passes r.head ≡ true → Explained r
 explained r typed e =
-    go (stands_for p m c w s typed.code-byte typed.kept-typed typed.window-small h.window_fits_lem h.stray_late)
+    go (stands_for p m c w s typed.code-byte typed.kept-typed typed.window-small h.window_fits h.stray_late)
   where
     h : Passed r.head
     h = passed r.head e
@@ -124,11 +124,11 @@ explained r typed e =
         text_small : AllNibbles text
         text_small = all_nibbles_append x.new-small (base_small m typed.code-byte)
 
-        no_mark_lem : detect text ≡ not_yet
-        no_mark_lem = no_mark_yet text text_small (ap shows_mark x.is-window ∙ h.no_mark_there)
+        no_mark : detect text ≡ not_yet
+        no_mark = no_mark_yet text text_small (ap shows_mark x.is-window ∙ h.no_mark_there)
 
         q : Reachable p (state_with m text)
-        q = reachable p m typed.code-byte h.handed_fits_lem x.new-small no_mark_lem
+        q = reachable p m typed.code-byte h.handed_fits x.new-small no_mark
 
         r₂ : Reader
         r₂ = reader_with p m c w (stored_text p s.body (drop 8 text))
@@ -141,8 +141,8 @@ explained r typed e =
                   record {
                     count_small = h.count_small;
                     no_mark_there = h.no_mark_there;
-                    handed_fits_lem = h.handed_fits_lem;
-                    window_fits_lem = h.window_fits_lem;
+                    handed_fits = h.handed_fits;
+                    window_fits = h.window_fits;
                     stray_late = λ z.
                         let l = stray_late p (drop 8 text) z in
                         let d = length-drop 8 text in

@@ -120,7 +120,7 @@ record Replaced (m : Mark) (v : List ℕ) : Type 0 where
   count : ℕ
   agree : AgreeOnto (trailing_f_at m) (base_of m) count (v ++ base_of m) (new ++ base_of m)
   no_zero : NoZero m count (new ++ base_of m)
-  no_mark_lem : NoMarkIn (base_of m) new
+  no_mark : NoMarkIn (base_of m) new
   small : AllNibbles new
 
 replace_one : (m : Mark) (n : ℕ) (v : List ℕ) → n < 16 → Replaced m v → Replaced m (n ∷ v)
@@ -133,7 +133,7 @@ replace_one m n v h q = go (ltb n 15) (eqb n 0) (leb 4 q.count) refl refl refl
           count = 0;
           agree = onto_other n l q.agree;
           no_zero = zero_other n q.count l z q.no_zero;
-          no_mark_lem = one_more_lem n q.new (none_completed n q.no_zero) q.no_mark_lem;
+          no_mark = one_more_lem n q.new (none_completed n q.no_zero) q.no_mark;
           small = and_nibble h q.small;
         }
 
@@ -148,7 +148,7 @@ replace_one m n v h q = go (ltb n 15) (eqb n 0) (leb 4 q.count) refl refl refl
               subst (λ (x : ℕ). AgreeOnto (trailing_f_at m) (base_of m) (suc q.count) (x ∷ (v ++ base_of m)) (x ∷ (q.new ++ base_of m))) k
               (onto_f q.agree);
           no_zero = subst (λ (x : ℕ). NoZero m (suc q.count) (x ∷ (q.new ++ base_of m))) k (zero_f q.count q.no_zero);
-          no_mark_lem = one_more_lem n q.new (none_completed n q.no_zero) q.no_mark_lem;
+          no_mark = one_more_lem n q.new (none_completed n q.no_zero) q.no_mark;
           small = and_nibble h q.small;
         }
     go true true true e f g =
@@ -157,7 +157,7 @@ replace_one m n v h q = go (ltb n 15) (eqb n 0) (leb 4 q.count) refl refl refl
           count = 0;
           agree = onto_free q.count n 1 (leb-true 4 q.count g) (ltb-true n 15 e) (omega arith) q.agree;
           no_zero = zero_other 1 q.count (omega arith) (λ z. absurd (omega arith)) q.no_zero;
-          no_mark_lem = one_more_lem 1 q.new (none_completed 1 q.no_zero) q.no_mark_lem;
+          no_mark = one_more_lem 1 q.new (none_completed 1 q.no_zero) q.no_mark;
           small = and_nibble {n = 1} (omega arith) q.small;
         }
     go true false z e f g = keep (ltb-true n 15 e) (λ k. absurd (eqb-false n 0 f k))
@@ -165,13 +165,13 @@ replace_one m n v h q = go (ltb n 15) (eqb n 0) (leb 4 q.count) refl refl refl
 
 replace : (m : Mark) {v : List ℕ} → AllNibbles v → Replaced m v
 replace m no_nibble =
-    record { new = []; count = trailing_f_at m; agree = at_base; no_zero = zero_base; no_mark_lem = none_since; small = no_nibble }
+    record { new = []; count = trailing_f_at m; agree = at_base; no_zero = zero_base; no_mark = none_since; small = no_nibble }
 replace m (and_nibble {n} {t = v} h s) = replace_one m n v h (replace m s)
 
 -- nibbles that bring no mark, and lead from the mark's code to an equivalent text
 record Leads (m : Mark) (v : List ℕ) : Type 0 where
   new : List ℕ
-  no_mark_lem : NoMarkIn (base_of m) new
+  no_mark : NoMarkIn (base_of m) new
   equivalent : Equivalent (state_with m (v ++ base_of m)) (state_with m (new ++ base_of m))
   small : AllNibbles new
 
@@ -182,20 +182,20 @@ still_none x y (two_rests f q) e = absurd (let z : ◌≡◌ {A = ℕ} 0 1 = cc 
 
 -- the newest four nibbles stay
 leads : (m : Mark) {v : List ℕ} → Byte m → AllNibbles v → detect (v ++ base_of m) ≡ not_yet → Leads m v
-leads m b no_nibble e = record { new = []; no_mark_lem = none_since; equivalent = the_same _; small = no_nibble }
+leads m b no_nibble e = record { new = []; no_mark = none_since; equivalent = the_same _; small = no_nibble }
 leads m b (and_nibble {n = a} ha no_nibble) e =
-    record { new = a ∷ []; no_mark_lem = one_more_lem a [] e none_since; equivalent = the_same _; small = and_nibble ha no_nibble }
+    record { new = a ∷ []; no_mark = one_more_lem a [] e none_since; equivalent = the_same _; small = and_nibble ha no_nibble }
 leads m b (and_nibble {n = a} ha (and_nibble {n = c} hc no_nibble)) e =
     record {
       new = a ∷ c ∷ [];
-      no_mark_lem = one_more_lem a (c ∷ []) e (one_more_lem c [] (base_no_mark m c) none_since);
+      no_mark = one_more_lem a (c ∷ []) e (one_more_lem c [] (base_no_mark m c) none_since);
       equivalent = the_same _;
       small = and_nibble ha (and_nibble hc no_nibble);
     }
 leads m b (and_nibble {n = a} ha (and_nibble {n = c} hc (and_nibble {n = d} hd no_nibble))) e =
     record {
       new = a ∷ c ∷ d ∷ [];
-      no_mark_lem =
+      no_mark =
           one_more_lem a (c ∷ d ∷ []) e
           (one_more_lem c (d ∷ []) (ap (mark_if d c) (base_no_group m)) (one_more_lem d [] (base_no_mark m d) none_since));
       equivalent = the_same _;
@@ -207,11 +207,11 @@ leads m b (and_nibble {n = a} ha (and_nibble {n = c} hc (and_nibble {n = d} hd (
     go q =
         record {
           new = a ∷ c ∷ d ∷ x ∷ q.new;
-          no_mark_lem =
+          no_mark =
               one_more_lem a (c ∷ d ∷ x ∷ q.new) (still_none c a (rests_if (eqb 0 d) (rests_if (eqb 0 x) (rests_f 4 q.agree))) e)
               (one_more_lem c (d ∷ x ∷ q.new) (ap (mark_if d c) (no_group_more x q.no_zero))
               (one_more_lem d (x ∷ q.new) (ap (mark_if x d) (no_group q.no_zero))
-              (one_more_lem x q.new (none_completed x q.no_zero) q.no_mark_lem)));
+              (one_more_lem x q.new (none_completed x q.no_zero) q.no_mark)));
           equivalent = texts_agree m _ _ b (above a 3 ha (above c 2 hc (above d 1 hd (above x 0 hx (below q.count q.agree)))));
           small = and_nibble ha (and_nibble hc (and_nibble hd (and_nibble hx q.small)));
         }
@@ -305,6 +305,6 @@ reachable p m {v} b fits s e = go (leads m b s e)
               (sym
               (run_append p fresh (nibbles_to p m) (turned q.new [])
               ∙ ap (λ (x : State). run p x (turned q.new [])) (to_mark p m fits)
-              ∙ run_lengthens p m (base_of m) [] q.no_mark_lem))
+              ∙ run_lengthens p m (base_of m) [] q.no_mark))
               q.equivalent;
         }

@@ -15,13 +15,13 @@ use Rattle.stream.specs.declared.Before.TheVariants.{NoLine, RefusedLine, Handed
 use Rattle.stream.specs.declared.Mark.TheVariants.{Open}
 use Rattle.stream.specs.Answers.{facts, Outcome, line, is_line, require, good_gap, period_of, by_reading, answer_of}
 use Rattle.stream.specs.Stream.{State, fresh, before_by, answer_at, finish, run, outcomes}
-use Rattle.stream.specs.Written.{Sent, Writable, AllWritable, no_lines_lem, and_line, mark_of, content, end_mark, tail, written}
+use Rattle.stream.specs.Written.{Sent, Writable, AllWritable, no_lines, and_line, mark_of, content, end_mark, tail, written}
 use Rattle.recovery.specs.Collected.{nothings}
 use Rattle.recovery.specs.CollectedLaws.{collected_append, collected_nothings}
 use Rattle.recovery.specs.Resync.{state_with, opened}
 use Rattle.recovery.specs.ResyncLaws.{Opens, resync}
 use Rattle.recovery.specs.MarkFree.{Lengthens}
-use Rattle.recovery.specs.MarkFreeLaws.{no_mark_lem, few_no_group, line_text, few_line, no_inner_mark}
+use Rattle.recovery.specs.MarkFreeLaws.{no_mark, few_no_group, line_text, few_line, no_inner_mark}
 use Rattle.recovery.specs.ReadBack.{seven_then, written_with, gap_text}
 use Rattle.recovery.specs.ReadBackLaws.{run_append, outcomes_append, MarkTold, marked, line_by_end, line_answer_lem, no_group_gap, gap_answer_lem, written_length}
 use Rattle.recovery.specs.CleanAnswers.{said_in, said, line_read, gap_read, clean_answers}
@@ -107,7 +107,7 @@ line_arrives p a g x =
     let m = Open one.before c in
     let two : Lengthens p m (c % 16 ∷ c / 16 ∷ []) (content s) = no_inner_mark p s g m c cs in
     let three : MarkTold p m (line_text c s) e = marked p m (line_text c s) e (few_no_group (line_text c s) (few_line p s g c cs)) in
-    let four : Lengthens p (end_of a) (e % 16 ∷ e / 16 ∷ []) (tail s) = no_mark_lem p (end_of a) (e % 16 ∷ e / 16 ∷ []) (tail s) (no_group_gap p s g e es) in
+    let four : Lengthens p (end_of a) (e % 16 ∷ e / 16 ∷ []) (tail s) = no_mark p (end_of a) (e % 16 ∷ e / 16 ∷ []) (tail s) (no_group_gap p s g e es) in
     let answer = line_by_lem p s g one.before c e r q hs he in
     let ended : run p (state_with m (line_text c s)) (mark_of e) ≡ state_with (end_of a) (e % 16 ∷ e / 16 ∷ [])
     = three.state
@@ -192,7 +192,7 @@ told_then last a (next ∷ later) = start_answer a ∷ end_answer a (length (arr
 -- each line has its own two answers, whatever the state before them and whatever nibbles after them
 told_then_lem : (p : Profile) (a : Arrived) → Writable p a.sent → (later : List Arrived) → AllWritable p (all_sent later) → (v : List ℕ) (b : Bool)
     → start_answer a ∷ said (brought_by p (leaves a) (arriving later ++ v) b) ≡ told_then (λ z. said (brought_by p (leaves z) v b)) a later
-told_then_lem p a g [] no_lines_lem v b = refl
+told_then_lem p a g [] no_lines v b = refl
 told_then_lem p a g (next ∷ later) (and_line h hs) v b =
     ap (λ (os : List Outcome). start_answer a ∷ os)
     (ap (λ (w : List ℕ). said (brought_by p (leaves a) w b)) (append_assoc (arrival next) (arriving later) v)
@@ -216,14 +216,14 @@ arrival_length a =
 
 alone : (p : Profile) (a : Arrived) → Writable p a.sent → (later : List Arrived) → AllWritable p (all_sent later) → (b : Bool)
     → told_then (λ z. said (brought_by p (leaves z) [] b)) a later ≡ flip_answers b (a ∷ later)
-alone p a g [] no_lines_lem b = ap (λ (os : List Outcome). start_answer a ∷ os) (at_finish p a g b)
+alone p a g [] no_lines b = ap (λ (os : List Outcome). start_answer a ∷ os) (at_finish p a g b)
 alone p a g (next ∷ later) (and_line h hs) b =
     ap₂ (λ (n : ℕ) (os : List Outcome). start_answer a ∷ end_answer a n ∷ os) (arrival_length a) (alone p next h later hs b)
 
 -- the law, where nothing follows the lines: from a fresh reader, finished or not
 pub flip_answers_lem : (p : Profile) (all : List Arrived) → AllWritable p (all_sent all) → (b : Bool) → said (brought_by p fresh (arriving all) b) ≡ flip_answers b all
-flip_answers_lem p [] no_lines_lem true = refl
-flip_answers_lem p [] no_lines_lem false = refl
+flip_answers_lem p [] no_lines true = refl
+flip_answers_lem p [] no_lines false = refl
 flip_answers_lem p (a ∷ later) (and_line g hs) b =
     ap (λ (w : List ℕ). said (brought_by p fresh w b)) (sym (append-nil (arriving (a ∷ later))))
     ∙ told_from_fresh p a g later hs [] b
@@ -237,7 +237,7 @@ record ClosedFirst (all : List Arrived) (os : List Outcome) : Type 0 where
 
 before_mark : (p : Profile) (a : Arrived) → Writable p a.sent → (later : List Arrived) → AllWritable p (all_sent later) → (code : ℕ) (w : List ℕ) (b : Bool)
     → ClosedFirst (a ∷ later) (told_then (λ z. said (brought_by p (leaves z) (mark_of code ++ w) b)) a later)
-before_mark p a g [] no_lines_lem code w b =
+before_mark p a g [] no_lines code w b =
     let y = run p (leaves a) (mark_of code) in
     record {
       more = said (brought_by p y w b);
@@ -261,7 +261,7 @@ closed_length (a ∷ later) = omega (arith, closed_length later)
 -- the law, where a mark follows the lines: their answers are the first
 pub flip_answers_first : (p : Profile) (all : List Arrived) → AllWritable p (all_sent all) → (code : ℕ) (w : List ℕ) (b : Bool)
     → take (2 * length all) (said (brought_by p fresh (arriving all ++ (mark_of code ++ w)) b)) ≡ closed_answers all
-flip_answers_first p [] no_lines_lem code w b = refl
+flip_answers_first p [] no_lines code w b = refl
 flip_answers_first p (a ∷ later) (and_line g hs) code w b =
     let k = before_mark p a g later hs code w b in
     ap (take (2 * length (a ∷ later))) (told_from_fresh p a g later hs (mark_of code ++ w) b ∙ k.told)

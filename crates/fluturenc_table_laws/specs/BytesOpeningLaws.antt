@@ -70,13 +70,13 @@ module _ (s : List ℕ) where
       lowest = lowest_from place_count 0 s
 
       below : (j : ℕ) → j < lowest → FreeAt s j → ⊥
-      below j l f = from_taken place_count 0 j (omega arith) l (sym (owner_byte s j f.is_there_lem) ∙ f.is_free)
+      below j l f = from_taken place_count 0 j (omega arith) l (sym (owner_byte s j f.is_there) ∙ f.is_free)
 
       go : (b : Bool) → ltb lowest place_count ≡ b → BytesOpensLowest s (cond b (opened_at s who n lowest) (refused_table no_place_free s)).answer
       go true l =
           let k = ltb-true lowest place_count l in
-          lowest_one lowest (record { is_there_lem = k; is_free = owner_byte s lowest k ∙ from_free place_count 0 (omega (arith, k)) }) below
-      go false l = all_taken (λ i f. below i (let k = ltb-false lowest place_count l in let m = f.is_there_lem in omega (arith, k, m)) f)
+          lowest_one lowest (record { is_there = k; is_free = owner_byte s lowest k ∙ from_free place_count 0 (omega (arith, k)) }) below
+      go false l = all_taken (λ i f. below i (let k = ltb-false lowest place_count l in let m = f.is_there in omega (arith, k, m)) f)
 
 -- From bytes that hold a table on, the calls of an opening are told the numbers of what the table tells them, and take the same nibbles.
 

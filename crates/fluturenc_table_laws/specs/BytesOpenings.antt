@@ -18,7 +18,7 @@ use Rattle.fluturenc_table_laws.specs.BytesHistory.{TableAsk, ask_open, ask_feed
 
 -- a place of the bytes that is free
 pub record FreeAt (s : List ℕ) (i : ℕ) : Type 0 where
-  pub is_there_lem : i < place_count
+  pub is_there : i < place_count
   pub is_free : owner_at s i ≡ nobody
 
 -- what an opening is answered, by a technician and of a profile that there is: 33 where no place is free, or the lowest that is

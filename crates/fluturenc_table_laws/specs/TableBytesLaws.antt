@@ -201,13 +201,13 @@ module _ (s : List ℕ) (t : ReaderTable) (h : HoldsTable s t) where
       ap (λ (x : Bool). cond x (some (place_at t i).reader) none) (ap (λ (n : ℕ). eqb n who) (owner_same i) ∙ e)
 
   module _ (who i : ℕ) (a : is_technician who ≡ true) (b : eqb (owner_at s i) who ≡ true) where
-    is_there_lem : i < place_count
-    is_there_lem = let l = there t who i (place_at t i).reader a (held_by_lem who i true b) in omega (arith, l, h.eight)
+    is_there : i < place_count
+    is_there = let l = there t who i (place_at t i).reader a (held_by_lem who i true b) in omega (arith, l, h.eight)
 
     reader_there : HoldsReader (state_at s i) (place_at t i).reader
     reader_there =
         let taken : eqb (owner_at s i) nobody ≡ false = ap (λ (n : ℕ). eqb n nobody) (eqb-true (owner_at s i) who b) ∙ not_nobody who a in
-        let place = h.each i is_there_lem in
+        let place = h.each i is_there in
         subst (HoldsReader (state_at s i))
         (ap (λ (p : TablePlace). p.reader) (sym (taken_place (owner_at s i) (state_at s i) taken) ∙ place.read))
         (place.held taken)
@@ -322,7 +322,7 @@ module _ (s : List ℕ) (t : ReaderTable) (h : HoldsTable s t) where
       go true true e f =
           let r : Reader = (place_at t i).reader in
           let x : HoldsReader (state_at s i) r = reader_there s t h who i e f in
-          let l : i < place_count = is_there_lem s t h who i e f in
+          let l : i < place_count = is_there s t h who i e f in
           let fed = feeds (state_at s i) w line r x in
           feeds_same (feed_granted s who i w line (owner_granted s t h who i e f))
           (technician_called t who i (run w line) (some r) e (held_by_lem s t h who i true f))
@@ -348,7 +348,7 @@ module _ (s : List ℕ) (t : ReaderTable) (h : HoldsTable s t) where
       go true true e f =
           let r : Reader = (place_at t i).reader in
           let x : HoldsReader (state_at s i) r = reader_there s t h who i e f in
-          let l : i < place_count = is_there_lem s t h who i e f in
+          let l : i < place_count = is_there s t h who i e f in
           answers_same (finish_granted s who i (owner_granted s t h who i e f))
           (technician_called t who i (one done) (some r) e (held_by_lem s t h who i true f))
           (record {
@@ -380,7 +380,7 @@ module _ (s : List ℕ) (t : ReaderTable) (h : HoldsTable s t) where
       go true true e f =
           answers_same (close_granted s who i (owner_granted s t h who i e f))
           (technician_closes t who i (some (place_at t i).reader) e (held_by_lem s t h who i true f))
-          (record { says = refl; keeps = place_freed i (is_there_lem s t h who i e f) })
+          (record { says = refl; keeps = place_freed i (is_there s t h who i e f) })
 
   -- a fresh reader that is put into a place
   fresh_put : (i who n : ℕ) (p : Profile) → is_technician who ≡ true → profile_numbered n ≡ numbered.Profile p → i < place_count

@@ -169,7 +169,7 @@ after_line_lem k a ls l s buffer f r rest =
 -- a way of calling: it stays where no call is left, and goes on where nothing is said
 pub record KeepsCalling (on : AfterCall → List Given → AfterCall) : Type 0 where
   pub stays : (x : AfterCall) → on x [] ≡ x
-  pub goes_on_lem : (s : Gatherer) (buffer : List ℕ) (g : Given) (gs : List Given) → on (quiet s buffer) (g ∷ gs) ≡ on (call (quiet s buffer) g) gs
+  pub goes_on : (s : Gatherer) (buffer : List ℕ) (g : Given) (gs : List Given) → on (quiet s buffer) (g ∷ gs) ≡ on (call (quiet s buffer) g) gs
 
 rest_shown : (on : AfterCall → List Given → AfterCall) → KeepsCalling on → (k : Keeping) (gs : List Given) (g : Given) (l : Shown) (s : Gatherer) (buffer : List ℕ)
     → shown (handed_lines g.answer) g.held ≡ l ∷ [] → Ready k (shown_all gs) l s buffer → Said k (shown_all gs) l s buffer (on (quiet s buffer) (gs ++ (g ∷ [])))
@@ -296,4 +296,4 @@ pub frame_shown : (k : Keeping) (buffer : List ℕ) (before gs : List Given) (g 
     → (calls (calls (start k buffer) before) (gs ++ (g ∷ []))).output ≡ complete (frame_size k b) (rows_of k (shown_all gs ++ (l ∷ [])))
 frame_shown k buffer before gs g l b e f w room =
     ap (λ (y : AfterCall). y.output) (sym (calls_quiet (calls (start k buffer) before) gs g))
-    ∙ frame_shown_on calls (record { stays = λ x. refl; goes_on_lem = λ s held a more. refl }) k buffer before gs g l b e f w room
+    ∙ frame_shown_on calls (record { stays = λ x. refl; goes_on = λ s held a more. refl }) k buffer before gs g l b e f w room

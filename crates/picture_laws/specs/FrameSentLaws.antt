@@ -13,7 +13,7 @@ use Rattle.profile.specs.Layout.{rules, fits}
 use Rattle.profile.specs.LayoutLaws.{rules_length, fits_length, body_small}
 use Rattle.stream.specs.Answers.{Outcome, nothing, line, gap, refused, answer_for, buffer_after, good_gap}
 use Rattle.stream.specs.Stream.{State, fresh, step, run, outcomes}
-use Rattle.stream.specs.Written.{Sent, Writable, AllWritable, no_lines_lem, and_line, start_mark, content, tail, written, stream}
+use Rattle.stream.specs.Written.{Sent, Writable, AllWritable, no_lines, and_line, start_mark, content, tail, written, stream}
 use Rattle.stream.specs.Nibbles.{AllNibbles, no_nibble, and_nibble}
 use Rattle.stream.specs.NibblesLaws.{all_nibbles_append}
 use Rattle.reader.specs.declared.Reader.{Reader}
@@ -107,7 +107,7 @@ record LinesTold (os : List Outcome) (ss : List Sent) : Type 0 where
 
 lines_told : (s : Sent) → Writable VV5404 s → {ss : List Sent} → AllWritable VV5404 ss
     → LinesTold (rest_told s Clean Clean ++ outcomes VV5404 (after s) (stream ss)) (s ∷ ss)
-lines_told s g no_lines_lem =
+lines_told s g no_lines =
     let none : collected shown_of (nothings (content s) ++ seven) ≡ [] =
     collected_append shown_of (nothings (content s)) seven ∙ ap (λ (ls : List Shown). ls ++ []) (collected_nothings shown_of refl (content s)) in
     record {
@@ -291,7 +291,7 @@ frame_said k b s g {ss} h f held room {before} small none later =
 sent_said : (k : Keeping) (b : Borders) {ss : List Sent} → AllWritable VV5404 ss → IsFrame VV5404 b (lines_of (map shown_line ss))
     → (held : List ℕ) → frame_size k b ≤ length held → {before : List ℕ} → AllNibbles before → (grab_of (fresh_grabber k) before held).output ≡ rows.nothing
     → (later : List ℕ) → (grab_of (fresh_grabber k) ((before ++ stream ss) ++ later) held).output ≡ complete (frame_size k b) (sent_rows k ss)
-sent_said k b no_lines_lem f held room small none later = absurd (let z = f.0 in omega arith)
+sent_said k b no_lines f held room small none later = absurd (let z = f.0 in omega arith)
 sent_said k b (and_line {s = s} g h) f held room small none later = frame_said k b s g h f held room small none later
 
 -- Its file.
@@ -304,11 +304,11 @@ kind_laid SOF n body h e = absurd (true≢false (sym e))
 kind_laid EOF n body h e = absurd (true≢false (sym e))
 
 sent_laid : {ss : List Sent} → AllWritable VV5404 ss → Every Laid (map shown_line ss)
-sent_laid no_lines_lem = tt
+sent_laid no_lines = tt
 sent_laid (and_line {s = s} g h) = (kind_laid s.kind s.number s.body g.body_fits, sent_laid h)
 
 sent_whole : {ss : List Sent} → AllWritable VV5404 ss → Every WholeBody (map shown_line ss)
-sent_whole no_lines_lem = tt
+sent_whole no_lines = tt
 sent_whole (and_line {s = s} g h) = (body_length_lem s g, sent_whole h)
 
 -- the rows are those of a whole frame

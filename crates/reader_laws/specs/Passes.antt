@@ -88,8 +88,8 @@ passed h e =
     record {
       count_small = leb-true h.count count_stop (and_left (leb h.count count_stop) _ e);
       no_mark_there = not-true (shows_mark h.window) (and_left (not (shows_mark h.window)) _ f);
-      handed_fits_lem = and_left (handed_fits h.at) _ g;
-      window_fits_lem = fits_fact h.at h.count h.window (and_left (window_fits h.at h.count h.window) _ j);
+      handed_fits = and_left (handed_fits h.at) _ g;
+      window_fits = fits_fact h.at h.count h.window (and_left (window_fits h.at h.count h.window) _ j);
       stray_late = λ q. ltb-true (gap_start h.profile + 8) h.count (not_then h.kept.stray _ i q);
     }
 
@@ -98,8 +98,8 @@ unfolding passes
 passes_test h f =
     and_both (leb h.count count_stop) _ (le-leb h.count count_stop f.count_small)
     (and_both (not (shows_mark h.window)) _ (ap not f.no_mark_there)
-    (and_both (handed_fits h.at) _ f.handed_fits_lem
-    (and_both (window_fits h.at h.count h.window) _ (fact_fits h.at h.count h.window f.window_fits_lem)
+    (and_both (handed_fits h.at) _ f.handed_fits
+    (and_both (window_fits h.at h.count h.window) _ (fact_fits h.at h.count h.window f.window_fits)
     (then_not h.kept.stray _ (λ e. lt-ltb (gap_start h.profile + 8) h.count (f.stray_late e))))))
 
 -- Windows that slide.
@@ -273,7 +273,7 @@ unfolding shows_mark
 fresh_ok p =
     record {
       byte = tt;
-      test = record { count_small = omega arith; no_mark_there = refl; handed_fits_lem = refl; window_fits_lem = λ l. refl; stray_late = λ e. absurd (true≢false (sym e)) };
+      test = record { count_small = omega arith; no_mark_there = refl; handed_fits = refl; window_fits = λ l. refl; stray_late = λ e. absurd (true≢false (sym e)) };
     }
 
 -- a mark that follows a line handed out
@@ -291,8 +291,8 @@ opened_ok h code handed l q =
           record {
             count_small = omega arith;
             no_mark_there = ne_eqb (code / 256) group_number (λ e. omega arith);
-            handed_fits_lem = opened_fits (kind_at h.at) handed code q;
-            window_fits_lem = record { two = omega arith; within = λ i. refl; half = λ e. absurd (omega arith) };
+            handed_fits = opened_fits (kind_at h.at) handed code q;
+            window_fits = record { two = omega arith; within = λ i. refl; half = λ e. absurd (omega arith) };
             stray_late = λ e. absurd (true≢false (sym e));
           };
     }
@@ -305,8 +305,8 @@ shifted_ok h n l e f =
           record {
             count_small = bump_small h.count f.test.count_small;
             no_mark_there = e;
-            handed_fits_lem = f.test.handed_fits_lem;
-            window_fits_lem = fits_bump h.at h.count h.window n f.byte l f.test.count_small f.test.window_fits_lem;
+            handed_fits = f.test.handed_fits;
+            window_fits = fits_bump h.at h.count h.window n f.byte l f.test.count_small f.test.window_fits;
             stray_late = leave_stray h f.test;
           };
     }

@@ -27,8 +27,8 @@ Fits (Open before code) c w = MarkFits code c w
 pub record Passed (h : Head) : Type 0 where
   pub count_small : h.count ≤ count_stop
   pub no_mark_there : shows_mark h.window ≡ false
-  pub handed_fits_lem : handed_fits h.at ≡ true
-  pub window_fits_lem : Fits h.at h.count h.window
+  pub handed_fits : handed_fits h.at ≡ true
+  pub window_fits : Fits h.at h.count h.window
   pub stray_late : h.kept.stray ≡ true → gap_start h.profile + 8 < h.count
 
 -- a mark's code is a byte

@@ -41,7 +41,7 @@ module _ (t : ReaderTable) (i : ℕ) (l : i < length t.places) where
   freed_free : Free freed i
   freed_free =
       record {
-        is_there_lem = omega (arith, l, put_length t i free_place);
+        is_there = omega (arith, l, put_length t i free_place);
         is_free = ap (λ (p : TablePlace). p.owner) (put_same t i free_place l);
       }
 
@@ -63,7 +63,7 @@ module _ (t : ReaderTable) (i : ℕ) (l : i < length t.places) where
             absurd
             (below lowest k
             (record {
-              is_there_lem = omega (arith, k, l);
+              is_there = omega (arith, k, l);
               is_free = ap (λ (p : TablePlace). p.owner) (sym (freed_others lowest (λ q. omega (arith, k, q)))) ∙ lowest_free_lem freed;
             }))
         go false false e f = let a = ltb-false i lowest e in let b = ltb-false lowest i f in omega (arith, a, b)
@@ -71,7 +71,7 @@ module _ (t : ReaderTable) (i : ℕ) (l : i < length t.places) where
     freed_opens : (next n : ℕ) (p : Profile) → is_technician next ≡ true → profile_numbered n ≡ numbered.Profile p
         → open_place_of freed next n ≡ opens_at freed next p i
     unfolding open_place_of open_place
-    freed_opens next n p h e = simp (h, e, lowest_again, lt-ltb i (length freed.places) freed_free.is_there_lem)
+    freed_opens next n p h e = simp (h, e, lowest_again, lt-ltb i (length freed.places) freed_free.is_there)
 
 pub closed_again : (t : ReaderTable) (who i : ℕ) → (close_place_of t who i).answer ≡ answer_for nothing → ClosedAgain t who i
 closed_again t who i e =

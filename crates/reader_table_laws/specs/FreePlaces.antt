@@ -10,7 +10,7 @@ use Rattle.reader_table.specs.Table.{nobody, place_at, Placing, at_place, not_pl
 
 -- a place that is there and free
 pub record Free (t : ReaderTable) (i : ℕ) : Type 0 where
-  pub is_there_lem : i < length t.places
+  pub is_there : i < length t.places
   pub is_free : (place_at t i).owner ≡ nobody
 
 -- an opening, by a technician and of a profile that there is: 33 where no place is free, or the lowest that is

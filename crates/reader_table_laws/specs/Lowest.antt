@@ -93,5 +93,5 @@ opens_lowest t who n p h e =
         (cond b
         (opens_at t who p (lowest_free t.places))
         (not_opened t no_place_free)).placing
-    go true l = lowest_one (lowest_free t.places) (record { is_there_lem = ltb-true _ _ l; is_free = lowest_free_lem t }) below
-    go false l = all_taken (λ i f. let k = f.is_there_lem in let m = ltb-false (lowest_free t.places) (length t.places) l in below i (omega (arith, k, m)) f)
+    go true l = lowest_one (lowest_free t.places) (record { is_there = ltb-true _ _ l; is_free = lowest_free_lem t }) below
+    go false l = all_taken (λ i f. let k = f.is_there in let m = ltb-false (lowest_free t.places) (length t.places) l in below i (omega (arith, k, m)) f)

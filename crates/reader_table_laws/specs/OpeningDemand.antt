@@ -48,7 +48,7 @@ module _ (p : Profile) (ss : List Sent) (a b : ℕ) (new : List ℕ) (cs ds : Li
     took_so_many e = ap length (sym same.same_taken) ∙ e
 
     runs_before : length (runs_taken start cs) ≡ a → runs_collected line_collector p start cs ≡ map as_sent (ended_by a 0 ss)
-    runs_before e = same.same_lines ∙ d.lines_before_lem singles later split (took_so_many e)
+    runs_before e = same.same_lines ∙ d.lines_before singles later split (took_so_many e)
 
     runs_after : length (runs_taken start cs) ≡ start_after ss a b new
         → runs_collected line_collector p (on_runs start cs) ds ≡ map as_sent (lines_from b 0 ss)
@@ -94,7 +94,7 @@ module _ (p : Profile) (who : ℕ) (h : is_technician who ≡ true) (i : ℕ) (t
         own_reader = projected who h i cs t (fresh_reader p) e;
         one_by_one = k.0;
         demand_three = k.1;
-        lines_before_lem = λ first rest parts n.
+        lines_before = λ first rest parts n.
             collected_before line_collector first
             ∙ runs_before p ss a b new (calls_of who i first) (calls_after who i first rest)
             (cut ss a b new first rest cs parts k.1) (ap length (sym (took first)) ∙ n);

@@ -116,14 +116,14 @@ collected_after k p who i t first rest = told_collected k p (calls_after who i f
 pub record OpeningDemandThree (p : Profile) (who i : ℕ) (t : ReaderTable) (ss : List Sent) (a b : ℕ) (new : List ℕ) (h : List TableCall) : Type 0 where
   -- its calls are told what a reader of one's own would tell them, which does what the same calls one by one do, and of those demand 3 holds
   pub own_reader : told_of who i t h ≡ reader_told (fresh_reader p) (calls_of who i h)
-  pub one_by_one_lem : SameAsFeeds p (fresh_reader p) (calls_of who i h)
+  pub one_by_one : SameAsFeeds p (fresh_reader p) (calls_of who i h)
   pub demand_three : DemandThree reader_call p (fresh_reader p) ss a b new (all_one_by_one (fresh_reader p) (calls_of who i h))
   -- and so, where the history has two parts: if the first takes the nibbles before the stretch, its lines are those whose end code lies
   -- wholly before it
-  pub lines_before_lem : (first rest : List TableCall) → first ++ rest ≡ h → length (nibbles_of who i t first) ≡ a
+  pub lines_before : (first rest : List TableCall) → first ++ rest ≡ h → length (nibbles_of who i t first) ≡ a
       → collected_of line_collector p who i t first ≡ map as_sent (ended_by a 0 ss)
   -- if it takes those before the first line start after the stretch, the lines of the second are those sent from there on
-  pub lines_after_lem : (first rest : List TableCall) → first ++ rest ≡ h → length (nibbles_of who i t first) ≡ start_after ss a b new
+  pub lines_after : (first rest : List TableCall) → first ++ rest ≡ h → length (nibbles_of who i t first) ≡ start_after ss a b new
       → collected_after line_collector p who i t first rest ≡ map as_sent (lines_from b 0 ss)
   -- the good gaps of the first part, with their periods, are those of the lines that lie wholly before the stretch, through the code of the
   -- mark after the gap

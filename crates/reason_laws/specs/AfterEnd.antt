@@ -14,7 +14,7 @@ use Rattle.recovery.specs.Resync.{state_with}
 
 -- the answers of nibbles from two states, and the states they leave: they agree, but that the first mark's code answers a mark of the first alone
 pub data AgreeAfterEnd : List Outcome → State → List Outcome → State → Type 0 where
-  no_mark_lem : (s q : State) → AgreeAfterEnd [] s [] q
+  no_mark : (s q : State) → AgreeAfterEnd [] s [] q
   not_complete : {os qs : List Outcome} {s q : State} → AgreeAfterEnd os s qs q → AgreeAfterEnd (nothing ∷ os) s (nothing ∷ qs) q
   first_mark : (o : Outcome) (os : List Outcome) (s : State) → AgreeAfterEnd (o ∷ os) s (nothing ∷ os) s
 
@@ -47,7 +47,7 @@ module _ (p : Profile) where
 
   agree : (w t : List ℕ) → AgreeAfterEnd (outcomes p (ended t) w) (run p (ended t) w) (outcomes p (state_with NoMark t) w) (run p (state_with NoMark t) w)
   unfolding reading_of meaning_of kind_numbered reserved_of
-  agree [] t = no_mark_lem _ _
+  agree [] t = no_mark _ _
   agree (n ∷ w) [] = not_complete (agree w (n ∷ []))
   agree (n ∷ w) (x ∷ u) = go (both u) (agree w (n ∷ x ∷ u))
     where

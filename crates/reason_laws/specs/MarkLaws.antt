@@ -253,11 +253,11 @@ first_opens p w₀ x y = subst (Opened p (kind_before p w₀) (16 * x + y) x y) 
     here : onto [] (w₀ ++ opener) ≡ group ++ onto [] w₀
     here = onto_append [] w₀ opener
 
-    no_mark_lem : is_mark (detect (x ∷ s.text)) ≡ false
-    no_mark_lem = marks_are_places p (w₀ ++ opener) x ∙ ap (λ (l : List ℕ). completes (x ∷ l)) here
+    no_mark : is_mark (detect (x ∷ s.text)) ≡ false
+    no_mark = marks_are_places p (w₀ ++ opener) x ∙ ap (λ (l : List ℕ). completes (x ∷ l)) here
 
     one : (step p s x).state ≡ state_with s.at (x ∷ s.text)
-    one = still (detect (x ∷ s.text)) p s.at (x ∷ s.text) no_mark_lem
+    one = still (detect (x ∷ s.text)) p s.at (x ∷ s.text) no_mark
 
     then_run : run p fresh (w₀ ++ (opener ++ (x ∷ []))) ≡ state_with s.at (x ∷ s.text)
     then_run = ap (run p fresh) (sym (append_assoc w₀ opener (x ∷ []))) ∙ run_append p fresh (w₀ ++ opener) (x ∷ []) ∙ one
@@ -269,7 +269,7 @@ first_opens p w₀ x y = subst (Opened p (kind_before p w₀) (16 * x + y) x y) 
         ∙ ap (λ (l : List ℕ). completes (y ∷ l)) (onto_append [] w₀ (opener ++ (x ∷ [])))
 
     two : Opened p (kind_before p w₀) (16 * x + y) x y (step p (state_with s.at (x ∷ s.text)) y).state
-    two = completed (detect (y ∷ x ∷ s.text)) p s.at (y ∷ x ∷ s.text) is_mark_lem x y s.text refl refl
+    two = completed (detect (y ∷ x ∷ s.text)) p s.at (y ∷ x ∷ s.text) is_mark x y s.text refl refl
 
     whole : run p fresh (w₀ ++ (opener ++ (x ∷ y ∷ []))) ≡ (step p (state_with s.at (x ∷ s.text)) y).state
     whole =

@@ -88,7 +88,7 @@ pub record LineLong (p : Profile) (code : ℕ) (text : List ℕ) (next : Next) (
 -- a line of the right length with a good number
 pub record NumberGood (p : Profile) (code : ℕ) (text : List ℕ) (next : Next) (k : Kind) (c : ℕ) : Type 0 where
   pub so_far : LineLong p code text next k c
-  pub number_good_lem : HoldBelow (number_holds text) 2
+  pub number_good : HoldBelow (number_holds text) 2
 
 -- and with a good body
 pub record BodyGood (p : Profile) (code : ℕ) (text : List ℕ) (next : Next) (k : Kind) (c : ℕ) : Type 0 where
@@ -97,7 +97,7 @@ pub record BodyGood (p : Profile) (code : ℕ) (text : List ℕ) (next : Next) (
 
 -- an end code after a line of a kind
 pub record GapAfter (before : LineKind) (code : ℕ) (k : Kind) : Type 0 where
-  pub is_end_lem : CodeSays code EndOfLine
+  pub is_end : CodeSays code EndOfLine
   pub before_is : before ≡ LineOf k
 
 -- each reason, of the kind of the mark before, the code, the text and the next mark's code. A gap is what follows the end code
@@ -152,5 +152,5 @@ pub data Explains (n k : ℕ) (w : List ℕ) : Reason → Type 0 where
   no_profile : ((p : Profile) → n ≡ profile_number p → ⊥) → Explains n k w (Refused bad_state)
   no_kind : (p : Profile) → n ≡ profile_number p → last_kind < k → Explains n k w (Refused bad_kind)
   no_nibble : (p : Profile) → n ≡ profile_number p → k ≤ last_kind → Above w → Explains n k w (Refused not_a_nibble)
-  no_mark_lem : (p : Profile) → n ≡ profile_number p → k ≤ last_kind → (Above w → ⊥) → (Begun w → ⊥) → Explains n k w (Refused no_mark_first)
+  no_mark : (p : Profile) → n ≡ profile_number p → k ≤ last_kind → (Above w → ⊥) → (Begun w → ⊥) → Explains n k w (Refused no_mark_first)
   because : (p : Profile) → n ≡ profile_number p → k ≤ last_kind → (Above w → ⊥) → Begun w → {r : Reason} → TrueOfRun p (kind_numbered k) w r → Explains n k w r

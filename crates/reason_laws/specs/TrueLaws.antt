@@ -35,7 +35,7 @@ use Rattle.reason.specs.declared.Reason.TheVariants.{GoodLine, GoodGap, WrongLen
 use Rattle.reason.specs.Sums.{sum_p0, sum_p1, sum_p2, sum_p3, failed_sums}
 use Rattle.reason.specs.Explanation.{code_at, is_code, begins_mark, next_mark, pair_at, bytes_in, number_reason, body_reason, next_reason, line_reason, gap_rule, stray_reason, two_bytes_reason, end_mark_reason, meaning_reason, reading_reason, reason_of, text_in, next_in, first_reason, after_opener, last_kind, run_reason, profile_reason, explanation}
 use Rattle.reason.specs.ExplanationLaws.{begun, begun_begins, bytes_length, byte_drop, bytes_body}
-use Rattle.reason_laws.specs.True.{HoldBelow, body_byte_at, number_holds, body_holds, gap_holds, SumsFail, CodeSays, LineLong, NumberGood, BodyGood, GapAfter, TrueOf, damaged, reserved_ec, reserved_f1, unfinished, wrong_length_lem, bad_number_lem, bad_body_lem, no_end, good_line, end_without_line_lem, short_gap, bad_gap_lem, good_gap_lem, CutAt, TrueOfRun, Above, Explains, no_profile, no_kind, no_nibble, no_mark_lem, because}
+use Rattle.reason_laws.specs.True.{HoldBelow, body_byte_at, number_holds, body_holds, gap_holds, SumsFail, CodeSays, LineLong, NumberGood, BodyGood, GapAfter, TrueOf, damaged, reserved_ec, reserved_f1, unfinished, wrong_length_lem, bad_number_lem, bad_body_lem, no_end, good_line, end_without_line_lem, short_gap, bad_gap_lem, good_gap_lem, CutAt, TrueOfRun, Above, Explains, no_profile, no_kind, no_nibble, no_mark, because}
 
 -- Parity sums.
 
@@ -161,7 +161,7 @@ module _ (p : Profile) (before : LineKind) (code : ℕ) (t : List ℕ) where
       where
         go : (x : Bool) → number_good (pair_at t 2) ≡ x → (y : Bool) → number_good (pair_at t 4) ≡ y
             → TrueOf p before code t (Code c) (cond x (cond y (body_reason (rules p k) (bytes_in (drop 6 t)) 0 (next_reason c)) (BadNumber 1 (pair_at t 4))) (BadNumber 0 (pair_at t 2)))
-        go true e true f = body_true (record { so_far = l; number_good_lem = before_more (number_holds t) 1 e (before_more (λ (i : ℕ). number_holds t (suc i)) 0 f (nowhere (λ (i : ℕ). number_holds t (suc (suc i))))) })
+        go true e true f = body_true (record { so_far = l; number_good = before_more (number_holds t) 1 e (before_more (λ (i : ℕ). number_holds t (suc i)) 0 f (nowhere (λ (i : ℕ). number_holds t (suc (suc i))))) })
         go true e false f =
             bad_number_lem k c 1 l (record { within = omega arith; bad = f; good_before = before_more (number_holds t) 0 e (nowhere (λ (i : ℕ). number_holds t (suc i))) })
         go false e y f = bad_number_lem k c 0 l (record { within = omega arith; bad = e; good_before = nowhere (number_holds t) })
@@ -200,7 +200,7 @@ stray_cases P (v ∷ w) i f g =
 
 module _ (code : ℕ) (t : List ℕ) (next : Next) (k : Kind) (is_end_lem : CodeSays code EndOfLine) where
   after : GapAfter (LineOf k) code k
-  after = record { is_end_lem = is_end_lem; before_is = refl }
+  after = record { is_end = is_end_lem; before_is = refl }
 
   gap_true_0 : TrueOf VV5404 (LineOf k) code t next (stray_reason (drop 2 t) 0)
   gap_true_0 =
@@ -405,7 +405,7 @@ explains n k w = by_profile (eqb n 0) refl (eqb n 1) refl
             → Explains n k w (cond x (cond y (cond z (first_reason p (kind_numbered k) (after_opener w)) (Refused no_mark_first)) (Refused not_a_nibble)) (Refused bad_kind))
         go false a y b z d = no_kind p e (leb-false k last_kind a)
         go true a false b z d = no_nibble p e (leb-true k last_kind a) (one_above w b)
-        go true a true b false d = no_mark_lem p e (leb-true k last_kind a) (none_above w b) (λ g. true≢false (sym (begun_begins w g) ∙ d))
+        go true a true b false d = no_mark p e (leb-true k last_kind a) (none_above w b) (λ g. true≢false (sym (begun_begins w g) ∙ d))
         go true a true b true d = because p e (leb-true k last_kind a) (none_above w b) (begun w d) (first_true p (kind_numbered k) w)
 
     by_profile : (x : Bool) → eqb n 0 ≡ x → (y : Bool) → eqb n 1 ≡ y

@@ -177,11 +177,11 @@ module _ {R : Type 0} (on : R → Call → CallResult R) where
   pub record DemandThree (p : Profile) (r : R) (ss : List Sent) (i j : ℕ) (new : List ℕ) (cs : List Call) : Type 0 where
     -- out of the calls that take the nibbles before the stretch come exactly the lines whose end code lies wholly before it, in the
     -- order sent and each as sent
-    pub lines_before_lem : (first rest : List Call) → first ++ rest ≡ cs → length (on_taken r first) ≡ i
+    pub lines_before : (first rest : List Call) → first ++ rest ≡ cs → length (on_taken r first) ≡ i
         → on_lines p r first ≡ map as_sent (ended_by i 0 ss)
     -- out of the call that takes the first F of the first line start after the stretch and of every call after that, finish included,
     -- come exactly the lines sent from there on, none missing and none added, in the order sent and each as sent
-    pub lines_after_lem : (first rest : List Call) → first ++ rest ≡ cs → length (on_taken r first) ≡ start_after ss i j new
+    pub lines_after : (first rest : List Call) → first ++ rest ≡ cs → length (on_taken r first) ≡ start_after ss i j new
         → on_lines p (on_run r first) rest ≡ map as_sent (lines_from j 0 ss)
     -- out of the calls that take the nibbles before the stretch come exactly the good gaps of the lines that lie wholly before it, each from
     -- its first nibble through the code of the mark after its gap: in the order sent, and each with its period as sent

@@ -6,7 +6,7 @@ use Rattle.line_code.specs.declared.Repair.TheVariants.{Clean}
 use Rattle.profile.specs.declared.Profile.{Profile}
 use Rattle.stream.specs.Answers.{Outcome, good_gap}
 use Rattle.stream.specs.Stream.{State, fresh, finish, run, outcomes}
-use Rattle.stream.specs.Written.{Sent, Writable, AllWritable, no_lines_lem, and_line, content, tail, written, stream}
+use Rattle.stream.specs.Written.{Sent, Writable, AllWritable, no_lines, and_line, content, tail, written, stream}
 use Rattle.recovery.specs.Calls.{line_in, as_sent, gap_in, gap_as_sent}
 use Rattle.recovery.specs.Collected.{nothings}
 use Rattle.recovery.specs.CollectedLaws.{collected_append, collected_nothings}
@@ -37,7 +37,7 @@ last_said p s g = ap (λ (y : State). (finish p y).outcome) (sym (back p s g fre
 -- of a line that was just read, and of those after it
 clean_rest : (p : Profile) (s : Sent) → Writable p s → {ss : List Sent} → AllWritable p ss
     → line_read s Clean Clean ∷ said (outcomes_finished p (after s) (stream ss)) ≡ clean_answers (s ∷ ss)
-clean_rest p s g no_lines_lem = ap (λ (o : Outcome). line_read s Clean Clean ∷ said (o ∷ [])) (last_said p s g)
+clean_rest p s g no_lines = ap (λ (o : Outcome). line_read s Clean Clean ∷ said (o ∷ [])) (last_said p s g)
 clean_rest p s g (and_line {s = next} {ss = ss} h hs) =
     let C = outcomes p (after next) (stream ss) in
     let F = (finish p (run p (after next) (stream ss))).outcome in
@@ -50,7 +50,7 @@ clean_rest p s g (and_line {s = next} {ss = ss} h hs) =
 
 -- the law: the answers over a clean stream, read from a fresh reader and finished, are its lines and gaps as sent
 pub clean_answers_lem : (p : Profile) {ss : List Sent} → AllWritable p ss → said (outcomes_finished p fresh (stream ss)) ≡ clean_answers ss
-clean_answers_lem p no_lines_lem = refl
+clean_answers_lem p no_lines = refl
 clean_answers_lem p (and_line {s = s} {ss = ss} g h) =
     let C = outcomes p (after s) (stream ss) in
     let F = (finish p (run p (after s) (stream ss))).outcome in

@@ -19,7 +19,7 @@ use Rattle.stream.specs.declared.Mark.{Mark}
 use Rattle.stream.specs.declared.Mark.TheVariants.{NoMark, Open}
 use Rattle.stream.specs.Answers.{Outcome, nothing, is_line, good_gap, by_reading, answer_of}
 use Rattle.stream.specs.Stream.{State, fresh, before_by, answer_at, finish, run, outcomes}
-use Rattle.stream.specs.Written.{Sent, most_text, Writable, AllWritable, no_lines_lem, and_line, start_mark, content, end_mark, tail, written, stream}
+use Rattle.stream.specs.Written.{Sent, most_text, Writable, AllWritable, no_lines, and_line, start_mark, content, end_mark, tail, written, stream}
 use Rattle.recovery.specs.Calls.{line_in, as_sent, gap_in, gap_as_sent, ended_by, start_from, lines_from, closed_by}
 use Rattle.recovery.specs.Marks.{onto}
 use Rattle.recovery.specs.Collected.{collected, lines, gaps}
@@ -130,7 +130,7 @@ reads_line p s g q m t h =
 
 -- and so is a clean stream
 reads_stream : (p : Profile) {ss : List Sent} → AllWritable p ss → (q : Phase) (m : Mark) (t : List ℕ) → Ready p q m t → ReadsOn p q (state_with m t) (stream ss)
-reads_stream p no_lines_lem q m t h = record { phase = q; end = state_with m t; reads = reads_none (h.stands t (omega arith)) }
+reads_stream p no_lines q m t h = record { phase = q; end = state_with m t; reads = reads_none (h.stands t (omega arith)) }
 reads_stream p (and_line {s = s} g hs) q m t h =
     reads_then (reads_line p s g q m t h) (reads_stream p hs gapping (Open (HandedOut s.kind) end_code) (gap_text end_code s) (ready_after p s g))
 
@@ -212,7 +212,7 @@ from_here i o (s ∷ ss) h =
     (ap (λ (b : Bool). cond b (s ∷ ss) (lines_from i (o + length (written s)) ss)) (le-leb i o h), ap (λ (b : Bool). cond b o (start_from i (o + length (written s)) ss)) (le-leb i o h))
 
 cuts : (p : Profile) {ss : List Sent} → AllWritable p ss → (i o : ℕ) → o ≤ i → Cuts p ss i o (lines_from i o ss) (start_from i o ss)
-cuts p no_lines_lem i o h = record { piece = []; leads = leads_none p; whole = drop-nil (i - o); place = tt }
+cuts p no_lines i o h = record { piece = []; leads = leads_none p; whole = drop-nil (i - o); place = tt }
 cuts p (and_line {s = s} {ss = ss} g hs) i o h = go (leb i o) (leb (o + length (written s)) i) refl refl (cuts p hs i (o + length (written s)))
   where
     next : ℕ
@@ -269,7 +269,7 @@ past_piece p brings h u v y r n =
 -- lines
 lines_cut : (p : Profile) {L : List Sent} → AllWritable p L → (y : State) (i f n : ℕ) (u : List ℕ) → PlacedAt L (i + length u) f
     → lines p y (take (n - length u) (stream L)) ≡ map as_sent (ended_by (i + n) f L)
-lines_cut p no_lines_lem y i f n u e = ap (lines p y) (take-nil (n - length u))
+lines_cut p no_lines y i f n u e = ap (lines p y) (take-nil (n - length u))
 lines_cut p (and_line {s = s} {ss = ss} g h) y i f n u e =
     let z : n - length u ≡ i + n - f = omega (arith, e) in
     ap (λ (k : ℕ). lines p y (take k (stream (s ∷ ss)))) z ∙ lines_up_to p (and_line g h) y (i + n) f
@@ -286,7 +286,7 @@ first_none p s g m t r =
 
 gaps_cut : (p : Profile) {L : List Sent} → AllWritable p L → (m : Mark) (t : List ℕ) → Ready p starting m t → (i f n : ℕ) (u : List ℕ) → PlacedAt L (i + length u) f
     → gaps p (state_with m t) (take (n - length u) (stream L)) ≡ map gap_as_sent (closed_by (i + n) f L)
-gaps_cut p no_lines_lem m t r i f n u e = ap (gaps p (state_with m t)) (take-nil (n - length u))
+gaps_cut p no_lines m t r i f n u e = ap (gaps p (state_with m t)) (take-nil (n - length u))
 gaps_cut p (and_line {s = s} {ss = ss} g h) m t r i f n u e =
     let y = state_with m t in
     let k : ℕ = n - length u in

@@ -11,7 +11,7 @@ use Rattle.line_code.specs.LineCodeLaws.{clean_reading}
 use Rattle.profile.specs.declared.Profile.{Profile}
 use Rattle.stream.specs.Answers.{facts, Outcome, line}
 use Rattle.stream.specs.Stream.{State, step, run, outcomes}
-use Rattle.stream.specs.Written.{Sent, Writable, AllWritable, no_lines_lem, and_line, start_mark, content, end_mark, tail, written, stream}
+use Rattle.stream.specs.Written.{Sent, Writable, AllWritable, no_lines, and_line, start_mark, content, end_mark, tail, written, stream}
 use Rattle.recovery.specs.Calls.{LineOut, line_in, as_sent, changed, up_to_end, ended_by, start_from, lines_from, start_after}
 use Rattle.recovery.specs.Collected.{nothings, collected, lines}
 use Rattle.recovery.specs.CollectedLaws.{collected_append, collected_nothings, front_collected, map_test}
@@ -75,7 +75,7 @@ stream_told p s ss x t =
 
 -- from any state, the lines of a clean stream come out as sent, and nothing else
 pub clean_lines : (p : Profile) {ss : List Sent} → AllWritable p ss → (x : State) → lines p x (stream ss) ≡ map as_sent ss
-clean_lines p no_lines_lem x = refl
+clean_lines p no_lines x = refl
 clean_lines p (and_line {s = s} {ss = ss} g h) x =
     let t = line_told p s g x in
     let C = outcomes p (run p x (written s)) (stream ss) in
@@ -89,7 +89,7 @@ clean_lines p (and_line {s = s} {ss = ss} g h) x =
 
 -- from any state, the nibbles of a clean stream up to the place i bring out the lines whose end code lies wholly before it
 pub lines_up_to : (p : Profile) {ss : List Sent} → AllWritable p ss → (x : State) (i o : ℕ) → lines p x (take (i - o) (stream ss)) ≡ map as_sent (ended_by i o ss)
-lines_up_to p no_lines_lem x i o = ap (lines p x) (take-nil (i - o))
+lines_up_to p no_lines x i o = ap (lines p x) (take-nil (i - o))
 lines_up_to p (and_line {s = s} {ss = ss} g h) x i o =
     let t = line_told p s g x in
     let l = line (facts s.kind s.number Clean Clean) s.body in
@@ -109,7 +109,7 @@ lines_up_to p (and_line {s = s} {ss = ss} g h) x i o =
 -- After the stretch.
 
 pub writable_from : (p : Profile) (j o : ℕ) {ss : List Sent} → AllWritable p ss → AllWritable p (lines_from j o ss)
-writable_from p j o no_lines_lem = no_lines_lem
+writable_from p j o no_lines = no_lines
 writable_from p j o (and_line {s = s} g h) = by_test (AllWritable p) (leb j o) (λ e. and_line g h) (λ e. writable_from p j (o + length (written s)) h)
 
 start_above : (j o : ℕ) (ss : List Sent) → o ≤ start_from j o ss
@@ -173,15 +173,15 @@ places_within ss i j new h k =
 -- demand 3 on the nibbles taken: before the stretch come exactly the lines whose end code lies wholly before it, and from the first line
 -- start after it exactly the lines sent from there on, each as sent, whatever the state
 pub record Recovers (p : Profile) (ss : List Sent) (i j : ℕ) (new : List ℕ) (x : State) : Type 0 where
-  pub lines_before_lem : lines p x (take i (changed ss i j new)) ≡ map as_sent (ended_by i 0 ss)
-  pub lines_after_lem : lines p x (drop (start_after ss i j new) (changed ss i j new)) ≡ map as_sent (lines_from j 0 ss)
+  pub lines_before : lines p x (take i (changed ss i j new)) ≡ map as_sent (ended_by i 0 ss)
+  pub lines_after : lines p x (drop (start_after ss i j new) (changed ss i j new)) ≡ map as_sent (lines_from j 0 ss)
 
 pub recovers : (p : Profile) (ss : List Sent) → AllWritable p ss → (i j : ℕ) → i ≤ j → j ≤ length (stream ss) → (new : List ℕ) (x : State) → Recovers p ss i j new x
 recovers p ss h i j ij jl new x =
     let c = stream ss in
     let e : i ≡ i - 0 = omega arith in
     record {
-      lines_before_lem =
+      lines_before =
           ap (lines p x) (take_at (take i c) (new ++ drop j c) i (length-take-le i c (omega arith)) ∙ ap (λ (n : ℕ). take n c) e) ∙ lines_up_to p h x i 0;
-      lines_after_lem = ap (lines p x) (drop_changed ss i j new ij jl) ∙ clean_lines p (writable_from p j 0 h) x;
+      lines_after = ap (lines p x) (drop_changed ss i j new ij jl) ∙ clean_lines p (writable_from p j 0 h) x;
     }

@@ -227,10 +227,10 @@ demand_three p ss h i j ij jl new cs fl t =
     let whole : (first rest : List Call) → first ++ rest ≡ cs → on_taken on fresh first ++ on_taken on (on_run on fresh first) rest ≡ changed ss i j new
     = λ first rest e. sym (taken_append on fresh first rest) ∙ ap (on_taken on fresh) e ∙ t in
     record {
-      lines_before_lem = λ first rest e n.
+      lines_before = λ first rest e n.
           calls_lines p (first_part first rest (subst FinishLast (sym e) fl)) fresh
           ∙ ap (lines p fresh) (sym (take_at (on_taken on fresh first) (on_taken on (on_run on fresh first) rest) i n) ∙ ap (take i) (whole first rest e))
-          ∙ (recovers p ss h i j ij jl new fresh).lines_before_lem;
+          ∙ (recovers p ss h i j ij jl new fresh).lines_before;
       lines_after = λ first rest e n.
           let x = on_run on fresh first in
           let q = start_after ss i j new in
@@ -290,7 +290,7 @@ module _ {R : Type 0} (on : R → Call → CallResult R) (p : Profile) (Same : R
   carried r h ss w i j ij jl new cs fl t =
       let d = demand_three p ss w i j ij jl new cs fl (sym (same_taken cs r fresh h) ∙ t) in
       record {
-        lines_before_lem = λ first rest e n. same_collected line_collector first r fresh h ∙ d.lines_before_lem first rest e (ap length (sym (same_taken first r fresh h)) ∙ n);
+        lines_before = λ first rest e n. same_collected line_collector first r fresh h ∙ d.lines_before first rest e (ap length (sym (same_taken first r fresh h)) ∙ n);
         lines_after = λ first rest e n.
             same_collected line_collector rest (on_run on r first) (on_run (meaning_call p) fresh first) (same_run first r fresh h)
             ∙ d.lines_after first rest e (ap length (sym (same_taken first r fresh h)) ∙ n);

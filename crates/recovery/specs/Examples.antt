@@ -13,7 +13,7 @@ use Rattle.profile.specs.declared.Rule.TheVariants.{Filler, Pixel, Any}
 use Rattle.profile.specs.Profile.{body_length, filler_byte, null_byte}
 use Rattle.profile.specs.Layout.{fits, rules, gap_fits}
 use Rattle.stream.specs.Stream.{State, fresh, step}
-use Rattle.stream.specs.Written.{Sent, Writable, AllWritable, no_lines_lem, and_line, stream}
+use Rattle.stream.specs.Written.{Sent, Writable, AllWritable, no_lines, and_line, stream}
 use Rattle.stream.specs.Nibbles.{AllNibbles, no_nibble, and_nibble}
 use Rattle.recovery.specs.Calls.{Call, feed, done, FinishLast, done_last, feed_first, CallResult, takes, changed, ended_by, lines_from, closed_by, closed, on_taken, DemandThree, turned_away, fed, meaning_call}
 use Rattle.recovery.specs.WrittenLaws.{all_changed}
@@ -50,7 +50,7 @@ abbrev pub sample : Profile → Kind → ℕ → Sent
 sample p k n = record { kind = k; number = n; body = map byte_for (rules p k); gap_one = gap_byte p; gap_two = gap_byte p; nulls = 2 }
 
 pub sample_writable : (p : Profile) (k : Kind) (n : ℕ) → n ≤ greatest → Writable p (sample p k n)
-sample_writable p k n h = record { number_small = h; body_fits = bytes_fit_lem (rules p k); gap_fits_lem = gap_fits_lem p k; nulls_few = lit≤ tt }
+sample_writable p k n h = record { number_small = h; body_fits = bytes_fit_lem (rules p k); gap_fits = gap_fits_lem p k; nulls_few = lit≤ tt }
 
 -- four lines of a sensor
 abbrev pub four : Profile → List Sent
@@ -59,7 +59,7 @@ four p = sample p SOF 0 ∷ sample p BL 3 ∷ sample p VL 10 ∷ sample p EOF 30
 pub four_writable : (p : Profile) → AllWritable p (four p)
 four_writable p =
     and_line (sample_writable p SOF 0 (lit≤ tt))
-    (and_line (sample_writable p BL 3 (lit≤ tt)) (and_line (sample_writable p VL 10 (lit≤ tt)) (and_line (sample_writable p EOF 302 (lit≤ tt)) no_lines_lem)))
+    (and_line (sample_writable p BL 3 (lit≤ tt)) (and_line (sample_writable p VL 10 (lit≤ tt)) (and_line (sample_writable p EOF 302 (lit≤ tt)) no_lines)))
 
 -- The stretch: 100 nibbles within the second line, and three in their place.
 

@@ -12,7 +12,7 @@ use Rattle.stream.specs.declared.GapFacts.{GapFacts}
 use Rattle.stream.specs.declared.Mark.TheVariants.{Open}
 use Rattle.stream.specs.Answers.{Outcome, good_gap}
 use Rattle.stream.specs.Stream.{State, fresh, run, outcomes}
-use Rattle.stream.specs.Written.{Sent, Writable, AllWritable, no_lines_lem, and_line, start_mark, content, tail, written, stream}
+use Rattle.stream.specs.Written.{Sent, Writable, AllWritable, no_lines, and_line, start_mark, content, tail, written, stream}
 use Rattle.recovery.specs.Calls.{gap_in, gap_as_sent, closed_by, closed, mark_nibbles}
 use Rattle.recovery.specs.Collected.{nothings, collected, gaps}
 use Rattle.recovery.specs.CollectedLaws.{collected_append, collected_nothings, take_past, front_collected, map_test}
@@ -64,7 +64,7 @@ next_told p s next g h w =
 
 -- the gaps of a line that was just read, and of those after it
 clean_gaps : (p : Profile) (s : Sent) → Writable p s → {ss : List Sent} → AllWritable p ss → gaps p (after s) (stream ss) ≡ map gap_as_sent (closed (s ∷ ss))
-clean_gaps p s g no_lines_lem = refl
+clean_gaps p s g no_lines = refl
 clean_gaps p s g (and_line {s = next} {ss = ss} h hs) =
     let C = outcomes p (after next) (stream ss) in
     ap (collected gap_in) (next_told p s next g h (stream ss))
@@ -75,7 +75,7 @@ clean_gaps p s g (and_line {s = next} {ss = ss} h hs) =
 -- from any state: past the first line's start mark come exactly the gaps of the lines that have a mark after them
 pub gaps_from : (p : Profile) {ss : List Sent} → AllWritable p ss → (x : State)
     → gaps p x (stream ss) ≡ gaps p x (take mark_nibbles (stream ss)) ++ map gap_as_sent (closed ss)
-gaps_from p no_lines_lem x = refl
+gaps_from p no_lines x = refl
 gaps_from p (and_line {s = s} {ss = ss} g h) x =
     let b = back p s g x in
     let M = outcomes p x (start_mark s) in
@@ -96,7 +96,7 @@ seven_length x R = omega (arith, length-append R [])
 -- up to the place i, where the line that was just read starts at the place o
 pub gaps_up_to : (p : Profile) (s : Sent) → Writable p s → {ss : List Sent} → AllWritable p ss → (i o : ℕ)
     → collected gap_in (take (i - (o + length (written s))) (outcomes p (after s) (stream ss))) ≡ map gap_as_sent (closed_by i o (s ∷ ss))
-gaps_up_to p s g no_lines_lem i o = ap (collected gap_in) (take-nil (i - (o + length (written s))))
+gaps_up_to p s g no_lines i o = ap (collected gap_in) (take-nil (i - (o + length (written s))))
 gaps_up_to p s g (and_line {s = next} {ss = ss} h hs) i o =
     let q : ℕ = o + length (written s) in
     let C = outcomes p (after next) (stream ss) in
@@ -114,7 +114,7 @@ gaps_up_to p s g (and_line {s = next} {ss = ss} h hs) i o =
 -- from a fresh reader, the nibbles of a clean stream up to the place i bring out the gaps of the lines that lie wholly before it with the
 -- mark after their gap
 pub gaps_before : (p : Profile) {ss : List Sent} → AllWritable p ss → (i : ℕ) → gaps p fresh (take i (stream ss)) ≡ map gap_as_sent (closed_by i 0 ss)
-gaps_before p no_lines_lem i = ap (gaps p fresh) (take-nil i)
+gaps_before p no_lines i = ap (gaps p fresh) (take-nil i)
 gaps_before p (and_line {s = s} {ss = ss} g h) i =
     let b = back p s g fresh in
     let A = outcomes p fresh (written s) in

@@ -46,10 +46,10 @@ pub none_completed : (n : ℕ) {t : List ℕ} → NoGroup t → detect (n ∷ t)
 none_completed n no_group_empty = refl
 none_completed n (no_group_more {n = x} h g) = ap (mark_if x n) (no_group_here g)
 
-pub no_mark_lem : (p : Profile) (m : Mark) (t w : List ℕ) → NoGroup (onto t w) → Lengthens p m t w
-no_mark_lem p m t [] h = record { state = refl; told = refl }
-no_mark_lem p m t (n ∷ w) h =
-    let r = no_mark_lem p m (n ∷ t) w h in
+pub no_mark : (p : Profile) (m : Mark) (t w : List ℕ) → NoGroup (onto t w) → Lengthens p m t w
+no_mark p m t [] h = record { state = refl; told = refl }
+no_mark p m t (n ∷ w) h =
+    let r = no_mark p m (n ∷ t) w h in
     let e = sym (none_completed n (no_group_older (no_group_onto (n ∷ t) w h))) in
     record {
       state = subst (λ (d : Completed). run p (advance p m (n ∷ t) d).state w ≡ state_with m (onto (n ∷ t) w)) e r.state;
@@ -162,4 +162,4 @@ few_line p s g c h =
 
 -- number and body of a written line, after a mark's code other than FF, bring no mark
 pub no_inner_mark : (p : Profile) (s : Sent) → Writable p s → (m : Mark) (c : ℕ) → c ≤ 254 → Lengthens p m (c % 16 ∷ c / 16 ∷ []) (content s)
-no_inner_mark p s g m c h = no_mark_lem p m (c % 16 ∷ c / 16 ∷ []) (content s) (few_no_group (line_text c s) (few_line p s g c h))
+no_inner_mark p s g m c h = no_mark p m (c % 16 ∷ c / 16 ∷ []) (content s) (few_no_group (line_text c s) (few_line p s g c h))

@@ -79,7 +79,7 @@ answered_so p m t all x n old k e (mark a b before) ed h D f =
 pub text_by_places : (p : Profile) (w : List ℕ) (m : Noted) (ms : List Noted) → marks_of p w ≡ m ∷ ms → TextByPlaces p w m
 text_by_places p w m ms e =
     let s = run p fresh w in
-    let k = stands_all p fresh [] [] periods.no_mark_lem all_taken w in
+    let k = stands_all p fresh [] [] periods.no_mark all_taken w in
     let text : s.text ≡ onto [] (text_to_end m.place w)
     = kept_text_lem p s.at s.text w m ms (subst (Stands p s.at s.text (onto [] w)) e k.0) k.1 in
     record {

@@ -107,7 +107,7 @@ pub data Behind (p : Profile) : Before → Noted → List Noted → Type 0 where
 
 -- the open mark is the newest noted; its text is what follows its F F F F 0 0
 pub data Stands (p : Profile) : Mark → List ℕ → List ℕ → List Noted → Type 0 where
-  no_mark_lem : {t all : List ℕ} → Stands p NoMark t all []
+  no_mark : {t all : List ℕ} → Stands p NoMark t all []
   open_mark : {before : Before} {code : ℕ} {t all : List ℕ} {m : Noted} {ms : List Noted}
       → length all ≡ m.place + group_nibbles + length t → Behind p before m ms → Stands p (Open before code) t all (m ∷ ms)
 
@@ -185,9 +185,9 @@ module _ (p : Profile) where
     period : OfGap (PeriodIs (period_by (noted_as (is_mark d) all ms n (advance p m (n ∷ t) d).outcome))) (advance p m (n ∷ t) d).outcome
 
   went : (m : Mark) (t all : List ℕ) (ms : List Noted) → Stands p m t all ms → length t ≤ length all → (n : ℕ) (d : Completed) → detect (n ∷ t) ≡ d → Went m t all ms n d
-  went NoMark t all [] no_mark_lem h n not_yet e = record { stands = no_mark_lem; period = tt }
+  went NoMark t all [] no_mark h n not_yet e = record { stands = no_mark; period = tt }
   went (Open before code) t all (l ∷ ms) (open_mark f b) h n not_yet e = record { stands = open_mark {t = n ∷ t} {all = n ∷ all} {m = l} (omega (arith, f)) b; period = tt }
-  went NoMark t all [] no_mark_lem h n (mark x y tb) e =
+  went NoMark t all [] no_mark h n (mark x y tb) e =
       let long : suc (length t) ≡ 8 + length tb = ap length (detected (n ∷ t) x y tb e) ∙ omega arith in
       record { stands = open_mark {t = y ∷ x ∷ []} {all = n ∷ all} {m = newest all n nothing} (omega (arith, long)) (not_handed refl (no_period NotLine)); period = tt }
   went (Open before code) t all (l ∷ ms) (open_mark f b) h n (mark x y tb) e =
@@ -224,7 +224,7 @@ pub periods_are_places : (p : Profile) (w : List ℕ) (n : ℕ) (g : GapFacts) �
     → g.period.0 ≡ period_by (marks_of p (w ++ (n ∷ [])))
 periods_are_places p w n g e =
     let s = run p fresh w in
-    let k = stands_all p fresh [] [] no_mark_lem all_taken w in
+    let k = stands_all p fresh [] [] no_mark all_taken w in
     let d = detect (n ∷ s.text) in
     let ms = marks_of p w in
     let r : OfGap (PeriodIs (period_by (noted (onto [] w) ms n (step p s n).outcome))) (step p s n).outcome =

@@ -36,7 +36,7 @@ use Rattle.recovery.specs.Marks.{onto}
 use Rattle.recovery.specs.Resync.{state_with, opened, becomes}
 use Rattle.recovery.specs.ResyncLaws.{byte_joined, Opens, resync}
 use Rattle.recovery.specs.MarkFree.{Lengthens}
-use Rattle.recovery.specs.MarkFreeLaws.{NoGroup, no_group_more, no_mark_lem, strip_wrong, few_no_group, few_empty, few_up, few_pixel, line_text, few_line, no_inner_mark}
+use Rattle.recovery.specs.MarkFreeLaws.{NoGroup, no_group_more, no_mark, strip_wrong, few_no_group, few_empty, few_up, few_pixel, line_text, few_line, no_inner_mark}
 use Rattle.recovery.specs.ReadBack.{seven_then, written_with, gap_text, rest_told, ReadsBack}
 
 -- Runs, piece by piece.
@@ -57,7 +57,7 @@ pub record MarkTold (p : Profile) (m : Mark) (t : List ℕ) (c : ℕ) : Type 0 w
 pub marked : (p : Profile) (m : Mark) (t : List ℕ) (c : ℕ) → NoGroup t → MarkTold p m t c
 marked p m t c h =
     let w : List ℕ = 15 ∷ 15 ∷ 0 ∷ 0 ∷ c / 16 ∷ c % 16 ∷ [] in
-    let q : Lengthens p m t (15 ∷ 15 ∷ []) = no_mark_lem p m t (15 ∷ 15 ∷ []) (no_group_more refl (no_group_more refl h)) in
+    let q : Lengthens p m t (15 ∷ 15 ∷ []) = no_mark p m t (15 ∷ 15 ∷ []) (no_group_more refl (no_group_more refl h)) in
     record {
       state = ap (λ (x : State). run p x w) q.state ∙ ap (λ (b : ℕ). state_with (Open (becomes p m t b) b) (c % 16 ∷ c / 16 ∷ [])) (byte_joined c);
       told =
@@ -163,7 +163,7 @@ no_group_two VV5300 SOF a b c h hc = no_group_fillers a b c h hc
 no_group_two VV5300 EOF a b c h hc = no_group_fillers a b c h hc
 
 pub no_group_gap : (p : Profile) (s : Sent) → Writable p s → (c : ℕ) → c ≤ 254 → NoGroup (gap_text c s)
-no_group_gap p s g c h = no_group_nulls s.nulls _ (no_group_two p s.kind s.gap_one s.gap_two c g.gap_fits_lem h)
+no_group_gap p s g c h = no_group_nulls s.nulls _ (no_group_two p s.kind s.gap_one s.gap_two c g.gap_fits h)
 
 pub turned_onto : (t w rest : List ℕ) → turned (onto t w) rest ≡ turned t (w ++ rest)
 turned_onto t [] rest = refl
@@ -195,7 +195,7 @@ gap_answer_lem p s g end q he next =
     ap (λ x. by_reading p (HandedOut s.kind) x (gap_text end s) next) he
     ∙ ap (λ w. gap_from p s.kind n (after_code w)) (turned_onto (end % 16 ∷ end / 16 ∷ []) (tail s) [])
     ∙ ap (λ w. gap_from p s.kind n w) (append-nil (tail s))
-    ∙ gap_from_lem p s.kind n s.gap_one s.gap_two s.nulls g.gap_fits_lem
+    ∙ gap_from_lem p s.kind n s.gap_one s.gap_two s.nulls g.gap_fits
 
 -- the period of a line as written is its length (A7)
 
@@ -238,7 +238,7 @@ comes_back p s g start end r q hs he x =
     let end_small = read_small end q EndOfLine he in
     let one : Lengthens p m (start % 16 ∷ start / 16 ∷ []) (content s) = no_inner_mark p s g m start start_small in
     let two : MarkTold p m (line_text start s) end = marked p m (line_text start s) end (few_no_group (line_text start s) (few_line p s g start start_small)) in
-    let three : Lengthens p e (end % 16 ∷ end / 16 ∷ []) (tail s) = no_mark_lem p e (end % 16 ∷ end / 16 ∷ []) (tail s) (no_group_gap p s g end end_small) in
+    let three : Lengthens p e (end % 16 ∷ end / 16 ∷ []) (tail s) = no_mark p e (end % 16 ∷ end / 16 ∷ []) (tail s) (no_group_gap p s g end end_small) in
     let open₂ : run p (state_with m (line_text start s)) (mark_of end) ≡ opened (HandedOut s.kind) end
     = two.state ∙ ap₂ (λ k o. opened (before_by k (is_line o)) end) (ap kind_of hs) (line_answer_lem p s g open₁.before start end r q hs he) in
     record {

@@ -36,11 +36,11 @@ no_line_lem p m t next h =
 pub record Opens (p : Profile) (s : State) (w : List ℕ) (c : ℕ) : Type 0 where
   pub before : Before
   pub state : run p s w ≡ opened before c
-  pub no_lines_lem : lines p s w ≡ []
+  pub no_lines : lines p s w ≡ []
 
 -- one more nibble in front, whose outcome is no line
 one_more_lem : (p : Profile) (s : State) (n : ℕ) (w : List ℕ) (c : ℕ) → BringsNoLine (step p s n).outcome → Opens p (step p s n).state w c → Opens p s (n ∷ w) c
-one_more_lem p s n w c h o = record { before = o.before; state = o.state; no_lines_lem = ap (λ (ls : List LineOut). ls ++ lines p (step p s n).state w) h ∙ o.no_lines }
+one_more_lem p s n w c h o = record { before = o.before; state = o.state; no_lines = ap (λ (ls : List LineOut). ls ++ lines p (step p s n).state w) h ∙ o.no_lines }
 
 after_two : (p : Profile) (m : Mark) (t : List ℕ) (c : ℕ) → is_end (reading_of c) ≡ false
     → Opens p (state_with m (15 ∷ 15 ∷ t)) (15 ∷ 15 ∷ 0 ∷ 0 ∷ c / 16 ∷ c % 16 ∷ []) c
@@ -48,7 +48,7 @@ after_two p m t c h =
     record {
       before = becomes p m t c;
       state = ap (λ (b : ℕ). state_with (Open (becomes p m t b) b) (c % 16 ∷ c / 16 ∷ [])) (byte_joined c);
-      no_lines_lem =
+      no_lines =
           ap (λ (ls : List LineOut). ls ++ [])
           (no_line_lem p m t (some (16 * (c / 16) + c % 16)) (ap (λ (b : ℕ). is_end (reading_of b)) (byte_joined c) ∙ h));
     }

@@ -16,7 +16,7 @@ use Rattle.profile.specs.declared.Rule.{Rule}
 use Rattle.profile.specs.declared.Rule.TheVariants.{Filler, Pixel, Any}
 use Rattle.profile.specs.Profile.{filler_byte, null_byte}
 use Rattle.profile.specs.Layout.{is_pixel, allows, fits, rules, both_are, gap_fits}
-use Rattle.stream.specs.Written.{Sent, Writable, AllWritable, no_lines_lem, and_line, nibbles, mark_of, content, written, stream}
+use Rattle.stream.specs.Written.{Sent, Writable, AllWritable, no_lines, and_line, nibbles, mark_of, content, written, stream}
 use Rattle.stream.specs.Nibbles.{AllNibbles, no_nibble, and_nibble}
 use Rattle.stream.specs.NibblesLaws.{all_nibbles_append, all_nibbles_take, all_nibbles_drop}
 use Rattle.line_number.specs.LineNumberLaws.{byte_small}
@@ -68,13 +68,13 @@ all_content p s g =
 
 all_written : (p : Profile) (s : Sent) → Writable p s → AllNibbles (written s)
 all_written p s g =
-    let two = gap_bytes p s.kind s.gap_one s.gap_two g.gap_fits_lem in
+    let two = gap_bytes p s.kind s.gap_one s.gap_two g.gap_fits in
     all_nibbles_append (all_mark (Line s.kind))
     (all_nibbles_append (all_content p s g)
     (all_nibbles_append (all_mark EndOfLine) (all_byte s.gap_one two.0 (all_byte s.gap_two two.1 (all_nulls s.nulls)))))
 
 all_stream : (p : Profile) {ss : List Sent} → AllWritable p ss → AllNibbles (stream ss)
-all_stream p no_lines_lem = no_nibble
+all_stream p no_lines = no_nibble
 all_stream p (and_line {s = s} g h) = all_nibbles_append (all_written p s g) (all_stream p h)
 
 -- a clean stream with a stretch replaced by nibbles is made of nibbles

@@ -297,7 +297,7 @@ module _ (p : Profile) (r : Reader) (s : State) (n : ℕ) (small_n : n < 16) (sa
           subst (λ (d : Completed). Sim p (took false) (advance p s.at t' d)) (sym (no_mark_yet t' all_small (is_window false e))) sim_not_yet
       go true e =
           let c : Complete t' = complete t' all_small (is_window true e) in
-          subst (λ (d : Completed). Sim p (took true) (advance p s.at t' d)) (sym c.is_mark_lem) (sim_mark c)
+          subst (λ (d : Completed). Sim p (took true) (advance p s.at t' d)) (sym c.is_mark) (sim_mark c)
 
 -- Finish.
 

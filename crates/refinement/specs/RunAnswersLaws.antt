@@ -40,8 +40,8 @@ same_finish (run w buffer ∷ cs) r = go (starts r (length buffer)) (all_one_by_
     go false ds = refl
 
 -- each call of the reader goes on as the meaning's, with its answer and its buffer
-pub goes_on_lem : (p : Profile) (r : Reader) (s : State) (c : Call) → Follows p r s → Follows p (reader_call r c).reader (meaning_call p s c).reader
-goes_on_lem p r s c f = (alike p r s c f).follows
+pub goes_on : (p : Profile) (r : Reader) (s : State) (c : Call) → Follows p r s → Follows p (reader_call r c).reader (meaning_call p s c).reader
+goes_on p r s c f = (alike p r s c f).follows
 
 pub says_same : (p : Profile) (r : Reader) (s : State) (c : Call) → Follows p r s → (reader_call r c).answer ≡ (meaning_call p s c).answer
 says_same p r s c f = (alike p r s c f).same_answer
@@ -55,11 +55,11 @@ runs_follow p cs e =
     let r = fresh_reader p in
     let ds = all_one_by_one r cs in
     let same = same_list mark_collector refl refl p cs r (fresh_ok p) in
-    let taken = same.taken_same ∙ same_taken reader_call p (Follows p) (goes_on_lem p) (says_same p) (lends_same p) ds r fresh (fresh_follows p) in
+    let taken = same.taken_same ∙ same_taken reader_call p (Follows p) (goes_on p) (says_same p) (lends_same p) ds r fresh (fresh_follows p) in
     subst (λ (w : List ℕ). Follows p (on_runs r cs) (stream.run p fresh w)) (sym taken)
     (subst (λ (x : Reader). Follows p x (stream.run p fresh (on_taken (meaning_call p) fresh ds))) (sym same.reader_same)
     (subst (Follows p (on_run reader_call r ds)) (calls_run p ds (same_finish cs r ∙ e) fresh)
-    (same_run reader_call p (Follows p) (goes_on_lem p) (says_same p) (lends_same p) ds r fresh (fresh_follows p))))
+    (same_run reader_call p (Follows p) (goes_on p) (says_same p) (lends_same p) ds r fresh (fresh_follows p))))
 
 -- the law: from a fresh reader
 pub runs_said : (p : Profile) {cs : List RunCall} → FinishLastRun cs
@@ -69,8 +69,8 @@ runs_said p {cs} h =
     let ds = all_one_by_one r cs in
     let same = same_list mark_collector refl refl p cs r (fresh_ok p) in
     same.collected_same
-    ∙ same_collected reader_call p (Follows p) (goes_on_lem p) (says_same p) (lends_same p) mark_collector ds r fresh (fresh_follows p)
+    ∙ same_collected reader_call p (Follows p) (goes_on p) (says_same p) (lends_same p) mark_collector ds r fresh (fresh_follows p)
     ∙ calls_said p (finish_last h r) fresh
     ∙ ap₂ (λ (w : List ℕ) (b : Bool). said (brought_by p fresh w b))
-    (sym (same.taken_same ∙ same_taken reader_call p (Follows p) (goes_on_lem p) (says_same p) (lends_same p) ds r fresh (fresh_follows p)))
+    (sym (same.taken_same ∙ same_taken reader_call p (Follows p) (goes_on p) (says_same p) (lends_same p) ds r fresh (fresh_follows p)))
     (same_finish cs r)

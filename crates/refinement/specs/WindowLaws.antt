@@ -121,7 +121,7 @@ pub record Complete (t : List ℕ) : Type 0 where
   pub low : ℕ
   pub high_small : high < 16
   pub low_small : low < 16
-  pub is_mark_lem : detect t ≡ mark high low (drop 8 t)
+  pub is_mark : detect t ≡ mark high low (drop 8 t)
   pub is_code : 16 * high + low ≡ num (take 8 t) % 256
 
 pub complete : (t : List ℕ) → AllNibbles t → shows_mark (num (take 8 t)) ≡ true → Complete t
@@ -134,6 +134,6 @@ complete (y ∷ x ∷ u) (and_nibble hy (and_nibble hx s)) e =
       low = y;
       high_small = hx;
       low_small = hy;
-      is_mark_lem = detect_num y x u (and_nibble hy (and_nibble hx s)) ∙ ap (λ b. mark_if x y (found b (drop 6 u))) e;
+      is_mark = detect_num y x u (and_nibble hy (and_nibble hx s)) ∙ ap (λ b. mark_if x y (found b (drop 6 u))) e;
       is_code = code_of y x (num (take 6 u)) hy hx;
     }

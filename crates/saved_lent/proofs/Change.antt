@@ -40,7 +40,7 @@ use Rattle.saved_setting.specs.declared.SavedPlaces.{SavedPlaces}
 use Rattle.saved_setting.specs.declared.Saved.{Saved}
 use Rattle.saved_setting.specs.declared.Saved.TheVariants.{Refused}
 use Rattle.saved_setting.specs.SavedSettings.{places_of}
-use Rattle.saved_lent.proofs.Copies.{Good, Goods, eight_out, eight_in, place_of, goes_on_lem, by_length, not_not}
+use Rattle.saved_lent.proofs.Copies.{Good, Goods, eight_out, eight_in, place_of, goes_on, by_length, not_not}
 use Rattle.saved_setting.specs.contracts.SavedSetting as S
 use Rattle.saved_setting.proofs.SavedSetting.TheLaws as S'
 use Rattle.saved_setting.specs.contracts.EightPlaces as E
@@ -191,7 +191,7 @@ module _ {M : Type 1} {𝓤 : Ura M} (𝓛 : Logic 𝓤) (κ : Lft) (q : Share) 
         assigns ! (of_opd ! (load ! (from ! (fld ! refl (stop !))) (look_in ! (local_at 1) (sub ! 1 refl (whole !))))) (from ! (stop !))
         (init ! (local_at 4) refl (tt, record { fits = gn.0 })) $
         assigns ! (bin ! (load ! (from ! (stop !)) (look ! (local_at 4) refl)) (lit ! tt) tt) (from ! (stop !)) (init ! (local_at 5) refl (tt, tt)) $
-        goes_on_lem ! (load ! (from ! (stop !)) (look ! (local_at 5) refl)) $
+        goes_on ! (load ! (from ! (stop !)) (look ! (local_at 5) refl)) $
         -- the borrow is opened, and stays open until the list is stored again
         move ! (63 ∷ []) $ fsplit ! $ fsplit ! $ move ! (1 ∷ []) $ fsplit ! $ move ! (66 ∷ []) $ split ! $ move ! (2 ∷ 3 ∷ 0 ∷ []) $
         opens_slice ! tt S.the_row (places_of e) b o $ eight_out ! full_share e b o (λ g.

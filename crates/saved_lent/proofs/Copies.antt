@@ -4,7 +4,7 @@
 --     eight_out, eight_in  a row of eight settings becomes eight cells, the last first, and back. A setting owns only facts, so what it owns is not
 -- carried
 --     place_of             the pointer of element k, as MIR computes it
---     goes_on_lem              a test that fails, before a branch whose other arm is empty
+--     goes_on              a test that fails, before a branch whose other arm is empty
 -- Assumes `Logic`.
 use mathlib.Core.Path.{◌≡◌, refl, sym, subst}
 use Prim.Native.Nat.{ℕ, ◌*◌, ◌^◌}
@@ -92,9 +92,9 @@ module _ {M : Type 1} {𝓤 : Ura M} {𝓛 : Logic 𝓤} {K : Type 0} {Γ : List
   place_of t k small {x} {b} {o} p = subst (λ (n : ℕ). Rv K 𝓛 Γ E (op2 offset x (int w64 (k * 8))) (vptr b n)) (sym (place_is 8 o k))
       (bin t p (lit t small) tt)
 
-  pub goes_on_lem : K → {C : Calls 𝓤 H} {Λ : Loops 𝓤 H} {q : Post 𝓤 H} {c : Operand} {a rest : Body} → Opd K 𝓛 Γ E c (vbool false)
+  pub goes_on : K → {C : Calls 𝓤 H} {Λ : Loops 𝓤 H} {q : Post 𝓤 H} {c : Operand} {a rest : Body} → Opd K 𝓛 Γ E c (vbool false)
       → Step K 𝓛 Γ (runs C Λ E rest q) Γ (runs C Λ E (seq (cond c a skip) rest) q)
-  goes_on_lem t p = step (λ s. first t $ branches t p (λ z. absurd z) (λ _. skips t $ record { prf = s.prf }))
+  goes_on t p = step (λ s. first t $ branches t p (λ z. absurd z) (λ _. skips t $ record { prf = s.prf }))
 
 -- A list is eight settings, or it has another length.
 

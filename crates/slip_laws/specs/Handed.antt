@@ -17,7 +17,7 @@ use Rattle.stream.specs.declared.Before.TheVariants.{NoLine, RefusedLine, Handed
 use Rattle.stream.specs.declared.Mark.TheVariants.{Open}
 use Rattle.stream.specs.Answers.{Outcome, refused, answer_for, require, good_gap, turned, all_f, after_code, gap_answer, by_reading, answer_of}
 use Rattle.stream.specs.Stream.{State, fresh, answer_at, run, outcomes}
-use Rattle.stream.specs.Written.{Sent, Writable, AllWritable, no_lines_lem, and_line, mark_of, content, tail, written, stream}
+use Rattle.stream.specs.Written.{Sent, Writable, AllWritable, no_lines, and_line, mark_of, content, tail, written, stream}
 use Rattle.frame_judge.specs.Calls as judged
 use Rattle.frame_handing.specs.Handing.{is_broken_line, handed_lines, as_lines}
 use Rattle.frame_handing.specs.declared.Handed.TheVariants as hand
@@ -128,7 +128,7 @@ line_handed s g x q =
 
 -- the law: a clean stream
 pub lines_handed_lem : {ss : List Sent} → AllWritable VV5404 ss → (x : State) → AtRest x → HandsToRest x (stream ss) (map judged_line ss)
-lines_handed_lem no_lines_lem x q = record { to = x; hands = record { over = refl; leads = refl }; at_rest = q }
+lines_handed_lem no_lines x q = record { to = x; hands = record { over = refl; leads = refl }; at_rest = q }
 lines_handed_lem (and_line {s = s} g h) x q =
     let a = line_handed s g x q in
     let b = lines_handed_lem h a.to a.at_rest in

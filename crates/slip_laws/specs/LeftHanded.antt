@@ -32,7 +32,7 @@ use Rattle.recovery.specs.Collected.{collected}
 use Rattle.recovery.specs.CollectedLaws.{collected_nothings}
 use Rattle.recovery.specs.Resync.{state_with, opened, becomes}
 use Rattle.recovery.specs.ResyncLaws.{byte_joined}
-use Rattle.recovery.specs.MarkFreeLaws.{NoGroup, no_mark_lem}
+use Rattle.recovery.specs.MarkFreeLaws.{NoGroup, no_mark}
 use Rattle.recovery.specs.ReadBack.{gap_text}
 use Rattle.recovery.specs.ReadBackLaws.{run_append, no_group_gap, read_small}
 use Rattle.slip_laws.specs.ShortTexts.{other_length, text_before}
@@ -152,7 +152,7 @@ gap_handed s g before =
     let p = VV5404 in
     let e = clean_byte EndOfLine in
     let n : NoGroup (gap_text e s) = no_group_gap p s g e (read_small e Clean EndOfLine (clean_reading EndOfLine)) in
-    let l = no_mark_lem p (Open before e) (e % 16 ∷ e / 16 ∷ []) (tail s) n in
+    let l = no_mark p (Open before e) (e % 16 ∷ e / 16 ∷ []) (tail s) n in
     record {
       to = state_with (Open before e) (gap_text e s);
       hands = record { over = ap (collected handed_by) l.told ∙ collected_nothings handed_by refl (tail s); leads = l.state };

@@ -15,7 +15,7 @@ use Rattle.profile.specs.declared.Profile.TheVariants.{VV5404}
 use Rattle.profile.specs.Profile.{null_byte, body_length}
 use Rattle.stream.specs.Answers.{line_nibbles}
 use Rattle.stream.specs.Stream.{State, fresh, finish, run, outcomes}
-use Rattle.stream.specs.Written.{Sent, Writable, AllWritable, no_lines_lem, and_line, nibbles, start_mark, end_mark, tail, written, stream}
+use Rattle.stream.specs.Written.{Sent, Writable, AllWritable, no_lines, and_line, nibbles, start_mark, end_mark, tail, written, stream}
 use Rattle.stream.specs.NibblesLaws.{nibbles_length}
 use Rattle.reader.specs.Reader.{fresh_reader}
 use Rattle.recovery.specs.Calls.{LineOut, line_in, as_sent}
@@ -51,7 +51,7 @@ pub record Parted (p : Profile) (before : List Sent) (s : Sent) (after : List Se
   pub later : AllWritable p after
 
 pub parted : (p : Profile) (before : List Sent) (s : Sent) (after : List Sent) → AllWritable p (before ++ (s ∷ after)) → Parted p before s after
-parted p [] s after (and_line g h) = record { earlier = no_lines_lem; one = g; later = h }
+parted p [] s after (and_line g h) = record { earlier = no_lines; one = g; later = h }
 parted p (b ∷ before) s after (and_line g h) =
     let q = parted p before s after h in
     record { earlier = and_line g q.earlier; one = q.one; later = q.later }
@@ -116,8 +116,8 @@ nulls_f (suc k) = let q = nulls_f k in (suc (suc q.0), ap (λ (w : List ℕ). 15
 
 tail_f : (s : Sent) → Writable VV5404 s → (n : ℕ) × (tail s ≡ replicate n 15)
 tail_f s g =
-    let a = eqb-true s.gap_one null_byte (and_left (eqb s.gap_one null_byte) (eqb s.gap_two null_byte) g.gap_fits_lem) in
-    let b = eqb-true s.gap_two null_byte (and_right (eqb s.gap_one null_byte) (eqb s.gap_two null_byte) g.gap_fits_lem) in
+    let a = eqb-true s.gap_one null_byte (and_left (eqb s.gap_one null_byte) (eqb s.gap_two null_byte) g.gap_fits) in
+    let b = eqb-true s.gap_two null_byte (and_right (eqb s.gap_one null_byte) (eqb s.gap_two null_byte) g.gap_fits) in
     let q = nulls_f s.nulls in (
       suc (suc (suc (suc q.0))),
       ap₂ (λ (x y : ℕ). nibbles (x ∷ y ∷ replicate s.nulls null_byte)) a b ∙ ap (λ (w : List ℕ). 15 ∷ 15 ∷ 15 ∷ 15 ∷ w) q.1,

@@ -31,7 +31,7 @@ most_text p = max (line_nibbles p) (2 * (1 + 2 + most_nulls)) + (group_nibbles +
 pub record Writable (p : Profile) (s : Sent) : Type 0 where
   pub number_small : s.number ≤ greatest
   pub body_fits : fits (rules p s.kind) s.body ≡ true
-  pub gap_fits_lem : gap_fits p s.kind s.gap_one s.gap_two ≡ true
+  pub gap_fits : gap_fits p s.kind s.gap_one s.gap_two ≡ true
   pub nulls_few : s.nulls ≤ most_nulls
 
 -- the nibbles of bytes, the high one of each first
@@ -70,5 +70,5 @@ stream (s ∷ ss) = written s ++ stream ss
 
 -- every line may be written in this profile
 pub data AllWritable (p : Profile) : List Sent → Type 0 where
-  no_lines_lem : AllWritable p []
+  no_lines : AllWritable p []
   and_line : {s : Sent} {ss : List Sent} → Writable p s → AllWritable p ss → AllWritable p (s ∷ ss)

@@ -18,7 +18,7 @@ use Rattle.refinement.specs.RefineLaws.{fresh_follows}
 use Rattle.refinement.specs.ReaderCalls.{reader_call}
 use Rattle.refinement.specs.Runs.{RunCall, runs_taken, runs_collected, all_one_by_one, FinishLastRun}
 use Rattle.refinement.specs.RunsLaws.{same_list, same_as_feeds, finish_last}
-use Rattle.refinement.specs.RunAnswersLaws.{goes_on_lem, says_same, lends_same}
+use Rattle.refinement.specs.RunAnswersLaws.{goes_on, says_same, lends_same}
 use Rattle.stretch_laws.specs.Stretches.{Segment, unchanged, replaced, clean_of, changed_of, whole_lines, closed_lines, Sublist, to_line_start, SegmentRead, ReadsStretches}
 use Rattle.stretch_laws.specs.StretchesLaws.{past_front, segment_lines, segment_gaps_exactly, stretches_lines, stretches_gaps}
 
@@ -186,9 +186,9 @@ collected_told p k of-nothing of-short told law {cs} h =
     let ds = all_one_by_one r cs in
     let same = same_list k of-nothing of-short p cs r f.ok in
     same.collected_same
-    ∙ same_collected reader_call p (Follows p) (goes_on_lem p) (says_same p) (lends_same p) k ds r fresh f
+    ∙ same_collected reader_call p (Follows p) (goes_on p) (says_same p) (lends_same p) k ds r fresh f
     ∙ law ds (finish_last h r) fresh
-    ∙ ap (told fresh) (sym (same.taken_same ∙ same_taken reader_call p (Follows p) (goes_on_lem p) (says_same p) (lends_same p) ds r fresh f))
+    ∙ ap (told fresh) (sym (same.taken_same ∙ same_taken reader_call p (Follows p) (goes_on p) (says_same p) (lends_same p) ds r fresh f))
 
 -- the law: of the reader that runs
 pub reads_stretches : (p : Profile) → ReadsStretches p (fresh_reader p)
@@ -205,6 +205,6 @@ reads_stretches p ss h gs e cs last taken =
           (sym (collected_told p gap_collector refl refl (gaps p) (λ ds l s. calls_gaps p l s) last ∙ ap (gaps p fresh) taken)) (stretches_gaps p h gs e fresh);
       one_by_one = k;
       segments_read = λ before w later q.
-          segments_carried reader_call p (Follows p) (goes_on_lem p) (says_same p) (lends_same p) r f ss h before w later (ap clean_of q ∙ e) (all_one_by_one r cs) (finish_last last r)
+          segments_carried reader_call p (Follows p) (goes_on p) (says_same p) (lends_same p) r f ss h before w later (ap clean_of q ∙ e) (all_one_by_one r cs) (finish_last last r)
           (sym k.same_taken ∙ taken ∙ sym (ap changed_of q));
     }

@@ -91,7 +91,7 @@ pub record StretchesRead (p : Profile) (r : Reader) (ss : List Sent) (gs : List 
   pub gaps_come : Sublist (map gap_as_sent (closed_lines ss gs)) (runs_collected gap_collector p r cs)
   -- exactly: a list with runs does what its calls one by one do, and of those the ones that take an unchanged segment from its first line start on
   -- bring no other
-  pub one_by_one_lem : SameAsFeeds p r cs
+  pub one_by_one : SameAsFeeds p r cs
   pub segments_read : (before : List Segment) (w : List ℕ) (later : List Segment) → before ++ (unchanged w ∷ later) ≡ gs
       → SegmentRead reader_call p r ss before w (all_one_by_one r cs)
 

@@ -9,7 +9,7 @@ use Rattle.profile.specs.declared.Profile.{Profile}
 use Rattle.stream.specs.declared.GapFacts.{GapFacts}
 use Rattle.stream.specs.Answers.{Outcome}
 use Rattle.stream.specs.Stream.{State, run, outcomes}
-use Rattle.stream.specs.Written.{Sent, Writable, AllWritable, no_lines_lem, and_line, start_mark, written, stream}
+use Rattle.stream.specs.Written.{Sent, Writable, AllWritable, no_lines, and_line, start_mark, written, stream}
 use Rattle.recovery.specs.Calls.{line_in, as_sent, gap_in, gap_as_sent, closed_by, mark_nibbles, changed, start_from, lines_from}
 use Rattle.recovery.specs.Collected.{collected, lines, gaps}
 use Rattle.recovery.specs.CollectedLaws.{collected_append, take_past}
@@ -89,7 +89,7 @@ gaps_front p s g {ss} h x i o =
     ∙ ap (λ (l : List GapFacts). collected gap_in (take (i - o) A) ++ l) (gaps_up_to p s g h i o)
 
 front_gaps : (p : Profile) {ss : List Sent} → AllWritable p ss → (x : State) (i o : ℕ) → Sublist (map gap_as_sent (closed_by i o ss)) (gaps p x (take (i - o) (stream ss)))
-front_gaps p no_lines_lem x i o = sub_none (gaps p x (take (i - o) []))
+front_gaps p no_lines x i o = sub_none (gaps p x (take (i - o) []))
 front_gaps p (and_line {s = s} {ss = ss} g h) x i o =
     let told = map gap_as_sent (closed_by i o (s ∷ ss)) in
     subst (Sublist told) (sym (gaps_front p s g h x i o)) (sub_after (collected gap_in (take (i - o) (outcomes p x (written s)))) (sub_same told))
@@ -121,7 +121,7 @@ mark_gaps p s g x n h =
 
 front_gaps_exactly : (p : Profile) {ss : List Sent} → AllWritable p ss → (x : State) (i o : ℕ) → mark_nibbles ≤ i - o
     → gaps p x (take (i - o) (stream ss)) ≡ gaps p x (take mark_nibbles (take (i - o) (stream ss))) ++ map gap_as_sent (closed_by i o ss)
-front_gaps_exactly p no_lines_lem x i o h =
+front_gaps_exactly p no_lines x i o h =
     ap (gaps p x) (take-nil (i - o)) ∙ sym (ap (λ (w : List ℕ). gaps p x (take mark_nibbles w) ++ []) (take-nil (i - o)))
 front_gaps_exactly p (and_line {s = s} {ss = ss} g k) x i o h =
     gaps_front p s g k x i o

@@ -7,7 +7,7 @@ use Rattle.line_code.specs.LineCode.{kind_number}
 use Rattle.line_number.specs.LineNumber.{greatest}
 use Rattle.profile.specs.declared.Profile.{Profile}
 use Rattle.profile.specs.declared.Profile.TheVariants.{VV5404, VV5300}
-use Rattle.stream.specs.Written.{Sent, AllWritable, no_lines_lem, and_line, stream}
+use Rattle.stream.specs.Written.{Sent, AllWritable, no_lines, and_line, stream}
 use Rattle.recovery.specs.Examples.{sample, sample_writable}
 use Rattle.frame_layout.specs.declared.Borders.{Borders}
 use Rattle.frame_layout.specs.FrameLayout.{layout, kinds_of, last_place}
@@ -34,7 +34,7 @@ samples_judged p n [] = refl
 samples_judged p n (k ∷ ks) = ap {B = List Line} (λ l. line (kind_number k) n ∷ l) (samples_judged p (n + 1) ks)
 
 samples_writable : (p : Profile) (n : ℕ) (ks : List Kind) → n + length ks ≤ greatest → AllWritable p (samples_from p n ks)
-samples_writable p n [] h = no_lines_lem
+samples_writable p n [] h = no_lines
 samples_writable p n (k ∷ ks) h = and_line (sample_writable p k n (omega arith)) (samples_writable p (n + 1) ks (omega arith))
 
 numbers_small_lem : (p : Profile) → 0 + (last_place p + 1) ≤ greatest

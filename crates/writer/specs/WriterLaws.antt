@@ -39,7 +39,7 @@ writable_length p s w = fits_length (rules p s.kind) s.body w.body_fits ∙ rule
 pub writable : (p : Profile) (s : Sent) → s.number ≤ greatest → bytes_fit p s ≡ true → s.nulls ≤ most_nulls → Writable p s
 writable p s h f n =
     let body = fits (rules p s.kind) s.body in
-    record { number_small = h; body_fits = and_left body _ f; gap_fits_lem = and_right body _ f; nulls_few = n }
+    record { number_small = h; body_fits = and_left body _ f; gap_fits = and_right body _ f; nulls_few = n }
 
 -- Answers: what the table gives, each exactly when named, in the writer's order.
 
@@ -50,9 +50,9 @@ line_answer_only p s room o (wrong_body_length_lem h l) = simp (le-leb _ _ h, ne
 line_answer_only p s room o (byte_not_allowed_lem h l f) = simp (le-leb _ _ h, eq-eqb _ _ l, f)
 line_answer_only p s room o (too_many_nulls_lem h l f n) = simp (le-leb _ _ h, eq-eqb _ _ l, f, lt-leb _ _ n)
 line_answer_only p s room o (no_room_lem w r) =
-    simp (le-leb _ _ w.number_small, eq-eqb _ _ (writable_length p s w), w.body_fits, w.gap_fits_lem, le-leb _ _ w.nulls_few, lt-leb _ _ r)
+    simp (le-leb _ _ w.number_small, eq-eqb _ _ (writable_length p s w), w.body_fits, w.gap_fits, le-leb _ _ w.nulls_few, lt-leb _ _ r)
 line_answer_only p s room o (line w r) =
-    simp (le-leb _ _ w.number_small, eq-eqb _ _ (writable_length p s w), w.body_fits, w.gap_fits_lem, le-leb _ _ w.nulls_few, le-leb _ _ r)
+    simp (le-leb _ _ w.number_small, eq-eqb _ _ (writable_length p s w), w.body_fits, w.gap_fits, le-leb _ _ w.nulls_few, le-leb _ _ r)
 
 required : (A : Output → Type 0) (t : Bool) (n : ℕ) (o : Output) → (t ≡ false → A (refused n)) → (t ≡ true → A o) → A (require t n o)
 unfolding require

@@ -4,10 +4,10 @@ use Rattle.allowed_bytes.proofs.has_bad_byte.Statement.{statement}
 use Rattle.allowed_bytes.proofs.has_bad_byte.Tie as tie
 
 returns : tie.Need-returns
-returns c = simp (← c.before.before.before.body_fits.ensures, c.before.before.if1.true, ← c.before.gap_fits_lem.ensures, c.if2.true)
+returns c = simp (← c.before.before.before.body_fits.ensures, c.before.before.if1.true, ← c.before.gap_fits.ensures, c.if2.true)
 
 returns-2 : tie.Need-returns-2
-returns-2 c = simp (← c.before.before.before.body_fits.ensures, c.before.before.if1.true, ← c.before.gap_fits_lem.ensures, c.if2.false)
+returns-2 c = simp (← c.before.before.before.body_fits.ensures, c.before.before.if1.true, ← c.before.gap_fits.ensures, c.if2.false)
 
 returns-3 : tie.Need-returns-3
 returns-3 c = simp (← c.before.body_fits.ensures, c.if1.false)

@@ -46,7 +46,7 @@ returns-5 c =
     let known : (i : ℕ) → get_or a.bytes.now i 0 < 256 = λ i. (known_bytes.shared-slice-known.given i).fits in
     leads_on
     (nibble_first a.bytes.now known a.h a.body.now a.at _ _ (omega (arith, inside.if3.false)) unmarked.before.before.before.nibble-at.ensures
-    unmarked.before.before.slide.ensures (sym unmarked.before.is_mark_lem.ensures ∙ unmarked.if4.false) shifted.shift.ensures
+    unmarked.before.before.slide.ensures (sym unmarked.before.is_mark.ensures ∙ unmarked.if4.false) shifted.shift.ensures
     shifted.before.before.before.leave-body.ensures)
     c.before.before.skip-within2.ensures
 

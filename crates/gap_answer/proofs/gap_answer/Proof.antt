@@ -31,7 +31,7 @@ returns-3 : tie.Need-returns-3
 unfolding require good_gap
 returns-3 c =
     let p = c.before.before.before.enum-told2.given.1 in
-    let e = simp p at c.before.gap_fits_lem.ensures in
+    let e = simp p at c.before.gap_fits.ensures in
     simp (p, c.before.before.before.before.before.if1.false, le-leb _ _ c.before.before.if2.false, ← e, c.if3.true)
 
 returns-4 : tie.Need-returns-4
@@ -42,7 +42,7 @@ returns-5 : tie.Need-returns-5
 unfolding require
 returns-5 c =
     let p = c.before.before.before.enum-told2.given.1 in
-    let e = simp p at c.before.gap_fits_lem.ensures in
+    let e = simp p at c.before.gap_fits.ensures in
     simp (p, c.before.before.before.before.before.if1.false, le-leb _ _ c.before.before.if2.false, ← e, c.if3.false)
 
 pub gap_answer_spec : {M : Type 1} → statement M

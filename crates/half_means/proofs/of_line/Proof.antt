@@ -36,7 +36,7 @@ returns-4 c =
     (numbers.if2.false ∙ numbers.before.number.ensures)
     (lengths.if3.false ∙ lengths.before.body-length.ensures)
     (sym bytes.before.before.before.body_fits.ensures ∙ bytes.before.before.if4.true)
-    (sym bytes.before.gap_fits_lem.ensures ∙ bytes.if5.true))
+    (sym bytes.before.gap_fits.ensures ∙ bytes.if5.true))
 
 returns-5 : tie.Need-returns-5
 unfolding half_values require
@@ -52,7 +52,7 @@ returns-5 c =
       eq-eqb _ _ lengths.if3.false,
       ← bytes.before.body_fits.ensures,
       bytes.if4.true,
-      ← c.before.gap_fits_lem.ensures,
+      ← c.before.gap_fits.ensures,
       c.if5.false,
     )
 

@@ -37,13 +37,13 @@ returns-2 : tie.Need-returns-2
 unfolding require
 returns-2 c =
     let body_length_lem = c.before.before.before.before.before.before.before.before.body-length in
-    simp (← body_length_lem.ensures, ← c.before.before.before.before.before.body_fits.ensures, c.before.before.before.before.if2.taken, ← c.before.before.before.read.ensures, ← c.before.before.is_end_lem.ensures, c.before.if3.taken, ← c.repair.ensures)
+    simp (← body_length_lem.ensures, ← c.before.before.before.before.before.body_fits.ensures, c.before.before.before.before.if2.taken, ← c.before.before.before.read.ensures, ← c.before.before.is_end.ensures, c.before.if3.taken, ← c.repair.ensures)
 
 returns-3 : tie.Need-returns-3
 unfolding require
 returns-3 c =
     let body_length_lem = c.before.before.before.before.before.before.before.body-length in
-    simp (← body_length_lem.ensures, ← c.before.before.before.before.body_fits.ensures, c.before.before.before.if2.taken, ← c.before.before.read.ensures, ← c.before.is_end_lem.ensures, c.if3.left)
+    simp (← body_length_lem.ensures, ← c.before.before.before.before.body_fits.ensures, c.before.before.before.if2.taken, ← c.before.before.read.ensures, ← c.before.is_end.ensures, c.if3.left)
 
 returns-4 : tie.Need-returns-4
 unfolding require

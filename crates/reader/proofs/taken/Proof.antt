@@ -10,7 +10,7 @@ returns c =
     let marked = c.before.before.before.before.before.before in
     let sliding = marked.before in
     let s = sliding.slide.ensures in
-    let m = marked.is_mark_lem.ensures in
+    let m = marked.is_mark.ensures in
     let t = c.before.before.before.before.before.if1.true in
     let e = c.before.before.complete.ensures in
     let b = sliding.before.before.before.leave-body.ensures in
@@ -27,7 +27,7 @@ returns-2 c =
     let unmarked = c.before.before in
     let slid = unmarked.before in
     let s = slid.slide.ensures in
-    let m = unmarked.is_mark_lem.ensures in
+    let m = unmarked.is_mark.ensures in
     let t = c.before.if1.false in
     record {
       next = simp (← s, ← m, t, c.shift.ensures);

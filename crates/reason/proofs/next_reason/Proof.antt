@@ -6,11 +6,11 @@ use Rattle.reason.proofs.next_reason.Tie as tie
 
 returns : tie.Need-returns
 unfolding next_reason
-returns c = simp (← c.before.before.read.ensures, ← c.before.is_end_lem.ensures, c.if1.true)
+returns c = simp (← c.before.before.read.ensures, ← c.before.is_end.ensures, c.if1.true)
 
 returns-2 : tie.Need-returns-2
 unfolding next_reason
-returns-2 c = simp (← c.before.before.read.ensures, ← c.before.is_end_lem.ensures, c.if1.false)
+returns-2 c = simp (← c.before.before.read.ensures, ← c.before.is_end.ensures, c.if1.false)
 
 pub next_reason_spec : {M : Type 1} → statement M
 next_reason_spec = tie.close (tie.spec (λ c κs. search rules) (λ c κs. search rules) returns returns-2)

@@ -46,7 +46,7 @@ use Rattle.saved_setting.specs.declared.Held.{Held}
 use Rattle.saved_setting.specs.declared.Held.TheVariants.{Refused}
 use Rattle.saved_setting.specs.SavedSettings.{held_reply, places_of, found_in}
 use Rattle.saved_setting.specs.SavedSettingsLaws.{found_refused}
-use Rattle.saved_lent.proofs.Copies.{vals, Good, Goods, eight_out, eight_in, place_of, goes_on_lem, by_length, not_not}
+use Rattle.saved_lent.proofs.Copies.{vals, Good, Goods, eight_out, eight_in, place_of, goes_on, by_length, not_not}
 use Rattle.saved_setting.specs.contracts.SavedSetting as S
 use Rattle.saved_setting.proofs.SavedSetting.TheLaws as S'
 use Rattle.saved_setting.specs.contracts.EightPlaces as E
@@ -173,7 +173,7 @@ module _ {M : Type 1} {𝓤 : Ura M} (𝓛 : Logic 𝓤) (mem : Memory → SProp
         assigns ! (of_opd ! (load ! (from ! (fld ! refl (stop !))) (look_in ! 40 (sub ! 1 refl (whole !))))) (from ! (stop !))
         (init ! 36 refl (tt, record { fits = gn.0 })) $
         assigns ! (bin ! (load ! (from ! (stop !)) (look ! 36 refl)) (lit ! tt) tt) (from ! (stop !)) (init ! 34 refl (tt, tt)) $
-        goes_on_lem ! (load ! (from ! (stop !)) (look ! 34 refl)) $
+        goes_on ! (load ! (from ! (stop !)) (look ! 34 refl)) $
         -- the slice is looked into
         move ! (45 ∷ []) $ fsplit ! $ fsplit ! $ move ! (1 ∷ []) $ fsplit ! $ move ! (48 ∷ []) $ split ! $ move ! (3 ∷ 0 ∷ []) $
         looks_slice ! tt S.the_row (Is S.the_row) (shows 𝓛 S.the_row) vals (LL.tells S.the_type S'.the_laws)

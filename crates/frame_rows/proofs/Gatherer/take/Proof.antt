@@ -7,13 +7,13 @@ use Rattle.frame_rows.proofs.Gatherer.take.Tie as tie
 
 returns : tie.Need-returns
 unfolding take_of
-returns c = gives _ _ _ _ _ c.quiet.ensures (simp (← c.before.before.before.handed_over_lem.ensures, c.before.enum_told.given.1))
+returns c = gives _ _ _ _ _ c.quiet.ensures (simp (← c.before.before.before.handed_over.ensures, c.before.enum_told.given.1))
 
 returns-2 : tie.Need-returns-2
 unfolding take_of
 returns-2 c =
     let handed = c.before.before.before.before.before.handed in
-    let over = c.before.before.before.before.before.before.before.handed_over_lem in
+    let over = c.before.before.before.before.before.before.before.handed_over in
     simp (← over.ensures, handed.given.1) c.before.before.hand.ensures
 
 pub take_spec : {M : Type 1} → statement M

@@ -6,11 +6,11 @@ use Rattle.frame_tally.proofs.Tally.take.Tie as tie
 
 returns : tie.Need-returns
 unfolding take_of
-returns c = simp (← c.before.before.before.handed_over_lem.ensures, c.before.enum_told.given.1, c.quiet.ensures, c.before.before.before.before.marked_by.ensures)
+returns c = simp (← c.before.before.before.handed_over.ensures, c.before.enum_told.given.1, c.quiet.ensures, c.before.before.before.before.marked_by.ensures)
 
 returns-2 : tie.Need-returns-2
 unfolding take_of
-returns-2 c = simp (← c.before.before.before.before.before.handed_over_lem.ensures, c.before.before.before.handed.given.1, c.hand.ensures, c.before.own-answer.ensures, c.before.before.before.before.before.before.marked_by.ensures)
+returns-2 c = simp (← c.before.before.before.before.before.handed_over.ensures, c.before.before.before.handed.given.1, c.hand.ensures, c.before.own-answer.ensures, c.before.before.before.before.before.before.marked_by.ensures)
 
 pub take_spec : {M : Type 1} → statement M
 take_spec =

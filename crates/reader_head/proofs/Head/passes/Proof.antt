@@ -13,7 +13,7 @@ returns c = simp (lt-leb _ _ c.if1.true)
 
 returns-2 : tie.Need-returns-2
 unfolding passes
-returns-2 c = simp (le-leb _ _ c.before.before.if1.false, ← c.before.is_mark_lem.ensures, c.if2.true)
+returns-2 c = simp (le-leb _ _ c.before.before.if1.false, ← c.before.is_mark.ensures, c.if2.true)
 
 add_result : tie.Need-overflow-add-result
 add_result c =
@@ -24,24 +24,24 @@ returns-3 : tie.Need-returns-3
 unfolding passes
 returns-3 c =
     let test_1 = c.before.before.before.before.before.before.before.before.before.if1 in
-    let is_mark_lem = c.before.before.before.before.before.before.before.before.is_mark_lem in
+    let is_mark = c.before.before.before.before.before.before.before.before.is_mark in
     let test_2 = c.before.before.before.before.before.before.before.if2 in
-    simp (le-leb _ _ test_1.false, ← is_mark_lem.ensures, test_2.false, ← c.before.before.before.before.before.before.handed_fits_lem.ensures, c.before.before.before.before.before.if3.true, ← c.before.before.before.before.window_fits_lem.ensures, c.before.before.before.if4.true, c.before.if5.true, c.gap-start.ensures)
+    simp (le-leb _ _ test_1.false, ← is_mark.ensures, test_2.false, ← c.before.before.before.before.before.before.handed_fits.ensures, c.before.before.before.before.before.if3.true, ← c.before.before.before.before.window_fits.ensures, c.before.before.before.if4.true, c.before.if5.true, c.gap-start.ensures)
 
 returns-4 : tie.Need-returns-4
 unfolding passes
 returns-4 c =
     let test_1 = c.before.before.before.before.before.before.before.before.if1 in
-    let is_mark_lem = c.before.before.before.before.before.before.before.is_mark_lem in
-    simp (le-leb _ _ test_1.false, ← is_mark_lem.ensures, c.before.before.before.before.before.before.if2.false, ← c.before.before.before.before.before.handed_fits_lem.ensures, c.before.before.before.before.if3.true, ← c.before.before.before.window_fits_lem.ensures, c.before.before.if4.true, c.if5.false)
+    let is_mark = c.before.before.before.before.before.before.before.is_mark in
+    simp (le-leb _ _ test_1.false, ← is_mark.ensures, c.before.before.before.before.before.before.if2.false, ← c.before.before.before.before.before.handed_fits.ensures, c.before.before.before.before.if3.true, ← c.before.before.before.window_fits.ensures, c.before.before.if4.true, c.if5.false)
 
 returns-5 : tie.Need-returns-5
 unfolding passes
-returns-5 c = simp (le-leb _ _ c.before.before.before.before.before.before.if1.false, ← c.before.before.before.before.before.is_mark_lem.ensures, c.before.before.before.before.if2.false, ← c.before.before.before.handed_fits_lem.ensures, c.before.before.if3.true, ← c.before.window_fits_lem.ensures, c.if4.false)
+returns-5 c = simp (le-leb _ _ c.before.before.before.before.before.before.if1.false, ← c.before.before.before.before.before.is_mark.ensures, c.before.before.before.before.if2.false, ← c.before.before.before.handed_fits.ensures, c.before.before.if3.true, ← c.before.window_fits.ensures, c.if4.false)
 
 returns-6 : tie.Need-returns-6
 unfolding passes
-returns-6 c = simp (le-leb _ _ c.before.before.before.before.if1.false, ← c.before.before.before.is_mark_lem.ensures, c.before.before.if2.false, ← c.before.handed_fits_lem.ensures, c.if3.false)
+returns-6 c = simp (le-leb _ _ c.before.before.before.before.if1.false, ← c.before.before.before.is_mark.ensures, c.before.before.if2.false, ← c.before.handed_fits.ensures, c.if3.false)
 
 pub passes_spec : {M : Type 1} → statement M
 passes_spec =
