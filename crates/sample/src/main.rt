@@ -15,10 +15,8 @@ const NULLS: u32 = 25;
 const BYTES: usize = 393;
 
 fn main(rt: HostRuntime) {
-    let mut number: u16 = 0;
-    while number < LINES {
+    for number in 0..LINES {
         write_line(rt, number);
-        number += 1;
     }
 }
 
