@@ -7,8 +7,9 @@ use crate::text::say_counted;
 pub const UNTOUCHED: u8 = 0xAA;
 
 // Writes how many bytes of a buffer are not as before a call.
-pub fn say_changed(buffer: &[u8]) {
+pub fn say_changed(rt: HostRuntime, buffer: &[u8]) {
     say_counted(
+        rt,
         b"  ",
         changed(buffer) as u64,
         b" bytes of the buffer changed\n",
@@ -26,8 +27,9 @@ fn changed(buffer: &[u8]) -> usize {
 }
 
 // Writes in how many places two texts differ, as far as both go.
-pub fn say_differing(one: &[u8], other: &[u8]) {
+pub fn say_differing(rt: HostRuntime, one: &[u8], other: &[u8]) {
     say_counted(
+        rt,
         b"  ",
         differing(one, other) as u64,
         b" bytes of the body differ\n",

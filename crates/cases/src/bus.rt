@@ -20,97 +20,97 @@ pub struct Bus {
 
 impl Bus {
     // A new reader of the profile with this number.
-    pub fn new(profile: u8) -> Bus {
+    pub fn new(rt: HostRuntime, profile: u8) -> Bus {
         let made = Reader::new(profile);
         let reader = made.reader;
         let answer = made.answer;
-        answered(reader, answer, 0)
+        answered(rt, reader, answer, 0)
     }
 
     // The words of a line after its first: nibbles, or, as 07*356, nibbles so many times.
-    pub fn feed(self, line: &[u8]) -> Bus {
+    pub fn feed(self, rt: HostRuntime, line: &[u8]) -> Bus {
         let mut bus = self;
         let mut i = until(line, 0, b' ');
         while i < line.len() {
             let start = i + 1;
             let end = until(line, start, b' ');
-            bus = bus.word(&line[start..end]);
+            bus = bus.word(rt, &line[start..end]);
             i = end;
         }
         bus
     }
 
-    fn word(self, word: &[u8]) -> Bus {
+    fn word(self, rt: HostRuntime, word: &[u8]) -> Bus {
         let star = until(word, 0, b'*');
         let unit = &word[0..star];
         if star == word.len() {
-            return self.hex(unit);
+            return self.hex(rt, unit);
         }
-        self.repeat(unit, number(&word[star + 1..]))
+        self.repeat(rt, unit, number(&word[star + 1..]))
     }
 
     // The same nibbles, so many times.
-    fn repeat(self, unit: &[u8], times: u64) -> Bus {
+    fn repeat(self, rt: HostRuntime, unit: &[u8], times: u64) -> Bus {
         let mut bus = self;
         let mut i: u64 = 0;
         while i < times {
-            bus = bus.hex(unit);
+            bus = bus.hex(rt, unit);
             i += 1;
         }
         bus
     }
 
     // The nibbles that a text has as hexadecimal digits; its other signs are passed over.
-    fn hex(self, text: &[u8]) -> Bus {
+    fn hex(self, rt: HostRuntime, text: &[u8]) -> Bus {
         let mut bus = self;
         let mut i: usize = 0;
         while i < text.len() {
-            bus = bus.sign(text[i]);
+            bus = bus.sign(rt, text[i]);
             i += 1;
         }
         bus
     }
 
-    fn sign(self, sign: u8) -> Bus {
+    fn sign(self, rt: HostRuntime, sign: u8) -> Bus {
         let nibble = nibble_of(sign);
         if nibble < 16 {
-            return self.input(nibble);
+            return self.input(rt, nibble);
         }
         self
     }
 
     // One input, with a line buffer of 356 bytes.
-    pub fn input(self, nibble: u8) -> Bus {
+    pub fn input(self, rt: HostRuntime, nibble: u8) -> Bus {
         let mut line = [0u8; Profile::LONGEST];
-        self.lent(nibble, &mut line)
+        self.lent(rt, nibble, &mut line)
     }
 
     // One input, with the line buffer that is lent.
-    fn lent(self, nibble: u8, line: &mut [u8]) -> Bus {
+    fn lent(self, rt: HostRuntime, nibble: u8, line: &mut [u8]) -> Bus {
         let reader = self.reader;
         let fed = reader.feed(nibble, line);
         let reader = fed.reader;
         let answer = fed.answer;
-        answered(reader, answer, self.answers)
+        answered(rt, reader, answer, self.answers)
     }
 
     // One input, with a line buffer of so many bytes, which is looked at afterwards.
-    pub fn lend(self, size: u64, nibble: u8) -> Bus {
+    pub fn lend(self, rt: HostRuntime, size: u64, nibble: u8) -> Bus {
         let mut line = [UNTOUCHED; 360];
-        let bus = self.front_lent(nibble, &mut line, size);
-        say_changed(&line);
+        let bus = self.front_lent(rt, nibble, &mut line, size);
+        say_changed(rt, &line);
         bus
     }
 
-    fn front_lent(self, nibble: u8, line: &mut [u8], size: u64) -> Bus {
+    fn front_lent(self, rt: HostRuntime, nibble: u8, line: &mut [u8], size: u64) -> Bus {
         if (line.len() as u64) < size {
             return self;
         }
-        self.lent(nibble, &mut line[0..size as usize])
+        self.lent(rt, nibble, &mut line[0..size as usize])
     }
 
     // The nibbles that were written to a buffer, in runs, with the line buffer that is lent.
-    pub fn written(self, buffer: &[u8], line: &mut [u8]) -> Bus {
+    pub fn written(self, rt: HostRuntime, buffer: &[u8], line: &mut [u8]) -> Bus {
         let end = until(buffer, 0, UNTOUCHED);
         let mut bus = self;
         let mut from: usize = 0;
@@ -121,7 +121,7 @@ impl Bus {
             let reader = ran.reader;
             let answer = ran.answer;
             let taken = ran.taken;
-            bus = answered(reader, answer, bus.answers);
+            bus = answered(rt, reader, answer, bus.answers);
             if end - from <= taken {
                 return bus;
             }
@@ -132,15 +132,15 @@ impl Bus {
     }
 
     // The end of the input: a fresh reader is left.
-    pub fn finish(self) -> Bus {
+    pub fn finish(self, rt: HostRuntime) -> Bus {
         let reader = self.reader;
         let fed = reader.finish();
         let reader = fed.reader;
         let answer = fed.answer;
         if let Answer::Nothing = answer {
-            say(b"finish: no answer\n");
+            say(rt, b"finish: no answer\n");
         }
-        answered(reader, answer, self.answers)
+        answered(rt, reader, answer, self.answers)
     }
 }
 
@@ -163,96 +163,96 @@ pub fn in_state(count: u32, window: u32) -> Bus {
 }
 
 // The bus after a call, whose answer is written.
-fn answered(reader: Reader, answer: Answer, answers: u64) -> Bus {
+fn answered(rt: HostRuntime, reader: Reader, answer: Answer, answers: u64) -> Bus {
     if let Answer::Nothing = answer {
         return Bus { reader, answers };
     }
     let answers = std::num::wrapping_add_u64(answers, 1);
-    show_row(answers, answer);
+    show_row(rt, answers, answer);
     let head = reader.head;
     let profile = head.profile;
-    show_facts(profile, answer);
+    show_facts(rt, profile, answer);
     Bus { reader, answers }
 }
 
-fn show_row(number: u64, answer: Answer) {
+fn show_row(rt: HostRuntime, number: u64, answer: Answer) {
     let mut row = [0u8; list_rows::ROW];
     let used = list_rows::row(number, answer, &mut row);
-    say_front(&row, used);
+    say_front(rt, &row, used);
 }
 
 // What a row leaves out.
-fn show_facts(profile: Profile, answer: Answer) {
+fn show_facts(rt: HostRuntime, profile: Profile, answer: Answer) {
     match answer {
         Answer::Nothing => {}
         Answer::Line(facts) => {
             let start = facts.start;
             let end = facts.end;
-            show_repair(b"  start bit ", start);
-            show_repair(b"  end bit ", end);
+            show_repair(rt, b"  start bit ", start);
+            show_repair(rt, b"  end bit ", end);
         }
         Answer::Gap(gap) => {
-            show_gap_bytes(profile, gap.first, gap.second);
+            show_gap_bytes(rt, profile, gap.first, gap.second);
             let period = gap.period;
-            show_period(period);
+            show_period(rt, period);
         }
         Answer::Refused(_) => {}
     }
 }
 
 // The bit of a code that was repaired.
-fn show_repair(of: &[u8], repair: Repair) {
+fn show_repair(rt: HostRuntime, of: &[u8], repair: Repair) {
     match repair {
         Repair::Clean => {}
         Repair::Bit(bit) => {
-            say(of);
-            say_hex(bit);
-            end_line();
+            say(rt, of);
+            say_hex(rt, bit);
+            end_line(rt);
         }
     }
 }
 
 // Profile 1 hands out the bytes of a gap.
-fn show_gap_bytes(profile: Profile, first: u8, second: u8) {
+fn show_gap_bytes(rt: HostRuntime, profile: Profile, first: u8, second: u8) {
     match profile {
         Profile::VV5404 => {}
         Profile::VV5300 => {
-            say(b"  bytes ");
-            say_hex(first);
-            say(b" ");
-            say_hex(second);
-            end_line();
+            say(rt, b"  bytes ");
+            say_hex(rt, first);
+            say(rt, b" ");
+            say_hex(rt, second);
+            end_line(rt);
         }
     }
 }
 
 // The period of a line, where its gap carries one: in nibbles, in whole pixel periods, and its name.
-fn show_period(period: Nibbles) {
+fn show_period(rt: HostRuntime, period: Nibbles) {
     if period.0 == 0 {
         return;
     }
-    say_counted(b"  period ", period.0 as u64, b" nibbles, ");
+    say_counted(rt, b"  period ", period.0 as u64, b" nibbles, ");
     let whole = period.whole();
-    show_whole(whole);
+    show_whole(rt, whole);
     let rate = period.rate();
-    show_rate(rate);
-    end_line();
+    show_rate(rt, rate);
+    end_line(rt);
 }
 
-fn show_whole(whole: WholePeriods) {
+fn show_whole(rt: HostRuntime, whole: WholePeriods) {
     match whole {
         WholePeriods::Of(periods) => {
-            say_number(periods.0 as u64);
-            say(b" pixel periods");
+            say_number(rt, periods.0 as u64);
+            say(rt, b" pixel periods");
         }
-        WholePeriods::Odd => say(b"no whole pixel period"),
+        WholePeriods::Odd => say(rt, b"no whole pixel period"),
     }
 }
 
-fn show_rate(rate: Rate) {
+fn show_rate(rt: HostRuntime, rate: Rate) {
     match rate {
-        Rate::Thirty => say(b", 30 frames a second"),
-        Rate::TwentyFive => say(b", 25 frames a second"),
+        Rate::Thirty => say(rt, b", 30 frames a second"),
+        Rate::TwentyFive => say(rt, b", 25 frames a second"),
         Rate::Unnamed => {}
     }
 }

@@ -19,54 +19,54 @@ impl Hearing {
     }
 
     // Lines of one kind, numbered from one number to another.
-    pub fn lines(self, kind: u8, from: u16, to: u16) -> Hearing {
+    pub fn lines(self, rt: HostRuntime, kind: u8, from: u16, to: u16) -> Hearing {
         let mut hearing = self;
         let mut number = from;
         while number < to {
-            hearing = hearing.line(kind, number);
+            hearing = hearing.line(rt, kind, number);
             number += 1;
         }
-        hearing.line(kind, number)
+        hearing.line(rt, kind, number)
     }
 
     // A line.
-    fn line(self, kind: u8, number: u16) -> Hearing {
+    fn line(self, rt: HostRuntime, kind: u8, number: u16) -> Hearing {
         let judge = self.judge;
         let judged = judge.line(Profile::VV5404, kind, number);
         let judge = judged.judge;
         let ruling = judged.ruling;
-        let going = ruled(ruling, self.going);
+        let going = ruled(rt, ruling, self.going);
         Hearing { judge, going }
     }
 
     // Writes how many lines were answered Going since the last other answer.
-    pub fn end(self) -> Hearing {
+    pub fn end(self, rt: HostRuntime) -> Hearing {
         let judge = self.judge;
-        say_going(self.going);
+        say_going(rt, self.going);
         Hearing { judge, going: 0 }
     }
 }
 
 // How many lines were answered Going after one more ruling; any other is written.
-fn ruled(ruling: Ruling, going: u64) -> u64 {
+fn ruled(rt: HostRuntime, ruling: Ruling, going: u64) -> u64 {
     if let Ruling::Going = ruling {
         return std::num::wrapping_add_u64(going, 1);
     }
-    say_going(going);
+    say_going(rt, going);
     match ruling {
         Ruling::Going => {}
-        Ruling::Waiting => say(b"Waiting"),
-        Ruling::Complete => say(b"Complete"),
-        Ruling::Refused(number) => say_refused(number),
+        Ruling::Waiting => say(rt, b"Waiting"),
+        Ruling::Complete => say(rt, b"Complete"),
+        Ruling::Refused(number) => say_refused(rt, number),
     }
-    end_line();
+    end_line(rt);
     0
 }
 
-fn say_going(going: u64) {
+fn say_going(rt: HostRuntime, going: u64) {
     if going > 0 {
-        say_number(going);
-        say(b" Going\n");
+        say_number(rt, going);
+        say(rt, b" Going\n");
     }
 }
 

@@ -11,7 +11,7 @@ mod written;
 
 use bus::Bus;
 use frames::Hearing;
-use libc::{STDERR_FILENO, STDIN_FILENO};
+use host_calls::Source;
 use text::{byte_at, end_line, long_at, number_at, say, say_front, short_at, until};
 
 // The longest body that is written: one byte more than the longest that may be.
@@ -26,19 +26,19 @@ struct Bench {
     body: [u8; LONGEST],
 }
 
-fn main() {
-    let mut input = io::large_buffer();
-    let n = io::read_full(STDIN_FILENO, &mut input);
+fn main(rt: HostRuntime) {
+    let mut input = [0u8; host_calls::LARGE_ROOM];
+    let n = host_calls::read_full(&mut Source::Standard(rt.stdin()), &mut input);
     if n == 65536 {
-        io::write_all(STDERR_FILENO, b"the input is longer than 65,535 bytes\n");
+        host_calls::complain(rt, b"the input is longer than 65,535 bytes\n");
         return;
     }
-    run(&input[..n]);
+    run(rt, &input[..n]);
 }
 
 // Each line of a text.
-fn run(text: &[u8]) {
-    let bus = Bus::new(0);
+fn run(rt: HostRuntime, text: &[u8]) {
+    let bus = Bus::new(rt, 0);
     let hearing = Hearing::new();
     let mut bench = Bench {
         bus,
@@ -49,7 +49,7 @@ fn run(text: &[u8]) {
     let mut start: usize = 0;
     while start < text.len() {
         let end = until(text, start, b'\n');
-        bench = bench.line(&text[start..end]);
+        bench = bench.line(rt, &text[start..end]);
         if end == text.len() {
             return;
         }
@@ -59,24 +59,24 @@ fn run(text: &[u8]) {
 
 impl Bench {
     // A line, by its first letter; any other line is passed over.
-    fn line(self, line: &[u8]) -> Bench {
+    fn line(self, rt: HostRuntime, line: &[u8]) -> Bench {
         if line.len() == 0 {
             return self;
         }
         let command = line[0];
         match command {
-            b'n' | b's' | b'f' | b'i' | b'l' | b'e' => self.with_bus(command, line),
+            b'n' | b's' | b'f' | b'i' | b'l' | b'e' => self.with_bus(rt, command, line),
             b'b' => self.with_body(number_at(line, 1), byte_at(line, 2)),
             b'p' => self.with_byte(number_at(line, 1), byte_at(line, 2)),
-            b'j' | b'd' | b'g' | b'o' => self.with_hearing(command, line),
-            _ => self.unchanged(command, line),
+            b'j' | b'd' | b'g' | b'o' => self.with_hearing(rt, command, line),
+            _ => self.unchanged(rt, command, line),
         }
     }
 
     // Lines that work on the reader.
-    fn with_bus(self, command: u8, line: &[u8]) -> Bench {
+    fn with_bus(self, rt: HostRuntime, command: u8, line: &[u8]) -> Bench {
         let bus = self.bus;
-        let bus = read(bus, command, line);
+        let bus = read(rt, bus, command, line);
         let hearing = self.hearing;
         let body = self.body;
         Bench {
@@ -88,10 +88,10 @@ impl Bench {
     }
 
     // Lines that work on the judge.
-    fn with_hearing(self, command: u8, line: &[u8]) -> Bench {
+    fn with_hearing(self, rt: HostRuntime, command: u8, line: &[u8]) -> Bench {
         let bus = self.bus;
         let hearing = self.hearing;
-        let hearing = judge(hearing, command, line);
+        let hearing = judge(rt, hearing, command, line);
         let body = self.body;
         Bench {
             bus,
@@ -134,13 +134,13 @@ impl Bench {
     }
 
     // Lines that only write.
-    fn unchanged(self, command: u8, line: &[u8]) -> Bench {
+    fn unchanged(self, rt: HostRuntime, command: u8, line: &[u8]) -> Bench {
         let body = self.body;
         match command {
-            b'#' => title(line),
-            b'w' => written::write(&body, self.length, line),
-            b'r' => written::read_back(&body, self.length, line),
-            b'h' => header(),
+            b'#' => title(rt, line),
+            b'w' => written::write(rt, &body, self.length, line),
+            b'r' => written::read_back(rt, &body, self.length, line),
+            b'h' => header(rt),
             _ => {}
         }
         self
@@ -148,35 +148,35 @@ impl Bench {
 }
 
 // new, state, feed, input, lend, end.
-fn read(bus: Bus, command: u8, line: &[u8]) -> Bus {
+fn read(rt: HostRuntime, bus: Bus, command: u8, line: &[u8]) -> Bus {
     match command {
-        b'n' => Bus::new(byte_at(line, 1)),
+        b'n' => Bus::new(rt, byte_at(line, 1)),
         b's' => bus::in_state(long_at(line, 1), long_at(line, 2)),
-        b'f' => bus.feed(line),
-        b'i' => bus.input(byte_at(line, 1)),
-        b'l' => bus.lend(number_at(line, 1), byte_at(line, 2)),
-        _ => bus.finish(),
+        b'f' => bus.feed(rt, line),
+        b'i' => bus.input(rt, byte_at(line, 1)),
+        b'l' => bus.lend(rt, number_at(line, 1), byte_at(line, 2)),
+        _ => bus.finish(rt),
     }
 }
 
 // judge, due, give, over.
-fn judge(hearing: Hearing, command: u8, line: &[u8]) -> Hearing {
+fn judge(rt: HostRuntime, hearing: Hearing, command: u8, line: &[u8]) -> Hearing {
     match command {
         b'j' => Hearing::new(),
         b'd' => frames::in_state(short_at(line, 1), number_at(line, 2)),
-        b'g' => hearing.lines(byte_at(line, 1), short_at(line, 2), short_at(line, 3)),
-        _ => hearing.end(),
+        b'g' => hearing.lines(rt, byte_at(line, 1), short_at(line, 2), short_at(line, 3)),
+        _ => hearing.end(rt),
     }
 }
 
-fn title(line: &[u8]) {
-    say(line);
-    end_line();
+fn title(rt: HostRuntime, line: &[u8]) {
+    say(rt, line);
+    end_line(rt);
 }
 
 // The first row of a listing.
-fn header() {
+fn header(rt: HostRuntime) {
     let mut row = [0u8; list_rows::ROW];
     let used = list_rows::header(&mut row);
-    say_front(&row, used);
+    say_front(rt, &row, used);
 }

@@ -1,46 +1,46 @@
 // What the cases read and write.
 ghost use Rattle.std.specs.Prelude.{◌≤◌, length};
 
-use libc::STDOUT_FILENO;
+use std::io::Print;
 
 // Writes a text.
-pub fn say(text: &[u8]) {
-    io::write_all(STDOUT_FILENO, text);
+pub fn say(rt: HostRuntime, text: &[u8]) {
+    let _ = rt.stdout().write_all(text);
 }
 
 // Writes the front of a text, so many bytes.
-pub fn say_front(text: &[u8], count: usize) {
+pub fn say_front(rt: HostRuntime, text: &[u8], count: usize) {
     if count <= text.len() {
-        say(&text[..count]);
+        say(rt, &text[..count]);
     }
 }
 
 // Writes a number in decimal.
-pub fn say_number(n: u64) {
-    io::print_decimal(STDOUT_FILENO, n);
+pub fn say_number(rt: HostRuntime, n: u64) {
+    let _ = print!(rt; "{n}");
 }
 
 // Writes a number between two texts.
-pub fn say_counted(before: &[u8], n: u64, after: &[u8]) {
-    say(before);
-    say_number(n);
-    say(after);
+pub fn say_counted(rt: HostRuntime, before: &[u8], n: u64, after: &[u8]) {
+    say(rt, before);
+    say_number(rt, n);
+    say(rt, after);
 }
 
 // Writes a refusal.
-pub fn say_refused(number: u8) {
-    say(b"REFUSED ");
-    say_number(number as u64);
+pub fn say_refused(rt: HostRuntime, number: u8) {
+    say(rt, b"REFUSED ");
+    say_number(rt, number as u64);
 }
 
 // Ends a line.
-pub fn end_line() {
-    say(b"\n");
+pub fn end_line(rt: HostRuntime) {
+    say(rt, b"\n");
 }
 
 // Writes a byte as two hexadecimal digits.
-pub fn say_hex(byte: u8) {
-    io::print_hex(STDOUT_FILENO, byte as u64, 2);
+pub fn say_hex(rt: HostRuntime, byte: u8) {
+    let _ = print!(rt; "{byte:02x}");
 }
 
 // The place of the first such sign from a place on, or the text's end.

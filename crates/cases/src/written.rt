@@ -9,24 +9,24 @@ use profile::Profile;
 
 // Writes a line, whose body is the front of a text, into a buffer of a size, and tells what came of it. The numbers of the case's line: profile,
 // kind, number, two gap bytes, nulls, size.
-pub fn write(text: &[u8], length: usize, case: &[u8]) {
+pub fn write(rt: HostRuntime, text: &[u8], length: usize, case: &[u8]) {
     if length <= text.len() {
         let mut room = [UNTOUCHED; 1300];
-        tell(put_line(&text[0..length], case, &mut room));
-        say_changed(&room);
+        tell(rt, put_line(&text[0..length], case, &mut room));
+        say_changed(rt, &room);
     }
 }
 
 // Writes a line, reads what was written, and compares the bodies.
-pub fn read_back(text: &[u8], length: usize, case: &[u8]) {
+pub fn read_back(rt: HostRuntime, text: &[u8], length: usize, case: &[u8]) {
     if length <= text.len() {
         let mut room = [UNTOUCHED; 1300];
         let mut line = [UNTOUCHED; Profile::LONGEST];
         put_line(&text[0..length], case, &mut room);
-        Bus::new(byte_at(case, 1))
-            .written(&room, &mut line)
-            .finish();
-        say_differing(&text[0..length], &line);
+        Bus::new(rt, byte_at(case, 1))
+            .written(rt, &room, &mut line)
+            .finish(rt);
+        say_differing(rt, &text[0..length], &line);
     }
 }
 
@@ -47,13 +47,13 @@ fn put_line(body: &[u8], case: &[u8], room: &mut [u8]) -> Filled {
     )
 }
 
-fn tell(written: Filled) {
+fn tell(rt: HostRuntime, written: Filled) {
     match written {
         Filled::Length(count) => {
-            say_number(count as u64);
-            say_counted(b" nibbles, ", (count / 2) as u64, b" bytes");
+            say_number(rt, count as u64);
+            say_counted(rt, b" nibbles, ", (count / 2) as u64, b" bytes");
         }
-        Filled::Refused(number) => say_refused(number),
+        Filled::Refused(number) => say_refused(rt, number),
     }
-    end_line();
+    end_line(rt);
 }

@@ -10,54 +10,59 @@ ghost use Rattle.command.specs.Arguments.{sensor_and_file, AskedByAll, AskedBySo
 
 use command_word::meaning;
 use command_words::{Asked, Usage};
-use libc::{STDERR_FILENO, STDIN_FILENO};
+use host_calls::Source;
+use std::io::IsTerminal;
 use text::put;
 
 // Reads the arguments of a program that takes a sensor and a file: `[vv5404|vv6404|vv5300] [FILE]`.
-pub fn sensor_and_file() -> Asked
+pub fn sensor_and_file(rt: HostRuntime) -> Asked
     ensures { AskedBySome sensor_and_file result }
 {
-    words(Usage {
-        mark: false,
-        odd: false,
-        output: false,
-        second: false,
-    })
+    words(
+        rt,
+        Usage {
+            mark: false,
+            odd: false,
+            output: false,
+            second: false,
+        },
+    )
 }
 
 // Reads the arguments of a program that takes these.
-pub fn words(usage: Usage) -> Asked
+pub fn words(rt: HostRuntime, usage: Usage) -> Asked
     ensures { AskedBySome usage result }
 {
-    let count = os::arg_count();
-    words_below(usage, count)
+    let count = host_calls::arg_count(rt);
+    words_below(rt, usage, count)
 }
 
 // Reads the arguments below a place, one after another.
-fn words_below(usage: Usage, count: usize) -> Asked
+fn words_below(rt: HostRuntime, usage: Usage, count: usize) -> Asked
     ensures { AskedByAll usage (count - 1) result }
 {
     let mut asked = Asked::new();
     let mut i: usize = 1;
     while i < count {
-        let mut buf = io::buffer();
-        let n = os::arg(i, &mut buf);
+        let mut buf = [0u8; host_calls::ROOM];
+        let n = host_calls::arg(rt, i, &mut buf);
         asked = asked.with(usage, meaning(&buf[..n]), i);
         i += 1;
     }
     asked.end()
 }
 
-// An input: its descriptor, or -1; and how many bytes its name has.
-#[derive(Clone, Copy)]
+// An input: what is read, none where it can't be opened; and how many bytes its name has.
+#[derive(Drop)]
 pub struct Input {
-    pub fd: i32,
+    pub source: Option<Source>,
     pub length: usize,
 }
 
 // Opens the capture at a place among the arguments.
-pub fn open_capture(file: usize, name: &mut [u8]) -> Input {
+pub fn open_capture(rt: HostRuntime, file: usize, name: &mut [u8]) -> Input {
     open(
+        rt,
         file,
         b"waiting for a capture on standard input (or give a file's name)\n",
         name,
@@ -66,45 +71,55 @@ pub fn open_capture(file: usize, name: &mut [u8]) -> Input {
 
 // Opens the file at a place among the arguments, or standard input for 0, and puts its name at the front of a buffer. A file that can't be
 // opened is told. Where standard input is a terminal, says what is waited for.
-pub fn open(file: usize, waiting: &[u8], name: &mut [u8]) -> Input {
+pub fn open(rt: HostRuntime, file: usize, waiting: &[u8], name: &mut [u8]) -> Input {
     if file == 0 {
-        if libc::isatty(STDIN_FILENO) == 1 {
-            complain(waiting);
+        let input = rt.stdin();
+        if input.is_terminal() {
+            complain(rt, waiting);
         }
         let length = name_input(name);
         return Input {
-            fd: STDIN_FILENO,
+            source: Some(Source::Standard(input)),
             length,
         };
     }
-    let length = os::arg(file, name);
+    let length = host_calls::arg(rt, file, name);
     if length == 0 {
-        tell_no_name();
-        return Input { fd: -1, length };
+        tell_no_name(rt, file);
+        return Input {
+            source: None,
+            length,
+        };
     }
-    let fd = os::open_read(&name[..length]);
-    if fd < 0 {
-        os::fail(&name[..length]);
+    match host_calls::open_read(rt, &name[..length]) {
+        Ok(opened) => Input {
+            source: Some(Source::Named(opened)),
+            length,
+        },
+        Err(error) => {
+            host_calls::fail(rt, &name[..length], error);
+            Input {
+                source: None,
+                length,
+            }
+        }
     }
-    Input { fd, length }
 }
 
 // Puts the name of standard input at the front of a buffer.
 fn name_input(name: &mut [u8]) -> usize {
-    let n = put(b"standard input", name, 0);
-    io::count(n as isize, name)
+    put(b"standard input", name, 0)
 }
 
-// Tells why the argument that was last asked for is no file's name: it is empty, or longer than any.
-pub fn tell_no_name() {
-    if os::errno() == 0 {
-        complain(b"the name of a file is empty\n");
-        return;
+// Tells why the argument at a place is no file's name: it is empty, or longer than any.
+pub fn tell_no_name(rt: HostRuntime, place: usize) {
+    match host_calls::arg_failure(rt, place) {
+        None => complain(rt, b"the name of a file is empty\n"),
+        Some(error) => host_calls::fail(rt, b"the name of a file", error),
     }
-    os::fail(b"the name of a file");
 }
 
 // Writes a line to standard error.
-pub fn complain(text: &[u8]) {
-    io::write_all(STDERR_FILENO, text);
+pub fn complain(rt: HostRuntime, text: &[u8]) {
+    host_calls::complain(rt, text);
 }

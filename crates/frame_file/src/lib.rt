@@ -7,22 +7,24 @@
 
 ghost use Rattle.std.specs.Prelude.{◌≤◌, length};
 
+use command::Input;
 use frame_grabber::Grabber;
 use frame_row::Keeping;
 use frame_rows::Progress;
+use host_calls::Source;
 
 // Whether two arguments are one word; none is the word of place 0.
-pub fn is_same(one: usize, other: usize) -> bool {
+pub fn is_same(rt: HostRuntime, one: usize, other: usize) -> bool {
     if one == 0 {
         return false;
     }
     if other == 0 {
         return false;
     }
-    let mut a = io::buffer();
-    let n = os::arg(one, &mut a);
-    let mut b = io::buffer();
-    let m = os::arg(other, &mut b);
+    let mut a = [0u8; host_calls::ROOM];
+    let n = host_calls::arg(rt, one, &mut a);
+    let mut b = [0u8; host_calls::ROOM];
+    let m = host_calls::arg(rt, other, &mut b);
     if n == 0 {
         return false;
     }
@@ -31,42 +33,41 @@ pub fn is_same(one: usize, other: usize) -> bool {
 
 // Puts the rows of the first complete frame of the capture at a place among the arguments at the front of a buffer, and gives their length; 0
 // where there are none, which has been told.
-pub fn first_frame(file: usize, keeping: Keeping, rows: &mut [u8]) -> usize
+pub fn first_frame(rt: HostRuntime, file: usize, keeping: Keeping, rows: &mut [u8]) -> usize
     ensures { result ≤ length rows.new }
 {
-    let mut name = io::buffer();
-    let input = command::open_capture(file, &mut name);
-    if input.fd < 0 {
+    let mut name = [0u8; host_calls::ROOM];
+    let Input { source, length } = command::open_capture(rt, file, &mut name);
+    let Some(mut source) = source else {
         return 0;
-    }
-    let length = input.length;
+    };
     if name.len() < length {
         return 0;
     }
-    let n = seek(keeping, input.fd, &name[..length], rows);
-    libc::close(input.fd);
-    n
+    seek(rt, keeping, &mut source, &name[..length], rows)
 }
 
 // Reads the capture up to its first complete frame; where nothing is said the whole piece was taken. Nothing says that an input ends, so the
-// loop counts its turns down, from a number that no run uses up.
-fn seek(keeping: Keeping, fd: i32, name: &[u8], rows: &mut [u8]) -> usize
+// loop counts its turns, to a number that no run reaches.
+fn seek(
+    rt: HostRuntime,
+    keeping: Keeping,
+    source: &mut Source,
+    name: &[u8],
+    rows: &mut [u8],
+) -> usize
     ensures { result ≤ length rows.new }
 {
     let mut grabber = Grabber::new(keeping);
-    let mut turns = u64::MAX;
-    while turns > 0 {
-        let mut buf = io::large_buffer();
-        let got = libc::read(fd, &mut buf);
-        if got < 0 {
-            os::fail(name);
+    for _ in 0..u64::MAX {
+        let mut buf = [0u8; host_calls::LARGE_ROOM];
+        let Some(n) = host_calls::read_or_tell(rt, source, name, &mut buf) else {
+            return 0;
+        };
+        if n == 0 {
+            tell_no_frame(rt, name);
             return 0;
         }
-        if got == 0 {
-            tell_no_frame(name);
-            return 0;
-        }
-        let n = io::count(got, &buf);
         let grabbed = grabber.grab(&buf[..n], 0, rows);
         grabber = grabbed.grabber;
         let progress = grabbed.progress;
@@ -76,17 +77,19 @@ fn seek(keeping: Keeping, fd: i32, name: &[u8], rows: &mut [u8]) -> usize
                 return n;
             }
             Progress::Refused(_) => {
-                command::complain(b"the capture cannot be read on\n");
+                command::complain(rt, b"the capture cannot be read on\n");
                 return 0;
             }
         }
-        turns -= 1;
     }
     0
 }
 
-fn tell_no_frame(name: &[u8]) {
-    command::complain(b"no complete frame in ");
-    command::complain(name);
-    command::complain(b": take a longer capture (of a VV5404 or VV6404 head)\n");
+fn tell_no_frame(rt: HostRuntime, name: &[u8]) {
+    command::complain(rt, b"no complete frame in ");
+    command::complain(rt, name);
+    command::complain(
+        rt,
+        b": take a longer capture (of a VV5404 or VV6404 head)\n",
+    );
 }

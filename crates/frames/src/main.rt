@@ -7,55 +7,54 @@
 
 #![tactic(auto)]
 
+use command::Input;
 use command_words::Asked;
-use libc::STDOUT_FILENO;
+use host_calls::Source;
 use list_frames::FrameLister;
 
-fn main() {
-    let asked = command::sensor_and_file();
+fn main(rt: HostRuntime) {
+    let asked = command::sensor_and_file(rt);
     if asked.understood {
-        list_asked(asked);
+        list_asked(rt, asked);
     } else {
-        command::complain(b"usage: frames [vv5404|vv6404|vv5300] [FILE]\n");
+        command::complain(rt, b"usage: frames [vv5404|vv6404|vv5300] [FILE]\n");
     }
 }
 
-fn list_asked(asked: Asked) {
-    let mut name = io::buffer();
-    let input = command::open_capture(asked.first, &mut name);
-    if input.fd < 0 {
+fn list_asked(rt: HostRuntime, asked: Asked) {
+    let mut name = [0u8; host_calls::ROOM];
+    let Input { source, length } = command::open_capture(rt, asked.first, &mut name);
+    let Some(mut source) = source else {
         return;
-    }
-    let length = input.length;
+    };
     if name.len() < length {
         return;
     }
     let profile = asked.profile;
     let lister = FrameLister::new(profile);
-    list_input(lister, input.fd, &name[..length]);
-    libc::close(input.fd);
+    list_input(rt, lister, &mut source, &name[..length]);
 }
 
 // Lists the whole of an input.
-fn list_input(lister: FrameLister, fd: i32, name: &[u8]) {
+fn list_input(rt: HostRuntime, lister: FrameLister, source: &mut Source, name: &[u8]) {
     let begun = Turn {
         lister,
         more: true,
         failed: false,
     };
-    let end = list_rest(begun, fd, name);
+    let end = list_rest(rt, begun, source, name);
     if end.failed {
         return;
     }
     let lister = end.lister;
-    write_end(lister);
+    write_end(rt, lister);
 }
 
-fn write_end(lister: FrameLister) {
-    let mut out = io::buffer();
+fn write_end(rt: HostRuntime, lister: FrameLister) {
+    let mut out = [0u8; host_calls::ROOM];
     let last = lister.finish(&mut out);
     let used = last.used;
-    write(&out[..used]);
+    write(rt, &out[..used]);
 }
 
 // A lister, whether to go on, and whether a read or a write has failed.
@@ -66,44 +65,39 @@ struct Turn {
     failed: bool,
 }
 
-// Lists what is left of an input. Nothing says that an input ends, so the loop counts its turns down, from a number that no run uses up.
-fn list_rest(begun: Turn, fd: i32, name: &[u8]) -> Turn {
+// Lists what is left of an input. Nothing says that an input ends, so the loop counts its turns, to a number that no run reaches.
+fn list_rest(rt: HostRuntime, begun: Turn, source: &mut Source, name: &[u8]) -> Turn {
     let mut turn = begun;
-    let mut turns = u64::MAX;
-    while turns > 0 {
+    for _ in 0..u64::MAX {
         let l = turn.lister;
         if turn.more {
-            turn = list_some(l, fd, name);
+            turn = list_some(rt, l, source, name);
         } else {
             return turn;
         }
-        turns -= 1;
     }
     turn
 }
 
 // Reads once, and lists what came.
-fn list_some(lister: FrameLister, fd: i32, name: &[u8]) -> Turn {
-    let mut buf = io::large_buffer();
-    let got = libc::read(fd, &mut buf);
-    if got < 0 {
-        os::fail(name);
+fn list_some(rt: HostRuntime, lister: FrameLister, source: &mut Source, name: &[u8]) -> Turn {
+    let mut buf = [0u8; host_calls::LARGE_ROOM];
+    let Some(n) = host_calls::read_or_tell(rt, source, name, &mut buf) else {
         return failed(lister);
-    }
-    let n = io::count(got, &buf);
-    list_piece(lister, &buf[..n])
+    };
+    list_piece(rt, lister, &buf[..n])
 }
 
 // Lists a piece, nibble after nibble, and writes its text as often as it fills the buffer. An empty piece is the input's end.
-fn list_piece(lister: FrameLister, piece: &[u8]) -> Turn {
-    let mut out = io::large_buffer();
+fn list_piece(rt: HostRuntime, lister: FrameLister, piece: &[u8]) -> Turn {
+    let mut out = [0u8; host_calls::LARGE_ROOM];
     let mut l = lister;
     let mut at: usize = 0;
     while at < 2 * piece.len() {
         let done = l.list(piece, at, &mut out);
         let used = done.used;
         l = done.lister;
-        if write(&out[..used]) {
+        if write(rt, &out[..used]) {
             if done.taken == 0 {
                 return failed(l);
             }
@@ -128,10 +122,6 @@ fn failed(lister: FrameLister) -> Turn {
 }
 
 // Writes a text, or says why it cannot.
-fn write(text: &[u8]) -> bool {
-    let is_written = io::write_all(STDOUT_FILENO, text);
-    if !is_written {
-        os::fail(b"standard output");
-    }
-    is_written
+fn write(rt: HostRuntime, text: &[u8]) -> bool {
+    host_calls::print_or_tell(rt, text)
 }

@@ -5,17 +5,18 @@
 
 #![tactic(auto)]
 
+use command::Input;
 use command_words::Asked;
-use libc::STDOUT_FILENO;
+use host_calls::Source;
 use list_means::MeanLister;
 use profile::Profile;
 
-fn main() {
-    let asked = command::sensor_and_file();
+fn main(rt: HostRuntime) {
+    let asked = command::sensor_and_file(rt);
     if is_for_means(asked) {
-        table(asked.first);
+        table(rt, asked.first);
     } else {
-        command::complain(b"usage: means [vv5300] [FILE]\n");
+        command::complain(rt, b"usage: means [vv5300] [FILE]\n");
     }
 }
 
@@ -34,66 +35,64 @@ fn is_for_means(asked: Asked) -> bool {
 }
 
 // Writes the table of the file at a place among the arguments, or of standard input for 0.
-fn table(file: usize) {
-    let mut name = io::buffer();
-    let input = command::open_capture(file, &mut name);
-    if input.fd < 0 {
+fn table(rt: HostRuntime, file: usize) {
+    let mut name = [0u8; host_calls::ROOM];
+    let Input { source, length } = command::open_capture(rt, file, &mut name);
+    let Some(mut source) = source else {
         return;
-    }
-    let length = input.length;
+    };
     if name.len() < length {
         return;
     }
-    write_rows(input.fd, &name[..length]);
-    libc::close(input.fd);
+    write_rows(rt, &mut source, &name[..length]);
 }
 
 // Writes the whole table. Its first piece is read before the header is written: an input that can't be read is told, and nothing is listed.
-fn write_rows(fd: i32, name: &[u8]) {
-    let mut buf = io::large_buffer();
-    let got = libc::read(fd, &mut buf);
-    if got < 0 {
-        os::fail(name);
+fn write_rows(rt: HostRuntime, source: &mut Source, name: &[u8]) {
+    let mut buf = [0u8; host_calls::LARGE_ROOM];
+    let Some(n) = host_calls::read_or_tell(rt, source, name, &mut buf) else {
         return;
-    }
-    let n = io::count(got, &buf);
-    if write_header() {
-        list_from(&buf[..n], fd, name);
+    };
+    if write_header(rt) {
+        list_from(rt, &buf[..n], source, name);
     }
 }
 
-fn write_header() -> bool {
-    let mut out = io::buffer();
+fn write_header(rt: HostRuntime) -> bool {
+    let mut out = [0u8; host_calls::ROOM];
     let used = mean_rows::put_header(&mut out, 0);
     if out.len() < used {
         return false;
     }
-    write(&out[..used])
+    write(rt, &out[..used])
 }
 
 // Lists an input of which the first piece has been read.
-fn list_from(piece: &[u8], fd: i32, name: &[u8]) {
+fn list_from(rt: HostRuntime, piece: &[u8], source: &mut Source, name: &[u8]) {
     let lister = MeanLister::new();
-    let begun = list_piece(lister, false, piece);
-    let end = list_rest(begun, fd, name);
+    let begun = list_piece(rt, lister, false, piece);
+    let end = list_rest(rt, begun, source, name);
     if end.failed {
         return;
     }
     let lister = end.lister;
-    write_end(lister, end.rows);
+    write_end(rt, lister, end.rows);
 }
 
 // Writes the last row, and says so where no row has come.
-fn write_end(lister: MeanLister, rows: bool) {
-    let mut out = io::buffer();
+fn write_end(rt: HostRuntime, lister: MeanLister, rows: bool) {
+    let mut out = [0u8; host_calls::ROOM];
     let last = lister.finish(&mut out);
     let used = last.used;
-    write(&out[..used]);
+    write(rt, &out[..used]);
     if rows {
         return;
     }
     if used == 0 {
-        command::complain(b"no visible line of a VV5300 was read: list vv5300 shows what came\n");
+        command::complain(
+            rt,
+            b"no visible line of a VV5300 was read: list vv5300 shows what came\n",
+        );
     }
 }
 
@@ -106,37 +105,38 @@ struct Turn {
     failed: bool,
 }
 
-// Lists the rest of an input. Nothing says that an input ends, so the loop counts its turns down, from a number that no run uses up.
-fn list_rest(begun: Turn, fd: i32, name: &[u8]) -> Turn {
+// Lists the rest of an input. Nothing says that an input ends, so the loop counts its turns, to a number that no run reaches.
+fn list_rest(rt: HostRuntime, begun: Turn, source: &mut Source, name: &[u8]) -> Turn {
     let mut turn = begun;
-    let mut turns = u64::MAX;
-    while turns > 0 {
+    for _ in 0..u64::MAX {
         let l = turn.lister;
         if turn.more {
-            turn = list_some(l, turn.rows, fd, name);
+            turn = list_some(rt, l, turn.rows, source, name);
         } else {
             return turn;
         }
-        turns -= 1;
     }
     turn
 }
 
 // Reads once, and lists what came.
-fn list_some(lister: MeanLister, rows: bool, fd: i32, name: &[u8]) -> Turn {
-    let mut buf = io::large_buffer();
-    let got = libc::read(fd, &mut buf);
-    if got < 0 {
-        os::fail(name);
+fn list_some(
+    rt: HostRuntime,
+    lister: MeanLister,
+    rows: bool,
+    source: &mut Source,
+    name: &[u8],
+) -> Turn {
+    let mut buf = [0u8; host_calls::LARGE_ROOM];
+    let Some(n) = host_calls::read_or_tell(rt, source, name, &mut buf) else {
         return failed(lister, rows);
-    }
-    let n = io::count(got, &buf);
-    list_piece(lister, rows, &buf[..n])
+    };
+    list_piece(rt, lister, rows, &buf[..n])
 }
 
 // Lists a piece, nibble after nibble, and writes its text as often as it fills the buffer. An empty piece is the input's end.
-fn list_piece(lister: MeanLister, before: bool, piece: &[u8]) -> Turn {
-    let mut out = io::large_buffer();
+fn list_piece(rt: HostRuntime, lister: MeanLister, before: bool, piece: &[u8]) -> Turn {
+    let mut out = [0u8; host_calls::LARGE_ROOM];
     let mut l = lister;
     let mut rows = before;
     let mut at: usize = 0;
@@ -147,7 +147,7 @@ fn list_piece(lister: MeanLister, before: bool, piece: &[u8]) -> Turn {
         if used > 0 {
             rows = true;
         }
-        if write(&out[..used]) {
+        if write(rt, &out[..used]) {
             if done.taken == 0 {
                 return failed(l, rows);
             }
@@ -174,10 +174,6 @@ fn failed(lister: MeanLister, rows: bool) -> Turn {
 }
 
 // Writes a text, or says why it cannot.
-fn write(text: &[u8]) -> bool {
-    let is_written = io::write_all(STDOUT_FILENO, text);
-    if !is_written {
-        os::fail(b"standard output");
-    }
-    is_written
+fn write(rt: HostRuntime, text: &[u8]) -> bool {
+    host_calls::print_or_tell(rt, text)
 }

@@ -8,56 +8,65 @@
 use command_words::{Asked, Usage};
 use frame_row::{Keeping, Order};
 use lent_buffer::Filled;
-use libc::STDOUT_FILENO;
 use profile::Profile;
+use std::io::{IsTerminal, Write};
 
-fn main() {
-    let asked = words();
+fn main(rt: HostRuntime) {
+    let asked = words(rt);
     if asked.understood {
-        show(asked);
+        show(rt, asked);
     } else {
         command::complain(
+            rt,
             b"usage: picture [vv5404|vv6404] [odd-pixels-first] [-o PICTURE] [CAPTURE]\n",
         );
     }
 }
 
-fn words() -> Asked {
-    command::words(Usage {
-        mark: false,
-        odd: true,
-        output: true,
-        second: false,
-    })
+fn words(rt: HostRuntime) -> Asked {
+    command::words(
+        rt,
+        Usage {
+            mark: false,
+            odd: true,
+            output: true,
+            second: false,
+        },
+    )
 }
 
 // Writes the picture of a VV5404 or VV6404 head.
-fn show(asked: Asked) {
+fn show(rt: HostRuntime, asked: Asked) {
     let profile = asked.profile;
     match profile {
-        Profile::VV5404 => show_asked(asked),
+        Profile::VV5404 => show_asked(rt, asked),
         Profile::VV5300 => command::complain(
+            rt,
             b"a VV5300 has no picture here: pictures are of VV5404 and VV6404 heads only\n",
         ),
     }
 }
 
 // Writes the picture, or says why there is none.
-fn show_asked(asked: Asked) {
+fn show_asked(rt: HostRuntime, asked: Asked) {
     if asked.output == 0 {
-        if libc::isatty(STDOUT_FILENO) == 1 {
+        if rt.stdout().is_terminal() {
             command::complain(
+                rt,
                 b"a picture is no text for a terminal: give -o and a name, or send it to a file\n",
             );
             return;
         }
     }
-    if frame_file::is_same(asked.output, asked.first) {
-        command::complain(b"the picture would replace its capture: give another name after -o\n");
+    if frame_file::is_same(rt, asked.output, asked.first) {
+        command::complain(
+            rt,
+            b"the picture would replace its capture: give another name after -o\n",
+        );
         return;
     }
     let order = order_of(asked.odd);
-    grab(order, asked.first, asked.output);
+    grab(rt, order, asked.first, asked.output);
 }
 
 fn order_of(odd: bool) -> Order {
@@ -67,58 +76,60 @@ fn order_of(odd: bool) -> Order {
     Order::AsSent
 }
 
-fn grab(order: Order, capture: usize, picture: usize) {
+fn grab(rt: HostRuntime, order: Order, capture: usize, picture: usize) {
     let mut rows = [0u8; pgm::MOST_PIXELS];
     let keeping = Keeping::VisiblePixels(order);
-    let n = frame_file::first_frame(capture, keeping, &mut rows);
+    let n = frame_file::first_frame(rt, capture, keeping, &mut rows);
     if n == 0 {
         return;
     }
-    write(&rows[..n], picture);
+    write(rt, &rows[..n], picture);
 }
 
 // Writes the file of these rows.
-fn write(rows: &[u8], picture: usize) {
+fn write(rt: HostRuntime, rows: &[u8], picture: usize) {
     let mut file = [0u8; pgm::LONGEST_FILE];
     let filled = pgm::write(rows, &mut file);
     match filled {
-        Filled::Length(length) => put(&file, length, picture),
-        Filled::Refused(_) => command::complain(b"the frame is no picture\n"),
+        Filled::Length(length) => put(rt, &file, length, picture),
+        Filled::Refused(_) => command::complain(rt, b"the frame is no picture\n"),
     }
 }
 
-fn put(file: &[u8], length: usize, picture: usize) {
+fn put(rt: HostRuntime, file: &[u8], length: usize, picture: usize) {
     if file.len() < length {
         return;
     }
     if picture == 0 {
-        send(STDOUT_FILENO, b"standard output", &file[..length]);
+        send(rt, &mut rt.stdout(), b"standard output", &file[..length]);
         return;
     }
-    save(&file[..length], picture);
+    save(rt, &file[..length], picture);
 }
 
 // Writes the file under the name at a place among the arguments.
-fn save(file: &[u8], picture: usize) {
-    let mut name = io::buffer();
-    let n = os::arg(picture, &mut name);
+fn save(rt: HostRuntime, file: &[u8], picture: usize) {
+    let mut name = [0u8; host_calls::ROOM];
+    let n = host_calls::arg(rt, picture, &mut name);
     if n == 0 {
-        command::tell_no_name();
+        command::tell_no_name(rt, picture);
         return;
     }
-    let saving = whole_file::begin(&name[..n]);
-    if saving.fd < 0 {
+    let mut saving = whole_file::begin(rt, &name[..n]);
+    let Some(made) = &mut saving.file else {
         return;
-    }
-    let whole = send(saving.fd, &name[..n], file);
-    whole_file::end(saving, &name[..n], whole);
+    };
+    let whole = send(rt, made, &name[..n], file);
+    whole_file::end(rt, saving, &name[..n], whole);
 }
 
 // Writes all of a file, or says why it cannot; and whether it did.
-fn send(fd: i32, name: &[u8], file: &[u8]) -> bool {
-    if io::write_all(fd, file) {
-        return true;
+fn send<W: Write>(rt: HostRuntime, to: &mut W, name: &[u8], file: &[u8]) -> bool {
+    match to.write_all(file) {
+        Ok(()) => true,
+        Err(error) => {
+            host_calls::fail(rt, name, error);
+            false
+        }
     }
-    os::fail(name);
-    false
 }

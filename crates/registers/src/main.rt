@@ -5,37 +5,37 @@
 
 #![tactic(auto)]
 
+use command::Input;
 use command_words::Asked;
-use libc::STDOUT_FILENO;
+use host_calls::Source;
 use profile::Profile;
 use register_script::Script;
 
-fn main() {
-    let asked = command::sensor_and_file();
+fn main(rt: HostRuntime) {
+    let asked = command::sensor_and_file(rt);
     if asked.understood {
-        read_asked(asked);
+        read_asked(rt, asked);
     } else {
-        command::complain(b"usage: registers [vv5404|vv6404|vv5300] [FILE]\n");
+        command::complain(rt, b"usage: registers [vv5404|vv6404|vv5300] [FILE]\n");
     }
 }
 
-fn read_asked(asked: Asked) {
-    let mut name = io::buffer();
-    let input = command::open(
+fn read_asked(rt: HostRuntime, asked: Asked) {
+    let mut name = [0u8; host_calls::ROOM];
+    let Input { source, length } = command::open(
+        rt,
         asked.first,
         b"waiting for settings and messages, one to a line; Ctrl-D ends them\n",
         &mut name,
     );
-    if input.fd < 0 {
+    let Some(mut source) = source else {
         return;
-    }
-    let length = input.length;
+    };
     if name.len() < length {
         return;
     }
     let profile = asked.profile;
-    read_all(profile, input.fd, &name[..length]);
-    libc::close(input.fd);
+    read_all(rt, profile, &mut source, &name[..length]);
 }
 
 // Where the script stands, and whether to read on.
@@ -45,56 +45,57 @@ struct Turn {
     more: bool,
 }
 
-// Reads a script to its end. Nothing says that an input ends, so the loop counts its turns down, from a number that no run uses up.
-fn read_all(profile: Profile, fd: i32, name: &[u8]) {
-    let mut kept = io::buffer();
+// Reads a script to its end. Nothing says that an input ends, so the loop counts its turns, to a number that no run reaches.
+fn read_all(rt: HostRuntime, profile: Profile, source: &mut Source, name: &[u8]) {
+    let mut kept = [0u8; host_calls::ROOM];
     let mut turn = Turn {
         script: Script::new(profile),
         more: true,
     };
-    let mut turns = u64::MAX;
-    while turns > 0 {
+    for _ in 0..u64::MAX {
         let script = turn.script;
         if turn.more {
-            turn = read_some(script, fd, name, &mut kept);
+            turn = read_some(rt, script, source, name, &mut kept);
         } else {
             return;
         }
-        turns -= 1;
     }
 }
 
 // Reads once, and answers what came; the input's end ends its last line.
-fn read_some(script: Script, fd: i32, name: &[u8], kept: &mut [u8]) -> Turn {
-    let mut buf = io::large_buffer();
-    let got = libc::read(fd, &mut buf);
-    if got < 0 {
-        os::fail(name);
+fn read_some(
+    rt: HostRuntime,
+    script: Script,
+    source: &mut Source,
+    name: &[u8],
+    kept: &mut [u8],
+) -> Turn {
+    let mut buf = [0u8; host_calls::LARGE_ROOM];
+    let Some(n) = host_calls::read_or_tell(rt, source, name, &mut buf) else {
         return Turn {
             script,
             more: false,
         };
-    }
-    if got == 0 {
-        let end = feed(script, b'\n', kept);
+    };
+    if n == 0 {
+        let end = feed(rt, script, b'\n', kept);
         let script = end.script;
         return Turn {
             script,
             more: false,
         };
     }
-    let n = io::count(got, &buf);
-    answer(script, &buf[..n], kept)
+    answer(rt, script, &buf[..n], kept)
 }
 
 // The text for each line that a piece ends.
-fn answer(script: Script, piece: &[u8], kept: &mut [u8]) -> Turn {
+fn answer(rt: HostRuntime, script: Script, piece: &[u8], kept: &mut [u8]) -> Turn {
     let mut turn = Turn { script, more: true };
     let mut i: usize = 0;
     while i < piece.len() {
         let script = turn.script;
         if turn.more {
-            turn = feed(script, piece[i], kept);
+            turn = feed(rt, script, piece[i], kept);
         } else {
             return turn;
         }
@@ -103,24 +104,20 @@ fn answer(script: Script, piece: &[u8], kept: &mut [u8]) -> Turn {
     turn
 }
 
-fn feed(script: Script, c: u8, kept: &mut [u8]) -> Turn {
+fn feed(rt: HostRuntime, script: Script, c: u8, kept: &mut [u8]) -> Turn {
     let mut out = [0u8; 128];
     let fed = script.feed(c, kept, &mut out);
     let n = fed.length;
     let script = fed.script;
-    let more = write(fed.refused, &out[..n]);
+    let more = write(rt, fed.refused, &out[..n]);
     Turn { script, more }
 }
 
 // Writes a text, of a line that is refused or not, or says why it cannot.
-fn write(refused: bool, text: &[u8]) -> bool {
+fn write(rt: HostRuntime, refused: bool, text: &[u8]) -> bool {
     if refused {
-        command::complain(text);
+        command::complain(rt, text);
         return true;
     }
-    let is_written = io::write_all(STDOUT_FILENO, text);
-    if !is_written {
-        os::fail(b"standard output");
-    }
-    is_written
+    host_calls::print_or_tell(rt, text)
 }

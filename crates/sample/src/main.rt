@@ -3,9 +3,9 @@
 #![tactic(auto)]
 
 use lent_buffer::Filled;
-use libc::STDOUT_FILENO;
 use line_code::Kind;
 use profile::Profile;
+use std::io::Print;
 
 // The lines of a frame, its null bytes a line, and the bytes of such a line.
 const LINES: u16 = 304;
@@ -14,16 +14,14 @@ const NULLS: u32 = 25;
 
 const BYTES: usize = 393;
 
-fn main() {
-    let mut number: u16 = 0;
-    while number < LINES {
-        write_line(number);
-        number += 1;
+fn main(rt: HostRuntime) {
+    for number in 0..LINES {
+        write_line(rt, number);
     }
 }
 
 // Writes the line with this number.
-fn write_line(number: u16) {
+fn write_line(rt: HostRuntime, number: u16) {
     let kind = kind_of(number);
     let mut body = [0u8; Profile::LONGEST];
     fill(kind, number, &mut body);
@@ -31,7 +29,7 @@ fn write_line(number: u16) {
     put_nibbles(kind, number, &body, &mut nibbles);
     let mut bytes = [0u8; BYTES];
     pack(&nibbles, &mut bytes);
-    put_out(&bytes);
+    put_out(rt, &bytes);
 }
 
 // The nibbles of the line.
@@ -49,9 +47,9 @@ fn put_nibbles(kind: u8, number: u16, body: &[u8; Profile::LONGEST], nibbles: &m
     )
 }
 
-fn put_out(bytes: &[u8; 393]) {
+fn put_out(rt: HostRuntime, bytes: &[u8; 393]) {
     let all: &[u8] = bytes;
-    io::write_all(STDOUT_FILENO, all);
+    let _ = rt.stdout().write_all(all);
 }
 
 // The number of the kind of a line, borders on.

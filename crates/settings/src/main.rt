@@ -8,9 +8,12 @@
 
 #![tactic(auto)]
 
-use libc::STDOUT_FILENO;
+use host_calls::Source;
 use settings_request::Request;
 use settings_typed::{NumberWords, TypedRequest};
+use std::fs::File;
+use std::io;
+use std::io::{ErrorKind, Write};
 
 // Room for what is said, and for a list's text.
 const ROOM: usize = 2048;
@@ -20,30 +23,33 @@ const FILE: usize = 1;
 
 const VERB: usize = 2;
 
-fn main() {
-    let asked = words();
+fn main(rt: HostRuntime) {
+    let asked = words(rt);
     if asked.understood {
         let request = asked.request;
-        serve_file(request);
+        serve_file(rt, request);
     } else {
-        command::complain(b"usage: settings FILE save FINE COARSE GAIN DIVISOR RATE\n");
-        command::complain(b"       settings FILE find|back|messages VERSION\n");
-        command::complain(b"       settings FILE list\n");
+        command::complain(
+            rt,
+            b"usage: settings FILE save FINE COARSE GAIN DIVISOR RATE\n",
+        );
+        command::complain(rt, b"       settings FILE find|back|messages VERSION\n");
+        command::complain(rt, b"       settings FILE list\n");
     }
 }
 
 // The request that the arguments make.
-fn words() -> TypedRequest {
-    let mut verb = io::buffer();
-    let n = os::arg(VERB, &mut verb);
-    let count = os::arg_count();
+fn words(rt: HostRuntime) -> TypedRequest {
+    let mut verb = [0u8; host_calls::ROOM];
+    let n = host_calls::arg(rt, VERB, &mut verb);
+    let count = host_calls::arg_count(rt);
     let numbers = NumberWords {
         count: after_verb(count),
-        first: number(3),
-        second: number(4),
-        third: number(5),
-        fourth: number(6),
-        fifth: number(7),
+        first: number(rt, 3),
+        second: number(rt, 4),
+        third: number(rt, 5),
+        fourth: number(rt, 6),
+        fifth: number(rt, 7),
     };
     settings_typed::read(&verb[..n], numbers)
 }
@@ -57,25 +63,25 @@ fn after_verb(count: usize) -> usize {
 }
 
 // The number at a place among the arguments.
-fn number(place: usize) -> u32 {
-    let mut word = io::buffer();
-    let n = os::arg(place, &mut word);
+fn number(rt: HostRuntime, place: usize) -> u32 {
+    let mut word = [0u8; host_calls::ROOM];
+    let n = host_calls::arg(rt, place, &mut word);
     named_value::number(&word[..n], 0)
 }
 
 // Serves a request with the file that the arguments name.
-fn serve_file(request: Request) {
-    let mut name = io::buffer();
-    let n = os::arg(FILE, &mut name);
+fn serve_file(rt: HostRuntime, request: Request) {
+    let mut name = [0u8; host_calls::ROOM];
+    let n = host_calls::arg(rt, FILE, &mut name);
     if n == 0 {
-        command::tell_no_name();
+        command::tell_no_name(rt, FILE);
         return;
     }
     if changes_file(request) {
-        change_file(request, &name[..n]);
+        change_file(rt, request, &name[..n]);
         return;
     }
-    serve_with(request, &name[..n], b"", -1);
+    serve_with(rt, request, &name[..n], b"", None);
 }
 
 // Whether a request may change the file.
@@ -91,33 +97,37 @@ fn changes_file(request: Request) -> bool {
 
 // Serves such a request: the new list is written beside the file, to one that is made before the old list is read. So two runs at once don't
 // lose what one of them saves.
-fn change_file(request: Request, name: &[u8]) {
-    let mut beside = io::buffer();
+fn change_file(rt: HostRuntime, request: Request, name: &[u8]) {
+    let mut beside = [0u8; host_calls::ROOM];
     let end = whole_file::put_beside(name, b".new", &mut beside);
     if beside.len() <= end {
-        command::complain(b"the name of the file is too long\n");
+        command::complain(rt, b"the name of the file is too long\n");
         return;
     }
-    change_beside(request, name, &beside[..end]);
+    change_beside(rt, request, name, &beside[..end]);
 }
 
-fn change_beside(request: Request, name: &[u8], beside: &[u8]) {
-    let fd = whole_file::make(beside);
-    if fd < 0 {
+fn change_beside(rt: HostRuntime, request: Request, name: &[u8], beside: &[u8]) {
+    let made = whole_file::make(rt, beside);
+    if made.is_none() {
         return;
     }
-    let replaced = serve_with(request, name, beside, fd);
-    libc::close(fd);
-    if replaced {
+    if serve_with(rt, request, name, beside, made) {
         return;
     }
-    os::unlink(beside);
+    let _ = host_calls::remove(rt, beside);
 }
 
 // Serves a request with what the file holds, and answers whether the file was replaced.
-fn serve_with(request: Request, name: &[u8], beside: &[u8], fd: i32) -> bool {
-    let mut text = io::large_buffer();
-    let read = read_file(makes_file(request), name, &mut text);
+fn serve_with(
+    rt: HostRuntime,
+    request: Request,
+    name: &[u8],
+    beside: &[u8],
+    made: Option<File>,
+) -> bool {
+    let mut text = [0u8; host_calls::LARGE_ROOM];
+    let read = read_file(rt, makes_file(request), name, &mut text);
     if read.failed {
         return false;
     }
@@ -125,7 +135,7 @@ fn serve_with(request: Request, name: &[u8], beside: &[u8], fd: i32) -> bool {
     if text.len() < m {
         return false;
     }
-    serve(request, name, &text[..m], beside, fd)
+    serve(rt, request, name, &text[..m], beside, made)
 }
 
 // Whether a request may make the file.
@@ -147,26 +157,29 @@ struct Contents {
 }
 
 // Reads a file whole. One that does not exist is empty, where it may be made.
-fn read_file(makes: bool, name: &[u8], text: &mut [u8]) -> Contents {
-    let fd = os::open_read(name);
-    if fd < 0 {
-        if makes {
-            if os::errno() == libc::ENOENT {
-                return Contents {
-                    length: 0,
-                    failed: false,
-                };
+fn read_file(rt: HostRuntime, makes: bool, name: &[u8], text: &mut [u8]) -> Contents {
+    match host_calls::open_read(rt, name) {
+        Ok(file) => read_open(rt, &mut Source::Named(file), name, text),
+        Err(error) => {
+            if makes {
+                if error.kind() == ErrorKind::NotFound {
+                    return Contents {
+                        length: 0,
+                        failed: false,
+                    };
+                }
             }
+            failed(rt, name, error)
         }
-        return failed(name);
     }
-    let contents = read_open(fd, name, text);
-    libc::close(fd);
-    contents
 }
 
-fn failed(name: &[u8]) -> Contents {
-    os::fail(name);
+fn failed(rt: HostRuntime, name: &[u8], error: io::Error) -> Contents {
+    host_calls::fail(rt, name, error);
+    unread()
+}
+
+fn unread() -> Contents {
     Contents {
         length: 0,
         failed: true,
@@ -174,40 +187,42 @@ fn failed(name: &[u8]) -> Contents {
 }
 
 // Reads an open file. What a second read brings is more than a list's text has.
-fn read_open(fd: i32, name: &[u8], text: &mut [u8]) -> Contents {
-    let got = libc::read(fd, text);
-    if got < 0 {
-        return failed(name);
-    }
+fn read_open(rt: HostRuntime, file: &mut Source, name: &[u8], text: &mut [u8]) -> Contents {
+    let Some(length) = host_calls::read_or_tell(rt, file, name, text) else {
+        return unread();
+    };
     let mut more = [0u8; 1];
-    let rest = libc::read(fd, &mut more);
-    if rest < 0 {
-        return failed(name);
-    }
+    let Some(rest) = host_calls::read_or_tell(rt, file, name, &mut more) else {
+        return unread();
+    };
     if rest > 0 {
-        tell_not_settings();
-        return Contents {
-            length: 0,
-            failed: true,
-        };
+        tell_not_settings(rt);
+        return unread();
     }
     Contents {
-        length: io::count(got, text),
+        length,
         failed: false,
     }
 }
 
-fn tell_not_settings() {
+fn tell_not_settings(rt: HostRuntime) {
     let mut out = [0u8; 128];
     let end = settings_replies::put_refusal(refusal::NOT_SAVED_SETTINGS, &mut out, 0);
     if out.len() < end {
         return;
     }
-    command::complain(&out[..end]);
+    command::complain(rt, &out[..end]);
 }
 
 // Serves a request with a file's text, and answers whether the file was replaced. What is said is said once it is.
-fn serve(request: Request, name: &[u8], text: &[u8], beside: &[u8], fd: i32) -> bool {
+fn serve(
+    rt: HostRuntime,
+    request: Request,
+    name: &[u8],
+    text: &[u8],
+    beside: &[u8],
+    made: Option<File>,
+) -> bool {
     let mut file = [0u8; ROOM];
     let mut out = [0u8; ROOM];
     let served = settings_request::serve(request, text, &mut file, &mut out);
@@ -220,41 +235,40 @@ fn serve(request: Request, name: &[u8], text: &[u8], beside: &[u8], fd: i32) -> 
         return false;
     }
     if served.refused {
-        command::complain(&out[..said]);
+        command::complain(rt, &out[..said]);
         return false;
     }
     if served.changed {
-        if replace(name, &file[..end], beside, fd) {
-            say(&out[..said]);
-            return true;
+        if let Some(beside_it) = made {
+            if replace(rt, name, &file[..end], beside, beside_it) {
+                say(rt, &out[..said]);
+                return true;
+            }
         }
         return false;
     }
-    say(&out[..said]);
+    say(rt, &out[..said]);
     false
 }
 
 // Writes a text to the file beside one, which then takes its name; answers whether it was done. A failure is told, and leaves the file as it was.
-fn replace(name: &[u8], text: &[u8], beside: &[u8], fd: i32) -> bool {
-    if write_out(fd, text) {
-        return whole_file::replace(beside, name);
+fn replace(rt: HostRuntime, name: &[u8], text: &[u8], beside: &[u8], mut made: File) -> bool {
+    match write_out(&mut made, text) {
+        Ok(()) => whole_file::replace(rt, beside, name),
+        Err(error) => {
+            host_calls::fail(rt, beside, error);
+            false
+        }
     }
-    os::fail(beside);
-    false
 }
 
 // Writes a text, and waits until it has reached its device.
-fn write_out(fd: i32, text: &[u8]) -> bool {
-    if io::write_all(fd, text) {
-        return libc::fsync(fd) == 0;
-    }
-    false
+fn write_out(file: &mut File, text: &[u8]) -> io::Result<()> {
+    file.write_all(text)?;
+    file.sync_all()
 }
 
 // Writes a text to standard output, or says why it cannot.
-fn say(text: &[u8]) {
-    if io::write_all(STDOUT_FILENO, text) {
-        return;
-    }
-    os::fail(b"standard output");
+fn say(rt: HostRuntime, text: &[u8]) {
+    host_calls::print_or_tell(rt, text);
 }

@@ -6,27 +6,27 @@
 mod table;
 mod text;
 
-use libc::{STDERR_FILENO, STDIN_FILENO};
+use host_calls::Source;
 use reader_table::ReaderTable;
 use text::{end_line, say, until};
 
-fn main() {
-    let mut input = io::buffer();
-    let n = io::read_full(STDIN_FILENO, &mut input);
+fn main(rt: HostRuntime) {
+    let mut input = [0u8; host_calls::ROOM];
+    let n = host_calls::read_full(&mut Source::Standard(rt.stdin()), &mut input);
     if n == 4096 {
-        io::write_all(STDERR_FILENO, b"the input is longer than 4,095 bytes\n");
+        host_calls::complain(rt, b"the input is longer than 4,095 bytes\n");
         return;
     }
-    run(&input[..n]);
+    run(rt, &input[..n]);
 }
 
 // Each line of a text.
-fn run(text: &[u8]) {
+fn run(rt: HostRuntime, text: &[u8]) {
     let mut table = ReaderTable::empty();
     let mut start: usize = 0;
     while start < text.len() {
         let end = until(text, start, b'\n');
-        table = step(table, &text[start..end]);
+        table = step(rt, table, &text[start..end]);
         if end == text.len() {
             return;
         }
@@ -35,19 +35,19 @@ fn run(text: &[u8]) {
 }
 
 // A line: a comment; a title, with an empty table after it; or a call.
-fn step(table: ReaderTable, line: &[u8]) -> ReaderTable {
+fn step(rt: HostRuntime, table: ReaderTable, line: &[u8]) -> ReaderTable {
     if line.len() == 0 {
         return table;
     }
     match line[0] {
         b'-' => table,
-        b'#' => titled(line),
-        _ => table::call(table, line),
+        b'#' => titled(rt, line),
+        _ => table::call(rt, table, line),
     }
 }
 
-fn titled(line: &[u8]) -> ReaderTable {
-    say(line);
-    end_line();
+fn titled(rt: HostRuntime, line: &[u8]) -> ReaderTable {
+    say(rt, line);
+    end_line(rt);
     ReaderTable::empty()
 }

@@ -10,60 +10,80 @@ use stream::Answer;
 const MOST: usize = 800;
 
 // A call: the technician, a letter, a profile or a place, and what is fed.
-pub fn call(table: ReaderTable, line: &[u8]) -> ReaderTable {
+pub fn call(rt: HostRuntime, table: ReaderTable, line: &[u8]) -> ReaderTable {
     if line.len() < 3 {
         return table;
     }
-    say(line);
-    say(b": ");
+    say(rt, line);
+    say(rt, b": ");
     let technician = nibble_of(line[0]);
     let n = nibble_of(line[2]);
-    let after = asked(table, technician, line[1], n, &line[3..]);
-    end_line();
+    let after = asked(rt, table, technician, line[1], n, &line[3..]);
+    end_line(rt);
     after
 }
 
-fn asked(table: ReaderTable, technician: u8, letter: u8, n: u8, text: &[u8]) -> ReaderTable {
+fn asked(
+    rt: HostRuntime,
+    table: ReaderTable,
+    technician: u8,
+    letter: u8,
+    n: u8,
+    text: &[u8],
+) -> ReaderTable {
     let place = n as usize;
     match letter {
-        b'o' => opened(table.open_reader(technician, n)),
-        b'f' => feed(table, technician, place, text),
-        b'r' => run(table, technician, place, text),
-        b'e' => told(table.finish(technician, place)),
-        _ => told(table.close(technician, place)),
+        b'o' => opened(rt, table.open_reader(technician, n)),
+        b'f' => feed(rt, table, technician, place, text),
+        b'r' => run(rt, table, technician, place, text),
+        b'e' => told(rt, table.finish(technician, place)),
+        _ => told(rt, table.close(technician, place)),
     }
 }
 
-fn opened(o: TableOpened) -> ReaderTable {
+fn opened(rt: HostRuntime, o: TableOpened) -> ReaderTable {
     let answer = o.answer;
     match answer {
         Opening::At(place) => {
-            say(b"place ");
-            say_number(place as u64);
+            say(rt, b"place ");
+            say_number(rt, place as u64);
         }
-        Opening::Refused(number) => say_refused(number),
+        Opening::Refused(number) => say_refused(rt, number),
     }
     o.table
 }
 
 // One nibble.
-fn feed(table: ReaderTable, technician: u8, place: usize, text: &[u8]) -> ReaderTable {
+fn feed(
+    rt: HostRuntime,
+    table: ReaderTable,
+    technician: u8,
+    place: usize,
+    text: &[u8],
+) -> ReaderTable {
     if text.len() == 0 {
         return table;
     }
     let mut line = [0u8; Profile::LONGEST];
     let fed = table.feed(technician, place, nibble_of(text[0]), &mut line);
-    told(fed)
+    told(rt, fed)
 }
 
 // Nibbles in one run, as 0707 or 07*356.
-fn run(table: ReaderTable, technician: u8, place: usize, text: &[u8]) -> ReaderTable {
+fn run(
+    rt: HostRuntime,
+    table: ReaderTable,
+    technician: u8,
+    place: usize,
+    text: &[u8],
+) -> ReaderTable {
     let mut line = [0u8; Profile::LONGEST];
     let mut nibbles = [0u8; MOST];
-    run_lent(table, technician, place, text, &mut nibbles, &mut line)
+    run_lent(rt, table, technician, place, text, &mut nibbles, &mut line)
 }
 
 fn run_lent(
+    rt: HostRuntime,
     table: ReaderTable,
     technician: u8,
     place: usize,
@@ -73,12 +93,12 @@ fn run_lent(
 ) -> ReaderTable {
     let used = fill(nibbles, text);
     let ran = table.run(technician, place, &nibbles[0..used], line);
-    say(b"takes ");
-    say_number(ran.taken as u64);
-    say(b", ");
+    say(rt, b"takes ");
+    say_number(rt, ran.taken as u64);
+    say(rt, b", ");
     let table = ran.table;
     let answer = ran.answer;
-    told(TableFed { table, answer })
+    told(rt, TableFed { table, answer })
 }
 
 // Puts the nibbles of a text so many times, and once at least.
@@ -120,16 +140,16 @@ fn put(nibbles: &mut [u8], from: usize, unit: &[u8]) -> usize
 }
 
 // The table after a call, whose answer is written.
-fn told(fed: TableFed) -> ReaderTable {
+fn told(rt: HostRuntime, fed: TableFed) -> ReaderTable {
     let answer = fed.answer;
     match answer {
-        Answer::Nothing => say(b"nothing"),
+        Answer::Nothing => say(rt, b"nothing"),
         Answer::Line(facts) => {
-            say(b"line ");
-            say_number(facts.number as u64);
+            say(rt, b"line ");
+            say_number(rt, facts.number as u64);
         }
-        Answer::Gap(_) => say(b"gap"),
-        Answer::Refused(number) => say_refused(number),
+        Answer::Gap(_) => say(rt, b"gap"),
+        Answer::Refused(number) => say_refused(rt, number),
     }
     fed.table
 }

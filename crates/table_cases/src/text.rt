@@ -1,27 +1,27 @@
 // What the cases read and write.
 ghost use Rattle.std.specs.Prelude.{◌≤◌, length};
 
-use libc::STDOUT_FILENO;
+use std::io::Print;
 
 // Writes a text.
-pub fn say(text: &[u8]) {
-    io::write_all(STDOUT_FILENO, text);
+pub fn say(rt: HostRuntime, text: &[u8]) {
+    let _ = rt.stdout().write_all(text);
 }
 
 // Writes a number in decimal.
-pub fn say_number(n: u64) {
-    io::print_decimal(STDOUT_FILENO, n);
+pub fn say_number(rt: HostRuntime, n: u64) {
+    let _ = print!(rt; "{n}");
 }
 
 // Writes a refusal.
-pub fn say_refused(number: u8) {
-    say(b"REFUSED ");
-    say_number(number as u64);
+pub fn say_refused(rt: HostRuntime, number: u8) {
+    say(rt, b"REFUSED ");
+    say_number(rt, number as u64);
 }
 
 // Ends a line.
-pub fn end_line() {
-    say(b"\n");
+pub fn end_line(rt: HostRuntime) {
+    say(rt, b"\n");
 }
 
 // The place of the first such sign from a place on, or the text's end.

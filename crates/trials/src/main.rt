@@ -6,28 +6,29 @@
 
 ghost use Rattle.std.specs.Prelude.{◌≡◌, ◌≤◌, length};
 
+use host_calls::Source;
 use lent_buffer::Filled;
-use libc::{STDERR_FILENO, STDIN_FILENO, STDOUT_FILENO};
 use line_code::Kind;
 use list_frames::FrameLister;
 use profile::Profile;
+use std::io::Print;
 
 // The bytes of the largest capture: ten frames of a VV5300.
 const MOST: usize = 320000;
 
-fn main() {
-    let mut script = io::buffer();
-    let n = io::read_full(STDIN_FILENO, &mut script);
+fn main(rt: HostRuntime) {
+    let mut script = [0u8; host_calls::ROOM];
+    let n = host_calls::read_full(&mut Source::Standard(rt.stdin()), &mut script);
     if n == 4096 {
-        io::write_all(STDERR_FILENO, b"the script is longer than 4,095 bytes\n");
+        host_calls::complain(rt, b"the script is longer than 4,095 bytes\n");
         return;
     }
-    run(&script[..n]);
+    run(rt, &script[..n]);
 }
 
-fn run(script: &[u8]) {
+fn run(rt: HostRuntime, script: &[u8]) {
     let mut bytes = room();
-    follow(script, &mut bytes);
+    follow(rt, script, &mut bytes);
 }
 
 // Room for any capture.
@@ -38,12 +39,12 @@ fn room() -> [u8; MOST]
 }
 
 // Each line of a script.
-fn follow(script: &[u8], bytes: &mut [u8]) {
+fn follow(rt: HostRuntime, script: &[u8], bytes: &mut [u8]) {
     let mut at: usize = 0;
     let mut start: usize = 0;
     while start < script.len() {
         let end = line_end(script, start);
-        at = step(&script[start..end], bytes, at);
+        at = step(rt, &script[start..end], bytes, at);
         if end == script.len() {
             return;
         }
@@ -67,23 +68,23 @@ fn line_end(text: &[u8], from: usize) -> usize
 }
 
 // A line of the script, by its first letter: the place of the capture's next nibble after it. Any other line is passed over.
-fn step(line: &[u8], bytes: &mut [u8], at: usize) -> usize {
+fn step(rt: HostRuntime, line: &[u8], bytes: &mut [u8], at: usize) -> usize {
     if line.len() == 0 {
         return at;
     }
     match line[0] {
-        b'#' => titled(line),
+        b'#' => titled(rt, line),
         b'l' => put_lines(line, bytes, at),
         b'z' => put_zeros(number_at(line, 1), bytes, at),
-        b'j' => judged(sensor(number_at(line, 1)), bytes, at),
+        b'j' => judged(rt, sensor(number_at(line, 1)), bytes, at),
         _ => at,
     }
 }
 
 // A title is written; the next capture begins.
-fn titled(line: &[u8]) -> usize {
-    say(line);
-    say(b"\n");
+fn titled(rt: HostRuntime, line: &[u8]) -> usize {
+    say(rt, line);
+    say(rt, b"\n");
     0
 }
 
@@ -134,36 +135,36 @@ fn with_digit(n: usize, sign: u8) -> usize {
 }
 
 // Judges the first nibbles of some bytes, and writes the report: they stay the capture.
-fn judged(profile: Profile, bytes: &[u8], nibbles: usize) -> usize {
+fn judged(rt: HostRuntime, profile: Profile, bytes: &[u8], nibbles: usize) -> usize {
     let length = nibbles / 2;
     if length <= bytes.len() {
-        judge(profile, &bytes[..length]);
+        judge(rt, profile, &bytes[..length]);
     }
     nibbles
 }
 
-fn judge(profile: Profile, capture: &[u8]) {
-    let mut out = io::large_buffer();
-    report(profile, capture, &mut out);
+fn judge(rt: HostRuntime, profile: Profile, capture: &[u8]) {
+    let mut out = [0u8; host_calls::LARGE_ROOM];
+    report(rt, profile, capture, &mut out);
 }
 
-fn report(profile: Profile, capture: &[u8], out: &mut [u8]) {
+fn report(rt: HostRuntime, profile: Profile, capture: &[u8], out: &mut [u8]) {
     let lister = FrameLister::new(profile);
     let listed = lister.list(capture, 0, out);
-    say_front(out, listed.used);
+    say_front(rt, out, listed.used);
     let lister = listed.lister;
     let last = lister.finish(out);
-    say_front(out, last.used);
+    say_front(rt, out, last.used);
 }
 
-fn say(text: &[u8]) {
-    io::write_all(STDOUT_FILENO, text);
+fn say(rt: HostRuntime, text: &[u8]) {
+    let _ = rt.stdout().write_all(text);
 }
 
 // Writes the front of a text.
-fn say_front(text: &[u8], count: usize) {
+fn say_front(rt: HostRuntime, text: &[u8], count: usize) {
     if count <= text.len() {
-        say(&text[..count]);
+        say(rt, &text[..count]);
     }
 }
 

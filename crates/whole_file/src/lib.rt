@@ -7,7 +7,9 @@
 ghost use Rattle.std.specs.Prelude.{◌++◌, ◌≤◌, length};
 ghost use Rattle.text.specs.Put.{Puts};
 
-use libc::SEEK_END;
+use std::fs::File;
+use std::io;
+use std::io::{Seek, SeekFrom};
 use text::put;
 
 // Puts the name of the file beside one, its name with an ending, at the front of a buffer, as far as there is room.
@@ -18,71 +20,93 @@ pub fn put_beside(name: &[u8], ending: &[u8], beside: &mut [u8]) -> usize
     put(ending, beside, at)
 }
 
-// Makes a file that is not there yet, or says why it cannot: its descriptor, or -1.
-pub fn make(name: &[u8]) -> i32 {
-    let fd = os::create(name);
-    if fd < 0 {
-        os::fail(name);
+// Makes a file that is not there yet, or says why it cannot.
+pub fn make(rt: HostRuntime, name: &[u8]) -> Option<File> {
+    match host_calls::create(rt, name) {
+        Ok(file) => Some(file),
+        Err(error) => {
+            host_calls::fail(rt, name, error);
+            None
+        }
     }
-    fd
 }
 
 // Gives the file beside one its name, or says why it cannot; and whether it did.
-pub fn replace(beside: &[u8], name: &[u8]) -> bool {
-    if os::rename(beside, name) == 0 {
-        return true;
+pub fn replace(rt: HostRuntime, beside: &[u8], name: &[u8]) -> bool {
+    match host_calls::rename(rt, beside, name) {
+        Ok(()) => true,
+        Err(error) => {
+            host_calls::fail(rt, name, error);
+            false
+        }
     }
-    os::fail(name);
-    false
 }
 
-// A file that is being written: its descriptor, or -1; whether it stands beside an older one of its name, and whether it is new.
-#[derive(Clone, Copy)]
+// A file that is being written, none where it can't be; whether it stands beside an older one of its name, and whether it is new.
+#[derive(Drop)]
 pub struct Saving {
-    pub fd: i32,
+    pub file: Option<File>,
     beside: bool,
     new: bool,
 }
 
 // Opens a file to be written, or says why it cannot. An older one that holds something stays until the new one is whole: that is written
 // beside it, under its name with .part, which is made anew: where that name is taken nothing is written.
-pub fn begin(name: &[u8]) -> Saving {
-    let fd = os::create(name);
-    if fd >= 0 {
-        return Saving {
-            fd,
+pub fn begin(rt: HostRuntime, name: &[u8]) -> Saving {
+    match host_calls::create(rt, name) {
+        Ok(file) => Saving {
+            file: Some(file),
             beside: false,
             new: true,
-        };
+        },
+        Err(_) => begin_again(rt, name),
     }
-    let old = os::open_update(name);
-    if old < 0 {
-        os::fail(name);
-        return Saving {
-            fd: old,
-            beside: false,
-            new: false,
-        };
+}
+
+// The same, where the name may be taken.
+fn begin_again(rt: HostRuntime, name: &[u8]) -> Saving {
+    match host_calls::open_update(rt, name) {
+        Ok(old) => begin_over(rt, name, old),
+        Err(error) => {
+            host_calls::fail(rt, name, error);
+            Saving {
+                file: None,
+                beside: false,
+                new: false,
+            }
+        }
     }
-    if libc::lseek(old, 0, SEEK_END) > 0 {
-        libc::close(old);
+}
+
+// The same, where there is an older one.
+fn begin_over(rt: HostRuntime, name: &[u8], mut old: File) -> Saving {
+    if holds_something(old.seek(SeekFrom::End(0))) {
+        drop(old);
         return Saving {
-            fd: begin_part(name),
+            file: begin_part(rt, name),
             beside: true,
             new: true,
         };
     }
     Saving {
-        fd: old,
+        file: Some(old),
         beside: false,
         new: false,
     }
 }
 
-fn begin_part(name: &[u8]) -> i32 {
-    let mut part = io::buffer();
+// Whether a file holds something, whose end is here. One without a place holds nothing that is kept.
+fn holds_something(end: io::Result<u64>) -> bool {
+    match end {
+        Ok(place) => 0 < place,
+        Err(_) => false,
+    }
+}
+
+fn begin_part(rt: HostRuntime, name: &[u8]) -> Option<File> {
+    let mut part = [0u8; host_calls::ROOM];
     let n = put_part(name, &mut part);
-    make(&part[..n])
+    make(rt, &part[..n])
 }
 
 // Puts the name of the part at the front of a buffer.
@@ -93,26 +117,27 @@ fn put_part(name: &[u8], part: &mut [u8]) -> usize
 }
 
 // Ends a file: where it is whole it takes its name, else what was written of it goes.
-pub fn end(saving: Saving, name: &[u8], whole: bool) {
-    libc::close(saving.fd);
-    if saving.beside {
-        end_part(name, whole);
+pub fn end(rt: HostRuntime, saving: Saving, name: &[u8], whole: bool) {
+    let Saving { file, beside, new } = saving;
+    drop(file);
+    if beside {
+        end_part(rt, name, whole);
         return;
     }
     if whole {
         return;
     }
-    if saving.new {
-        os::unlink(name);
+    if new {
+        let _ = host_calls::remove(rt, name);
     }
 }
 
-fn end_part(name: &[u8], whole: bool) {
-    let mut part = io::buffer();
+fn end_part(rt: HostRuntime, name: &[u8], whole: bool) {
+    let mut part = [0u8; host_calls::ROOM];
     let n = put_part(name, &mut part);
     if whole {
-        replace(&part[..n], name);
+        replace(rt, &part[..n], name);
         return;
     }
-    os::unlink(&part[..n]);
+    let _ = host_calls::remove(rt, &part[..n]);
 }

@@ -5,43 +5,45 @@
 
 #![tactic(auto)]
 
+use command::Input;
 use command_words::{Asked, Usage};
-use libc::STDOUT_FILENO;
+use host_calls::Source;
 use mark_finder::{Finder, Located};
 use profile::Profile;
 
-fn main() {
-    let asked = words();
+fn main(rt: HostRuntime) {
+    let asked = words(rt);
     if asked.understood {
-        seek_asked(asked);
+        seek_asked(rt, asked);
     } else {
-        command::complain(b"usage: why [MARK] [vv5404|vv6404|vv5300] [FILE]\n");
+        command::complain(rt, b"usage: why [MARK] [vv5404|vv6404|vv5300] [FILE]\n");
     }
 }
 
 // Reads the arguments: a word of digits is the mark's number.
-fn words() -> Asked {
-    command::words(Usage {
-        mark: true,
-        odd: false,
-        output: false,
-        second: false,
-    })
+fn words(rt: HostRuntime) -> Asked {
+    command::words(
+        rt,
+        Usage {
+            mark: true,
+            odd: false,
+            output: false,
+            second: false,
+        },
+    )
 }
 
-fn seek_asked(asked: Asked) {
-    let mut name = io::buffer();
-    let input = command::open_capture(asked.first, &mut name);
-    if input.fd < 0 {
+fn seek_asked(rt: HostRuntime, asked: Asked) {
+    let mut name = [0u8; host_calls::ROOM];
+    let Input { source, length } = command::open_capture(rt, asked.first, &mut name);
+    let Some(mut source) = source else {
         return;
-    }
-    let length = input.length;
+    };
     if name.len() < length {
         return;
     }
     let profile = asked.profile;
-    seek_all(profile, asked.mark, input.fd, &name[..length]);
-    libc::close(input.fd);
+    seek_all(rt, profile, asked.mark, &mut source, &name[..length]);
 }
 
 // A search: the finder, whether a line was told, and whether the search has ended.
@@ -52,19 +54,22 @@ struct Search {
     ended: bool,
 }
 
-fn seek_all(profile: Profile, wanted: u64, fd: i32, name: &[u8]) {
-    let mut buf = io::large_buffer();
+fn seek_all(rt: HostRuntime, profile: Profile, wanted: u64, source: &mut Source, name: &[u8]) {
+    let mut buf = [0u8; host_calls::LARGE_ROOM];
     let mut held = [0u8; why_line::KEPT];
-    let mut out = io::large_buffer();
-    seek_in(profile, wanted, fd, name, &mut buf, &mut held, &mut out);
+    let mut out = [0u8; host_calls::LARGE_ROOM];
+    seek_in(
+        rt, profile, wanted, source, name, &mut buf, &mut held, &mut out,
+    );
 }
 
-// Searches the whole of an input, behind the finder's first piece. Nothing says that an input ends, so the loop counts its turns down, from a
-// number that no run uses up.
+// Searches the whole of an input, behind the finder's first piece. Nothing says that an input ends, so the loop counts its turns, to a number
+// that no run reaches.
 fn seek_in(
+    rt: HostRuntime,
     profile: Profile,
     wanted: u64,
-    fd: i32,
+    source: &mut Source,
     name: &[u8],
     buf: &mut [u8],
     held: &mut [u8],
@@ -78,39 +83,35 @@ fn seek_in(
     };
     let mut n = text::put(&mark_finder::FRONT, buf, 0);
     let mut from: usize = 0;
-    let mut turns = u64::MAX;
-    while turns > 0 {
-        search = seek_piece(search, wanted, buf, n, from, held, out);
+    for _ in 0..u64::MAX {
+        search = seek_piece(rt, search, wanted, buf, n, from, held, out);
         if search.ended {
             return;
         }
         mark_finder::carry(buf, n);
-        let got = read_behind(fd, buf);
-        if got < 0 {
-            os::fail(name);
+        let Some(got) = read_behind(rt, source, name, buf) else {
             return;
-        }
+        };
         if got == 0 {
-            finish(search, wanted, held, out);
+            finish(rt, search, wanted, held, out);
             return;
         }
         n = with_overlap(got, buf);
         from = 2 * mark_finder::OVERLAP;
-        turns -= 1;
     }
 }
 
-// Reads a piece, behind the bytes that it has in common with the one before.
-fn read_behind(fd: i32, buf: &mut [u8]) -> isize {
+// Reads a piece, behind the bytes that it has in common with the one before, or says why it cannot.
+fn read_behind(rt: HostRuntime, source: &mut Source, name: &[u8], buf: &mut [u8]) -> Option<usize> {
     if buf.len() < mark_finder::OVERLAP {
-        return 0;
+        return Some(0);
     }
-    libc::read(fd, &mut buf[mark_finder::OVERLAP..])
+    host_calls::read_or_tell(rt, source, name, &mut buf[mark_finder::OVERLAP..])
 }
 
 // How many bytes a piece has, with those, when a read has answered this.
-fn with_overlap(got: isize, buf: &[u8]) -> usize {
-    let n = io::count(got, buf);
+fn with_overlap(got: usize, buf: &[u8]) -> usize {
+    let n = got.min(buf.len());
     if buf.len() - n < mark_finder::OVERLAP {
         return buf.len();
     }
@@ -120,6 +121,7 @@ fn with_overlap(got: isize, buf: &[u8]) -> usize {
 // Searches the first n bytes of a buffer, mark after mark, from a nibble's place on. The lines on them are collected, and written when the buffer for
 // them may have no room for one more, and at the end.
 fn seek_piece(
+    rt: HostRuntime,
     search: Search,
     wanted: u64,
     buf: &[u8],
@@ -140,7 +142,7 @@ fn seek_piece(
         let found = finder.find(piece, at, held);
         let next = later(at, found.taken);
         if next <= at {
-            write_front(out, used);
+            write_front(rt, out, used);
             return end(finder, told);
         }
         at = next;
@@ -148,16 +150,16 @@ fn seek_piece(
         if found.answered {
             let mark = found.mark;
             if mark_finder::is_wanted(mark, wanted) {
-                used = tell(mark, held, found.length, out, used);
+                used = tell(rt, mark, held, found.length, out, used);
                 told = 0 < used;
                 if is_last(told, wanted) {
-                    write_front(out, used);
+                    write_front(rt, out, used);
                     return end(finder, told);
                 }
             }
         }
     }
-    if write_front(out, used) {
+    if write_front(rt, out, used) {
         let finder = finder.end_piece(piece, held);
         return Search {
             finder,
@@ -196,38 +198,45 @@ fn is_last(told: bool, wanted: u64) -> bool {
 }
 
 // Tells the last mark, where it is asked for. Where nothing was told, says so.
-fn finish(search: Search, wanted: u64, held: &[u8], out: &mut [u8]) {
+fn finish(rt: HostRuntime, search: Search, wanted: u64, held: &[u8], out: &mut [u8]) {
     let finder = search.finder;
     let mark = finder.finish();
     if mark_finder::is_wanted(mark, wanted) {
-        let used = tell(mark, held, finder.length, out, 0);
-        write_front(out, used);
+        let used = tell(rt, mark, held, finder.length, out, 0);
+        write_front(rt, out, used);
         return;
     }
     if search.told {
         return;
     }
     if mark.number == 0 {
-        command::complain(b"the capture has no mark\n");
+        command::complain(rt, b"the capture has no mark\n");
         return;
     }
     if wanted == 0 {
-        command::complain(b"no mark of the capture is refused\n");
+        command::complain(rt, b"no mark of the capture is refused\n");
     } else {
-        command::complain(b"the capture has no mark of that number\n");
+        command::complain(rt, b"the capture has no mark of that number\n");
     }
 }
 
 // Puts the line on a mark, whose bytes are the first n of those held, behind the lines collected, and gives how many bytes are collected then.
 // Where there may be no room for it, those are written first. 0 where that fails.
-fn tell(mark: Located, held: &[u8], n: usize, out: &mut [u8], used: usize) -> usize {
+fn tell(
+    rt: HostRuntime,
+    mark: Located,
+    held: &[u8],
+    n: usize,
+    out: &mut [u8],
+    used: usize,
+) -> usize {
     if held.len() < n {
         return 0;
     }
     if has_room(out.len(), used) {
         return put_line(mark, &held[..n], out, used);
     }
-    if write_front(out, used) {
+    if write_front(rt, out, used) {
         return put_line(mark, &held[..n], out, 0);
     }
     0
@@ -253,13 +262,9 @@ fn put_line(mark: Located, bytes: &[u8], out: &mut [u8], at: usize) -> usize {
 }
 
 // Writes the first n bytes of a buffer, or says why it cannot.
-fn write_front(buf: &[u8], n: usize) -> bool {
+fn write_front(rt: HostRuntime, buf: &[u8], n: usize) -> bool {
     if buf.len() < n {
         return false;
     }
-    let is_written = io::write_all(STDOUT_FILENO, &buf[..n]);
-    if !is_written {
-        os::fail(b"standard output");
-    }
-    is_written
+    host_calls::print_or_tell(rt, &buf[..n])
 }

@@ -1,5 +1,4 @@
 -- What all arguments ask for some words do.
-use borrow.Author.Rules.{rules}
 use Rattle.command.proofs.words.Goals as goal
 
 pub returns : goal.returns

@@ -1,8 +1,6 @@
--- The arguments below i have been read; each turn reads one more, and those left fall.
-use Prim.Native.Nat.{◌-◌, ◌≤◌}
-use native.Mathlib.Omega.{arith}
-use borrow.Author.Rules.{rules}
-use Rattle.command.specs.ArgumentsLaws.{ReadBelow, none_read, one_read, all_read}
+-- The arguments below i have been read; each turn reads one more.
+use Rattle.std.proofs.Common.{arith}
+use Rattle.command.specs.ArgumentsLaws.{none_read, one_read, all_read}
 use Rattle.command.proofs.words_below.Goals as goal
 
 pub loop-i-init : goal.loop-i-init

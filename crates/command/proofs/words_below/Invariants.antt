@@ -1,8 +1,6 @@
 -- The arguments below i have been read; each turn reads one more, and those left fall.
-use Prim.Native.Nat.{◌-◌, ◌≤◌}
-use native.Mathlib.Omega.{arith}
-use borrow.Author.Rules.{rules}
-use Rattle.command.specs.ArgumentsLaws.{ReadBelow, none_read, one_read, all_read}
+use Rattle.std.proofs.Common.{◌-◌, ◌≤◌}
+use Rattle.command.specs.ArgumentsLaws.{ReadBelow}
 use Rattle.command.proofs.words_below.Given as goal
 
 abbrev pub invariant-loop-i : goal.invariant-loop-i
