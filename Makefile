@@ -1,8 +1,8 @@
-# make                 proves and builds: programs, archives, the shared library, man pages. Some 20 minutes on two cores, once
+# make                 proves and builds: programs, archives, the shared library, man pages. Some 20 minutes on two cores, once (by the older Rattle)
 # make install         installs below PREFIX, /usr/local where none is given: make install PREFIX=~/.local; DESTDIR is put before it
 # make uninstall       removes what install installed, by the same PREFIX and DESTDIR
 #
-# It needs the Rattle toolchain (rt), bash and gcc with binutils. What is proved and unchanged is not proved again.
+# It needs the Rattle toolchain (rt), bash, python3 and gcc with binutils. What is proved and unchanged is not proved again.
 SHELL := /bin/bash
 .SHELLFLAGS := -euo pipefail -c
 .DELETE_ON_ERROR:
@@ -16,27 +16,29 @@ to := $(DESTDIR)$(PREFIX)
 
 version := $(shell cat VERSION)
 soname := libfluturenc.so.$(firstword $(subst ., ,$(version)))
-# A word of the command is a program, and has its page in help/. A group of calls is a crate, and has its archive.
+# A word of the command is a program, and has its page in help/. A group of calls is a crate, whose archive is that of the static library NAME_c.
 words := $(filter-out fluturenc,$(basename $(notdir $(wildcard help/*.txt))))
-groups := $(shell sed -n '/_laws:/d; s/^\(fluturenc[a-z_]*\):.*/\1/p' crates.txt)
-sources := crates.txt $(shell find crates -type f -not -path '*/must-fail/*')
+groups := $(shell sed -n 's/^\(fluturenc[a-z_]*\)_c staticlib:.*/\1/p' crates.txt)
+sources := crates.txt HANDLES $(shell find crates -type f -not -path '*/must-fail/*' -not -path 'crates/*/out/*')
 programs := $(words:%=target/bin/%)
 archives := $(groups:%=target/staticlib/lib%.a)
 shared := target/shared/libfluturenc.so.$(version)
 pages := $(patsubst help/%.txt,target/man/%.1,$(wildcard help/*.txt))
 
 .PHONY: all proved archives install uninstall
-all: proved archives $(shared) $(pages)
+all: proved $(programs) archives $(shared) $(pages)
 proved: target/make/proved
 archives: $(archives)
 
-target/make/proved: $(sources)
+target/make/proved: $(sources) bin/build
 	@mkdir -p $(@D)
-	rt check $(words) $(groups) 2>&1 | tee target/make/log | grep --line-buffered '^rt:'
+	bin/build $(words) $(groups) 2>&1 | tee target/make/log | grep --line-buffered '^rt: \|^bin/build: \|^built '
 	@touch $@
 
-target/staticlib/lib%.a: target/make/proved c/archive
-	@c/archive $*
+# The rule above makes each of these: here one that was removed since.
+$(programs) $(archives): target/make/proved
+	@[ -f $@ ] || bin/build $(patsubst lib%.a,%,$(@F))
+	@touch $@
 
 target/man/%.1: help/%.txt help/man.awk VERSION
 	@mkdir -p $(@D)

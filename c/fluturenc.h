@@ -1,6 +1,6 @@
 /* Fluturenc for C: reads, writes and judges the digital video bus of VV5404 and VV6404 sensors (profile 0) and of VV5300 sensors in 8-bit conversion
  * (profile 1), and what goes with it, a group of calls after another. The functions are proved in Rattle. Each group has a crate of its own, named
- * at its head: crates/CRATE/src/lib.rt has the contracts, and `rt staticlib CRATE` writes target/staticlib/libCRATE.a to link, for x86-64. An archive
+ * at its head: crates/CRATE/src/lib.rt has the contracts, and `bin/build CRATE` writes target/staticlib/libCRATE.a to link, for x86-64. An archive
  * needs no other. Nothing checks these declarations against that source.
  *
  * Buffers are lent: no call keeps a pointer or allocates. No pointer may be null, and no two buffers of a call may overlap. Nothing is

@@ -1,4 +1,4 @@
-//! Links the proved code: every archive libfluturenc*.a of the folder that FLUTURENC_LIBS names, or of the one that `rt staticlib` writes to.
+//! Links the proved code: every archive libfluturenc*.a of the folder that FLUTURENC_LIBS names, or of the one that bin/build writes to.
 
 use std::env;
 use std::path::PathBuf;

@@ -59,6 +59,7 @@ const PLACES: u32 = 0x1_0000;
 pub const JUDGES: u32 = 3 * PLACES;
 
 // The judge that a number stands for.
+#[tactic(auto, unfolding(crate::specs::CallNumbers::judge_numbered))]
 pub fn judge_numbered(n: u32) -> Judge
     ensures { result ≡ judge_numbered n }
 {

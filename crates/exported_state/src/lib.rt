@@ -29,6 +29,7 @@ const NO_MARK: u8 = 6;
 const GREATEST_MARK: u8 = 11;
 
 // Whether the bytes hold a reader that passes its own test.
+#[tactic(auto, unfolding(crate::specs::State::holds_reader, crate::specs::State::held_head))]
 pub fn holds_reader(state: &[u8]) -> bool
     ensures { result ≡ holds_reader state.now }
 {
@@ -42,6 +43,7 @@ pub fn holds_reader(state: &[u8]) -> bool
 }
 
 // Whether these are numbers of a profile, of an open mark and of a bool.
+#[tactic(auto, unfolding(crate::specs::State::tagged))]
 pub fn is_tagged(profile: u8, mark: u8, stray: u8) -> bool
     ensures { result ≡ tagged profile mark stray }
 {
@@ -55,6 +57,7 @@ pub fn is_tagged(profile: u8, mark: u8, stray: u8) -> bool
 }
 
 // The head that bytes hold; a fresh reader's where they are too few for a state.
+#[tactic(auto, unfolding(crate::specs::State::held_head, crate::specs::State::head_in))]
 pub fn head_in(state: &[u8]) -> Head
     ensures { result ≡ held_head state.now }
 {
@@ -114,6 +117,7 @@ fn number_of(a: u8, b: u8, c: u8, d: u8) -> u32
 }
 
 // A head's bytes.
+#[tactic(auto, unfolding(crate::specs::State::head_bytes))]
 pub fn head_bytes(h: Head) -> [u8; 14]
     ensures { result ≡ head_bytes h }
 {
@@ -141,6 +145,7 @@ pub fn head_bytes(h: Head) -> [u8; 14]
 }
 
 // Puts a head's bytes at the front of a state; where there are fewer, nothing.
+#[tactic(auto, unfolding(crate::specs::State::head_stored))]
 pub fn store_head(h: Head, state: &mut [u8])
     ensures { state.new ≡ head_stored h state.old }
 {
@@ -148,7 +153,7 @@ pub fn store_head(h: Head, state: &mut [u8])
         return;
     }
     let head = head_bytes(h);
-    bytes::copy(&head, state);
+    state[..HEAD].copy_from_slice(&head);
 }
 
 fn profile_number(p: Profile) -> u8

@@ -19,6 +19,8 @@
 // above 15 stops it before that place with 10. Finish is refused 11. Refused calls change nothing, but that what stood before a 10 is taken.
 //
 // A state is moved and copied as bytes: crate exported_state has its layout. A judge is a number, 0 when fresh. For C: c/fluturenc.h.
+//
+// Crate fluturenc_c exports these functions under their names, for C and Rust.
 
 #![tactic(auto)]
 
@@ -38,16 +40,15 @@ const STATE: usize = exported_state::LENGTH;
 const HEAD: usize = exported_state::HEAD;
 
 // The bytes of a reader's state.
-#[unsafe(no_mangle)]
-pub extern "C" fn fluturenc_state_length() -> usize
+pub fn fluturenc_state_length() -> usize
     ensures { result ≡ state_length }
 {
     STATE
 }
 
 // Puts a fresh reader of the profile with this number into the state. Refused: 11, 12, in this order.
-#[unsafe(no_mangle)]
-pub extern "C" fn fluturenc_open(profile: u8, state: &mut [u8]) -> u8
+#[tactic(auto, unfolding(crate::specs::Calls::open_call))]
+pub fn fluturenc_open(profile: u8, state: &mut [u8]) -> u8
     ensures { StateGives (open_call profile state.old) result state.new }
 {
     let Numbered::Profile(p) = Profile::numbered(profile) else {
@@ -63,13 +64,8 @@ pub extern "C" fn fluturenc_open(profile: u8, state: &mut [u8]) -> u8
 
 // Feeds nibbles until one brings an answer or none is left. Refused: 11, 12, in this order, and then by place 10. The reader's run is lent
 // the body where it stands in the state, so that no call copies it; a call that takes nothing leaves every byte of the state as it was.
-#[unsafe(no_mangle)]
-pub extern "C" fn fluturenc_feed(
-    state: &mut [u8],
-    nibbles: &[u8],
-    line: &mut [u8],
-    taken: &mut usize,
-) -> u64
+#[tactic(auto, unfolding(crate::specs::Calls::feed_call, exported_state::specs::State::holds_reader))]
+pub fn fluturenc_feed(state: &mut [u8], nibbles: &[u8], line: &mut [u8], taken: &mut usize) -> u64
     ensures { FeedCallGives (feed_call state.old nibbles.now line.old) result taken.new state.new line.new }
 {
     *taken = 0;
@@ -91,8 +87,8 @@ pub extern "C" fn fluturenc_feed(
 }
 
 // Answers the last mark, if there is one, and leaves a fresh reader. Refused: 11.
-#[unsafe(no_mangle)]
-pub extern "C" fn fluturenc_finish(state: &mut [u8]) -> u64
+#[tactic(auto, unfolding(crate::specs::Calls::finish_call))]
+pub fn fluturenc_finish(state: &mut [u8]) -> u64
     ensures { StateGives (finish_call state.old) result state.new }
 {
     if exported_state::holds_reader(state) {
@@ -107,8 +103,7 @@ pub extern "C" fn fluturenc_finish(state: &mut [u8]) -> u64
 }
 
 // Writes one line's nibbles. Refused: 11, 13, 14, 15, 16, 17, 12, in this order.
-#[unsafe(no_mangle)]
-pub extern "C" fn fluturenc_write(
+pub fn fluturenc_write(
     profile: u8,
     kind: u8,
     number: u16,
@@ -126,8 +121,8 @@ pub extern "C" fn fluturenc_write(
 }
 
 // Judges one line of a profile 0 frame, or a broken one. Refused, and then the judge stays as it was: 11, 13, 14, in this order.
-#[unsafe(no_mangle)]
-pub extern "C" fn fluturenc_judge(judge: &mut u32, kind: u8, number: u16) -> u8
+#[tactic(auto, unfolding(crate::specs::Calls::judge_call))]
+pub fn fluturenc_judge(judge: &mut u32, kind: u8, number: u16) -> u8
     ensures { JudgeGives (judge_call judge.old kind number) result judge.new }
 {
     let n = *judge;
@@ -150,7 +145,7 @@ fn reader_in(state: &[u8]) -> Reader
 {
     let head = exported_state::head_in(state);
     let mut body = [0; Profile::LONGEST];
-    bytes::copy(&state[HEAD..STATE], &mut body);
+    body.copy_from_slice(&state[HEAD..STATE]);
     Reader { head, body }
 }
 
@@ -162,5 +157,5 @@ fn store(r: Reader, state: &mut [u8])
     let head = r.head;
     let body = r.body;
     exported_state::store_head(head, state);
-    bytes::copy(&body, &mut state[HEAD..STATE]);
+    state[HEAD..STATE].copy_from_slice(&body);
 }

@@ -5,6 +5,8 @@
 // that the next call goes on at the place plus that. From a place past the end on there are no nibbles. Refused: 11, 12, in this order, with
 // nothing taken; never 10. No two slices of a call may overlap, and nothing is asked of what they hold.
 // Cost: linear in the nibbles taken. For C: c/fluturenc.h.
+//
+// Crate fluturenc_bytes_c exports this function under its name, for C and Rust.
 
 #![tactic(auto)]
 
@@ -19,8 +21,8 @@ const HEAD: usize = exported_state::HEAD;
 
 // Feeds the nibbles of bytes from a place on, which is counted in nibbles, until one brings an answer or none is left. Refused: 11, 12, in this
 // order. The run is lent the body where it stands in the state; a call that takes nothing leaves every byte of the state as it was.
-#[unsafe(no_mangle)]
-pub extern "C" fn fluturenc_feed_bytes(
+#[tactic(auto, unfolding(fluturenc::specs::Calls::feed_call, exported_state::specs::State::holds_reader))]
+pub fn fluturenc_feed_bytes(
     state: &mut [u8],
     bytes: &[u8],
     from: usize,

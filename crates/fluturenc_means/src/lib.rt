@@ -5,6 +5,8 @@
 // It takes numbers, a line's body (in C a pointer and then a length), and four places (pointers): for the exact mean of image places 16 to 79, and of
 // 80 to 143, and for the signed difference of the sensor's mean, first or second, from each: 64 times the byte minus the sum. The answer is 0; or the
 // refusal, and the four places stay as they were.
+//
+// Crate fluturenc_means_c exports this function under its name, for C and Rust.
 
 #![tactic(auto)]
 
@@ -15,8 +17,7 @@ use half_means::Halves;
 
 // The means of a line's two halves, and their differences from the sensor's. Refused: 11 no VV5300, 23 not a visible line, 15 the body's length, 16 a
 // body byte or a mean that is not allowed, in this order.
-#[unsafe(no_mangle)]
-pub extern "C" fn fluturenc_half_means(
+pub fn fluturenc_half_means(
     profile: u8,
     kind: u8,
     body: &[u8],

@@ -8,6 +8,8 @@
 //   fluturenc_picture_read(file, rows, written)        the rows of such a file: 20, 21, 22, 12
 //   fluturenc_to_pixels(kind, body, pixels, written)   the pixels of a line whose head sends odd ones first: 23, 15, 12
 //   fluturenc_to_body(kind, pixels, body, written)     the body that such a head sends of these pixels: 23, 15, 12
+//
+// Crate fluturenc_picture_c exports these functions under their names, for C and Rust.
 
 #![tactic(auto)]
 
@@ -18,8 +20,7 @@ ghost use Rattle.pixel_order.specs.PixelOrder.{reorder_of};
 ghost use Rattle.pixel_order.specs.declared.Way.TheVariants.{ToPixels, ToBody};
 
 // The file of these rows. Refused: 21 length of the rows, 22 pixel not 01 to FE, 12 room, in this order.
-#[unsafe(no_mangle)]
-pub extern "C" fn fluturenc_picture_write(rows: &[u8], file: &mut [u8], written: &mut usize) -> u8
+pub fn fluturenc_picture_write(rows: &[u8], file: &mut [u8], written: &mut usize) -> u8
     ensures { WriteGives (write_of rows.now (length file.old)) result written.new file.old file.new }
 {
     let filled = pgm::write(rows, file);
@@ -27,8 +28,7 @@ pub extern "C" fn fluturenc_picture_write(rows: &[u8], file: &mut [u8], written:
 }
 
 // The rows of this file. Refused: 20 header, 21 length of the file, 22 pixel not 01 to FE, 12 room, in this order.
-#[unsafe(no_mangle)]
-pub extern "C" fn fluturenc_picture_read(file: &[u8], rows: &mut [u8], written: &mut usize) -> u8
+pub fn fluturenc_picture_read(file: &[u8], rows: &mut [u8], written: &mut usize) -> u8
     ensures { WriteGives (read_of file.now (length rows.old)) result written.new rows.old rows.new }
 {
     let filled = pgm::read(file, rows);
@@ -36,13 +36,7 @@ pub extern "C" fn fluturenc_picture_read(file: &[u8], rows: &mut [u8], written: 
 }
 
 // The pixels of a body, in their order. Refused: 23 not a visible line, 15 length of the body, 12 room, in this order.
-#[unsafe(no_mangle)]
-pub extern "C" fn fluturenc_to_pixels(
-    kind: u8,
-    body: &[u8],
-    pixels: &mut [u8],
-    written: &mut usize,
-) -> u8
+pub fn fluturenc_to_pixels(kind: u8, body: &[u8], pixels: &mut [u8], written: &mut usize) -> u8
     ensures { WriteGives (reorder_of ToPixels kind body.now (length pixels.old)) result written.new pixels.old pixels.new }
 {
     let filled = pixel_order::to_pixels(kind, body, pixels);
@@ -50,13 +44,7 @@ pub extern "C" fn fluturenc_to_pixels(
 }
 
 // The body that sends these pixels. Refused: 23 not a visible line, 15 length of the pixels, 12 room, in this order.
-#[unsafe(no_mangle)]
-pub extern "C" fn fluturenc_to_body(
-    kind: u8,
-    pixels: &[u8],
-    body: &mut [u8],
-    written: &mut usize,
-) -> u8
+pub fn fluturenc_to_body(kind: u8, pixels: &[u8], body: &mut [u8], written: &mut usize) -> u8
     ensures { WriteGives (reorder_of ToBody kind pixels.now (length body.old)) result written.new body.old body.new }
 {
     let filled = pixel_order::to_body(kind, pixels, body);

@@ -12,6 +12,8 @@
 //
 // A list is moved and copied as bytes: eight places of 8 bytes, the used ones first, oldest first. A place is a setting's version, fine and coarse
 // exposure, each in two bytes, high byte first, its gain code and its clock divisor. Version 0 marks an unused place, so a fresh list is all 0.
+//
+// Crate fluturenc_settings_c exports these functions under their names, for C and Rust.
 
 #![tactic(auto)]
 
@@ -34,16 +36,15 @@ const HALF: usize = 32;
 const LIST: usize = 64;
 
 // The bytes of a list.
-#[unsafe(no_mangle)]
-pub extern "C" fn fluturenc_settings_length() -> usize
+pub fn fluturenc_settings_length() -> usize
     ensures { result ≡ list_size }
 {
     LIST
 }
 
 // Saves a setting, fine and coarse exposure clipped. Refused: 37 not a list of 64 bytes in order, 29 gain, divisor or frame rate, 31 no version left.
-#[unsafe(no_mangle)]
-pub extern "C" fn fluturenc_settings_save(
+#[tactic(auto, unfolding(crate::specs::SavedBytes::list_in))]
+pub fn fluturenc_settings_save(
     list: &mut [u8],
     fine: u16,
     coarse: u16,
@@ -71,8 +72,7 @@ pub extern "C" fn fluturenc_settings_save(
 }
 
 // Puts the setting under a version at the front of what is lent for it. Refused: 37, 30 version not held, 12 fewer than eight bytes are lent.
-#[unsafe(no_mangle)]
-pub extern "C" fn fluturenc_settings_find(list: &[u8], version: u16, setting: &mut [u8]) -> u8
+pub fn fluturenc_settings_find(list: &[u8], version: u16, setting: &mut [u8]) -> u8
     ensures { StateGives (found_call (found_in (list_in list.now) version) setting.old) result setting.new }
 {
     let found = held_in(list, version);
@@ -91,8 +91,8 @@ pub extern "C" fn fluturenc_settings_find(list: &[u8], version: u16, setting: &m
 }
 
 // Saves a copy of the setting under a version, as it was saved then. Refused: 37, 30, 31.
-#[unsafe(no_mangle)]
-pub extern "C" fn fluturenc_settings_back(list: &mut [u8], version: u16, new: &mut u16) -> u8
+#[tactic(auto, unfolding(crate::specs::SavedBytes::list_in))]
+pub fn fluturenc_settings_back(list: &mut [u8], version: u16, new: &mut u16) -> u8
     ensures { SaveGives (saved_again (list_in list.old) version) result new.new list.old list.new }
 {
     if list.len() == LIST {
@@ -105,8 +105,7 @@ pub extern "C" fn fluturenc_settings_back(list: &mut [u8], version: u16, new: &m
 }
 
 // Writes the two-wire messages that write the setting under a version to a sensor's registers, 18 bytes. Refused: 37, 30, 12.
-#[unsafe(no_mangle)]
-pub extern "C" fn fluturenc_settings_messages(
+pub fn fluturenc_settings_messages(
     list: &[u8],
     version: u16,
     messages: &mut [u8],
@@ -135,6 +134,7 @@ fn put_found(found: Held, messages: &mut [u8]) -> Filled
 }
 
 // The setting under a version of a list in bytes.
+#[tactic(auto, unfolding(crate::specs::SavedBytes::list_in))]
 fn held_in(list: &[u8], version: u16) -> Held
     ensures { held_reply result ≡ found_in (list_in list.now) version }
 {
@@ -219,6 +219,7 @@ fn four_at(list: &[u8], at: usize) -> FourPlaces
 }
 
 // The setting whose bytes start at a byte.
+#[tactic(auto, unfolding(crate::specs::SavedBytes::front_setting))]
 fn setting_at(list: &[u8], at: usize) -> SavedSetting
     requires { at + place_size ≤ length list.now }
     ensures { result ≡ front_setting (drop at list.now) }

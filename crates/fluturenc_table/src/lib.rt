@@ -9,6 +9,8 @@
 //
 // 11 comes first where the bytes are fewer than a table's. Refused calls change nothing, but that what stood before a 10 is taken. A place is
 // its owner's byte and a reader's state as crate fluturenc has it, and each call works on that in place.
+//
+// Crate fluturenc_table_c exports these functions under their names, for C and Rust.
 
 #![tactic(auto)]
 
@@ -33,16 +35,15 @@ const COUNT: usize = reader_table::PLACES;
 const NOBODY: u8 = 0;
 
 // The bytes of a table.
-#[unsafe(no_mangle)]
-pub extern "C" fn fluturenc_table_length() -> usize
+pub fn fluturenc_table_length() -> usize
     ensures { result ≡ table_length }
 {
     TABLE
 }
 
 // A table of free places. Refused: 12.
-#[unsafe(no_mangle)]
-pub extern "C" fn fluturenc_table_new(table: &mut [u8]) -> u8
+#[tactic(auto, unfolding(crate::specs::TableCalls::new_table))]
+pub fn fluturenc_table_new(table: &mut [u8]) -> u8
     ensures { StateGives (new_table table.old) result table.new }
 {
     if table.len() < TABLE {
@@ -53,8 +54,8 @@ pub extern "C" fn fluturenc_table_new(table: &mut [u8]) -> u8
 }
 
 // Gives the lowest free place to a technician, with a fresh reader of the profile with this number.
-#[unsafe(no_mangle)]
-pub extern "C" fn fluturenc_table_open(table: &mut [u8], technician: u8, profile: u8) -> u8
+#[tactic(auto, unfolding(crate::specs::TableCalls::open_table))]
+pub fn fluturenc_table_open(table: &mut [u8], technician: u8, profile: u8) -> u8
     ensures { StateGives (open_table table.old technician profile) result table.new }
 {
     if table.len() < TABLE {
@@ -72,8 +73,8 @@ pub extern "C" fn fluturenc_table_open(table: &mut [u8], technician: u8, profile
 }
 
 // Feeds nibbles to the reader of a place until one brings an answer or none is left.
-#[unsafe(no_mangle)]
-pub extern "C" fn fluturenc_table_feed(
+#[tactic(auto, unfolding(crate::specs::TableCalls::feed_table, crate::specs::TableBytes::state_at, crate::specs::TableBytes::with_state, crate::specs::TableBytes::place_start))]
+pub fn fluturenc_table_feed(
     table: &mut [u8],
     technician: u8,
     place: usize,
@@ -93,8 +94,8 @@ pub extern "C" fn fluturenc_table_feed(
 }
 
 // Answers the last mark of a place, and leaves it a fresh reader; the place stays its technician's.
-#[unsafe(no_mangle)]
-pub extern "C" fn fluturenc_table_finish(table: &mut [u8], technician: u8, place: usize) -> u64
+#[tactic(auto, unfolding(crate::specs::TableCalls::finish_table, crate::specs::TableBytes::state_at, crate::specs::TableBytes::with_state, crate::specs::TableBytes::place_start))]
+pub fn fluturenc_table_finish(table: &mut [u8], technician: u8, place: usize) -> u64
     ensures { StateGives (finish_table table.old technician place) result table.new }
 {
     let n = denial_at(table, technician, place);
@@ -106,8 +107,8 @@ pub extern "C" fn fluturenc_table_finish(table: &mut [u8], technician: u8, place
 }
 
 // Frees a place.
-#[unsafe(no_mangle)]
-pub extern "C" fn fluturenc_table_close(table: &mut [u8], technician: u8, place: usize) -> u8
+#[tactic(auto, unfolding(crate::specs::TableCalls::close_table, crate::specs::TableBytes::place_start))]
+pub fn fluturenc_table_close(table: &mut [u8], technician: u8, place: usize) -> u8
     ensures { StateGives (close_table table.old technician place) result table.new }
 {
     let n = denial_at(table, technician, place);
@@ -119,6 +120,7 @@ pub extern "C" fn fluturenc_table_close(table: &mut [u8], technician: u8, place:
 }
 
 // What a technician is refused of a place; 0 where it is theirs.
+#[tactic(auto, unfolding(crate::specs::TableBytes::denial_at, crate::specs::TableBytes::owner_at, crate::specs::TableBytes::place_start))]
 fn denial_at(table: &[u8], technician: u8, place: usize) -> u8
     ensures { result ≡ denial_at table.now technician place }
 {
@@ -131,6 +133,7 @@ fn denial_at(table: &[u8], technician: u8, place: usize) -> u8
     technician::denial(technician, NOBODY)
 }
 
+#[tactic(auto, unfolding(crate::specs::TableCalls::open_lowest, crate::specs::TableCalls::opened_at, crate::specs::TableBytes::state_at, crate::specs::TableBytes::with_state, crate::specs::TableBytes::place_start))]
 fn open_lowest(table: &mut [u8], technician: u8, profile: u8) -> u8
     requires { table_length ≤ length table.old }
     ensures { StateGives (open_lowest table.old technician profile (lowest_from place_count 0 table.old)) result table.new }
@@ -146,6 +149,7 @@ fn open_lowest(table: &mut [u8], technician: u8, profile: u8) -> u8
 }
 
 // The lowest free place; the count of places where all are taken.
+#[tactic(auto, unfolding(crate::specs::TableBytes::place_start))]
 fn lowest_free(table: &[u8]) -> usize
     requires { table_length ≤ length table.now }
     ensures { result ≡ lowest_from place_count 0 table.now }
@@ -160,6 +164,7 @@ fn lowest_free(table: &[u8]) -> usize
     i
 }
 
+#[tactic(auto, unfolding(crate::specs::TableBytes::place_start))]
 fn free_all(table: &mut [u8])
     requires { table_length ≤ length table.old }
     ensures { table.new ≡ places_freed place_count table.old }

@@ -10,6 +10,8 @@
 //   fluturenc_messages(pairs, messages, written)         a message for each pair of index and value: 24, 28, 12
 //
 // A sensor's state is moved and copied as bytes: 128 registers, the current index, and 1 where the increment flag is set, else 0.
+//
+// Crate fluturenc_two_wire_c exports these functions under their names, for C and Rust.
 
 #![tactic(auto)]
 
@@ -28,16 +30,15 @@ const FLAG: usize = 129;
 const LENGTH: usize = 130;
 
 // The bytes of a sensor's state.
-#[unsafe(no_mangle)]
-pub extern "C" fn fluturenc_sensor_length() -> usize
+pub fn fluturenc_sensor_length() -> usize
     ensures { result ≡ sensor_length }
 {
     LENGTH
 }
 
 // Puts a fresh sensor into the state. Refused: 12.
-#[unsafe(no_mangle)]
-pub extern "C" fn fluturenc_sensor_reset(sensor: &mut [u8]) -> u8
+#[tactic(auto, unfolding(crate::specs::SensorBytes::reset_call))]
+pub fn fluturenc_sensor_reset(sensor: &mut [u8]) -> u8
     ensures { StateGives (reset_call sensor.old) result sensor.new }
 {
     if sensor.len() < LENGTH {
@@ -50,8 +51,8 @@ pub extern "C" fn fluturenc_sensor_reset(sensor: &mut [u8]) -> u8
 
 // Takes one message, the list of its acknowledged bytes. Refused: 11 the bytes hold no sensor, then 24, 25, 26, 27, 28 as crate two_wire
 // has them, in this order.
-#[unsafe(no_mangle)]
-pub extern "C" fn fluturenc_sensor_message(sensor: &mut [u8], message: &[u8]) -> u8
+#[tactic(auto, unfolding(crate::specs::SensorBytes::message_call))]
+pub fn fluturenc_sensor_message(sensor: &mut [u8], message: &[u8]) -> u8
     ensures { StateGives (message_call sensor.old message.now) result sensor.new }
 {
     if holds_sensor(sensor) {
@@ -74,8 +75,7 @@ pub extern "C" fn fluturenc_sensor_message(sensor: &mut [u8], message: &[u8]) ->
 
 // Writes a message for each pair, index and value, of the list. Refused: 24 a list that ends within a pair, 28 an index above 127, 12 room,
 // in this order.
-#[unsafe(no_mangle)]
-pub extern "C" fn fluturenc_messages(pairs: &[u8], messages: &mut [u8], written: &mut usize) -> u8
+pub fn fluturenc_messages(pairs: &[u8], messages: &mut [u8], written: &mut usize) -> u8
     ensures { WriteGives (write_of pairs.now (length messages.old)) result written.new messages.old messages.new }
 {
     let filled = two_wire_write::write(pairs, messages);
@@ -83,6 +83,7 @@ pub extern "C" fn fluturenc_messages(pairs: &[u8], messages: &mut [u8], written:
 }
 
 // Whether the bytes hold a sensor: their length, an index up to 127, and a flag.
+#[tactic(auto, unfolding(crate::specs::SensorBytes::holds_sensor))]
 fn holds_sensor(sensor: &[u8]) -> bool
     ensures { result ≡ holds_sensor sensor.now }
 {
@@ -95,12 +96,13 @@ fn holds_sensor(sensor: &[u8]) -> bool
     sensor[FLAG] <= 1
 }
 
+#[tactic(auto, unfolding(crate::specs::SensorBytes::sensor_in))]
 fn sensor_in(sensor: &[u8]) -> Sensor
     requires { sensor_length ≤ length sensor.now }
     ensures { result ≡ sensor_in sensor.now }
 {
     let mut registers = [0u8; 128];
-    bytes::copy(&sensor[..INDEX], &mut registers);
+    registers.copy_from_slice(&sensor[..INDEX]);
     Sensor {
         registers,
         index: sensor[INDEX],
@@ -109,12 +111,13 @@ fn sensor_in(sensor: &[u8]) -> Sensor
 }
 
 // Puts a sensor into the state.
+#[tactic(auto, unfolding(crate::specs::SensorBytes::with_sensor))]
 fn store(s: Sensor, sensor: &mut [u8])
     requires { sensor_length ≤ length sensor.old }
     ensures { sensor.new ≡ with_sensor s sensor.old }
 {
     let registers = s.registers;
-    bytes::copy(&registers, sensor);
+    sensor[..INDEX].copy_from_slice(&registers);
     sensor[INDEX] = s.index;
     sensor[FLAG] = exported_call::bit(s.increment);
 }

@@ -13,6 +13,8 @@
 //   9                                   the place of the gap's first bad nibble, and the nibble; or the nibbles of a gap under two bytes
 //   2, 3, 8                             no values
 //   11, 13, 10, 36                      refused, in this order: no such profile, a kind above 5, an input above 15, no mark at the beginning
+//
+// Crate fluturenc_why_c exports this function under its name, for C and Rust.
 
 #![tactic(auto)]
 
@@ -32,8 +34,7 @@ const GOOD_GAP: u8 = 129;
 const NO_VALUE: usize = usize::MAX;
 
 // Why the run's first mark is answered as it is: by the number of the profile, and that of the kind of the mark before, 0 for none or no line kind.
-#[unsafe(no_mangle)]
-pub extern "C" fn fluturenc_why(
+pub fn fluturenc_why(
     profile: u8,
     before: u8,
     run: &[u8],

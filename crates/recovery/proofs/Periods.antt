@@ -146,6 +146,7 @@ module _ (p : Profile) where
   -- what the open mark is to the next one, by whether it is handed out
   behind_handed : (k : LineKind) → LineLike k → (c l : Noted) (ms : List Noted) → is_line c.told ≡ true
       → c.place ≡ l.place + (group_nibbles + line_nibbles p) → Behind p (before_by k true) c (l ∷ ms)
+  behind_handed NotLine like c l ms h e = elim like [ ]
   behind_handed (LineOf k) line_like c l ms h e = handed h e
   behind_handed NotLine x3 c l ms h e = elim x3 [ ]
 
@@ -186,6 +187,8 @@ module _ (p : Profile) where
     period : OfGap (PeriodIs (period_by (noted_as (is_mark d) all ms n (advance p m (n ∷ t) d).outcome))) (advance p m (n ∷ t) d).outcome
 
   went : (m : Mark) (t all : List ℕ) (ms : List Noted) → Stands p m t all ms → length t ≤ length all → (n : ℕ) (d : Completed) → detect (n ∷ t) ≡ d → Went m t all ms n d
+  went NoMark t all (l ∷ ms) stood h n d e = elim stood [ ]
+  went (Open before code) t all [] stood h n d e = elim stood [ ]
   went NoMark t all [] no_mark h n not_yet e = record { stands = no_mark; period = tt }
   went (Open before code) t all (l ∷ ms) (open_mark f b) h n not_yet e = record { stands = open_mark {t = n ∷ t} {all = n ∷ all} {m = l} (omega (arith, f)) b; period = tt }
   went NoMark t all [] no_mark h n (mark x y tb) e =

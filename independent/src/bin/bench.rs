@@ -1,5 +1,5 @@
 //! How fast the proved code is, beside the plain version in Rust and beside a reader in C that was written for speed:
-//! bench [NIBBLES [MEGABYTES [ROUNDS]]], after independent/run and `rt check list frames why picture compare`. 0 megabytes leave out the second
+//! bench [NIBBLES [MEGABYTES [ROUNDS]]], after independent/run and `bin/build list frames why picture compare`. 0 megabytes leave out the second
 //! part.
 //!
 //! First the readers by themselves, on each input, in one thread, in nanoseconds a nibble. The proved reader (the exported call, through its Rust

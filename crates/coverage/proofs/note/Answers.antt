@@ -1,0 +1,6 @@
+-- A line by its kind and number; any other answer changes nothing.
+use borrow.Author.Rules.{rules}
+use Rattle.coverage.proofs.note.Goals as goal
+
+pub returns-in-Line : goal.returns-in-Line
+returns-in-Line c = simp (c.in-Line.is, c.note_line.ensures, c.number.ensures)

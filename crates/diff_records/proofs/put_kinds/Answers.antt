@@ -1,0 +1,13 @@
+-- Equal kinds put nothing; others are one difference.
+use mathlib.Core.Path.{sym}
+use Rattle.text.specs.PutLaws.{puts_none}
+use Rattle.diff_records.proofs.DifferenceLaws.{kinds_are, none_is}
+use Rattle.diff_records.specs.RestLaws.{puts_is}
+use borrow.Author.Rules.{rules}
+use Rattle.diff_records.proofs.put_kinds.Goals as goal
+
+pub returns-then-x-y : goal.returns-then-x-y
+returns-then-x-y c = puts_is (sym (none_is _ _ _ c.if-x-y.true)) (puts_none _ _)
+
+pub returns : goal.returns
+returns c = puts_is (sym (kinds_are _ _ _ c.if-x-y.false)) c.put.ensures

@@ -1,0 +1,10 @@
+-- Equal bytes count nothing; others are one difference.
+use borrow.Author.Tests.{eq-eqb, ne_eqb}
+use borrow.Author.Rules.{rules}
+use Rattle.diff_summary.proofs.Summary.with_place.Goals as goal
+
+pub returns-then-x-y : goal.returns-then-x-y
+returns-then-x-y c = simp (eq-eqb _ _ c.if-x-y.true)
+
+pub returns : goal.returns
+returns c = simp (ne_eqb _ _ c.if-x-y.false) c.count.ensures

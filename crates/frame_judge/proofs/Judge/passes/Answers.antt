@@ -1,0 +1,16 @@
+-- By the judge and its borders: up to the settling place while unsettled, past it up to the last place once settled, each range tested by within.
+use native.Mathlib.Omega.{arith}
+use Rattle.frame_layout.specs.PlaceLaws.{settling_small}
+use borrow.Author.Rules.{rules}
+use Rattle.frame_judge.proofs.Judge.passes.Goals as goal
+
+pub overflow_add-settling : goal.overflow_add-settling
+overflow_add-settling c =
+    let args = c.args in
+    simp c.settling_place-settling.ensures (omega (arith, settling_small args.profile))
+
+pub returns-in-Unsettled : goal.returns-in-Unsettled
+returns-in-Unsettled c = simp (c.in-Due.is, c.in-Unsettled.is, ← c.settling_place-settling.ensures, c.within.ensures)
+
+pub returns-in-Settled : goal.returns-in-Settled
+returns-in-Settled c = simp (c.in-Due.is, c.in-Settled.is, ← c.settling_place-settling.ensures, ← c.last_place-last.ensures, c.within-in-Settled.ensures)

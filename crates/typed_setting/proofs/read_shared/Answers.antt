@@ -1,0 +1,34 @@
+-- One word after another is tried, in the order of the definition; a word that begins the line settles which registers it names.
+use borrow.Author.Rules.{rules}
+use Rattle.typed_setting.specs.Setting.{shared_setting}
+use Rattle.typed_setting.proofs.read_shared.Goals as goal
+
+pub returns-then-begins : goal.returns-then-begins
+unfolding shared_setting
+returns-then-begins c =
+    simp (← c.begins.ensures, c.if-begins.true, c.single.ensures)
+
+pub returns-then-begins-2 : goal.returns-then-begins-2
+unfolding shared_setting
+returns-then-begins-2 c =
+    simp (← c.begins.ensures, c.if-begins.false, ← c.begins-2.ensures, c.if-begins-2.true, c.single-then-begins-2.ensures)
+
+pub returns-then-begins-3 : goal.returns-then-begins-3
+unfolding shared_setting
+returns-then-begins-3 c =
+    simp (← c.begins.ensures, c.if-begins.false, ← c.begins-2.ensures, c.if-begins-2.false, ← c.begins-3.ensures, c.if-begins-3.true, c.single-then-begins-3.ensures)
+
+pub returns-then-begins-4 : goal.returns-then-begins-4
+unfolding shared_setting
+returns-then-begins-4 c =
+    simp (← c.begins.ensures, c.if-begins.false, ← c.begins-2.ensures, c.if-begins-2.false, ← c.begins-3.ensures, c.if-begins-3.false, ← c.begins-4.ensures, c.if-begins-4.true, c.single-then-begins-4.ensures)
+
+pub returns-then-begins-5 : goal.returns-then-begins-5
+unfolding shared_setting
+returns-then-begins-5 c =
+    simp (← c.begins.ensures, c.if-begins.false, ← c.begins-2.ensures, c.if-begins-2.false, ← c.begins-3.ensures, c.if-begins-3.false, ← c.begins-4.ensures, c.if-begins-4.false, ← c.begins-5.ensures, c.if-begins-5.true, c.single-then-begins-5.ensures)
+
+pub returns : goal.returns
+unfolding shared_setting
+returns c =
+    simp (← c.begins.ensures, c.if-begins.false, ← c.begins-2.ensures, c.if-begins-2.false, ← c.begins-3.ensures, c.if-begins-3.false, ← c.begins-4.ensures, c.if-begins-4.false, ← c.begins-5.ensures, c.if-begins-5.false)

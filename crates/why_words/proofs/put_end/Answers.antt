@@ -1,0 +1,10 @@
+-- The line, then the code that came.
+use Rattle.text.specs.PutLaws.{then}
+use Rattle.why_words.specs.ReasonWords.{end_words}
+use borrow.Author.Rules.{rules}
+use Rattle.why_words.proofs.put_end.Goals as goal
+
+pub returns : goal.returns
+unfolding end_words
+returns c =
+    then c.put_line-at.ensures (then c.put-at.ensures c.put_hex.ensures)

@@ -1,0 +1,10 @@
+-- The answer, and the words of a long gap.
+use Rattle.text.specs.PutLaws.{then}
+use Rattle.why_words.specs.ReasonWords.{long_gap_words}
+use borrow.Author.Rules.{rules}
+use Rattle.why_words.proofs.put_long_gap.Goals as goal
+
+pub returns : goal.returns
+unfolding long_gap_words
+returns c =
+    then c.put_answer-at.ensures c.put.ensures

@@ -1,0 +1,10 @@
+-- The code, after its words.
+use Rattle.text.specs.PutLaws.{then}
+use Rattle.why_words.specs.ReasonWords.{reserved_words}
+use borrow.Author.Rules.{rules}
+use Rattle.why_words.proofs.put_reserved.Goals as goal
+
+pub returns : goal.returns
+unfolding reserved_words
+returns c =
+    then c.put-at.ensures c.put_hex.ensures
