@@ -3,12 +3,12 @@
 
 #![tactic(auto)]
 
+mod plain;
 mod table;
-mod text;
 
 use host_calls::Source;
+use plain::{end_line, say, until};
 use reader_table::ReaderTable;
-use text::{end_line, say, until};
 
 fn main(rt: HostRuntime) {
     let mut input = [0u8; host_calls::ROOM];

@@ -1,7 +1,7 @@
 // A call of a table of readers, by one of the technicians.
 ghost use Rattle.std.specs.Prelude.{◌≤◌, length};
 
-use crate::text::{end_line, nibble_of, number, say, say_number, say_refused, until};
+use crate::plain::{end_line, nibble_of, number, say, say_number, say_refused, until};
 use profile::Profile;
 use reader_table::{Opening, ReaderTable, TableFed, TableOpened};
 use stream::Answer;
