@@ -16,7 +16,7 @@ AFTER = [
     ("crates/reason_laws/specs/TrueLaws.antt", r"\(is_end : CodeSays", "(is_end_lem : CodeSays"),
     ("crates/reason_laws/specs/TrueLaws.antt", r"is_end = is_end;", "is_end = is_end_lem;"),
     ("crates/reason_laws/specs/MarkLaws.antt", r"^    is_mark (?=[:=])", "    is_mark_lem "),
-    ("crates/reason_laws/specs/MarkLaws.antt", r"s\.text is_mark x y", "s.text is_mark_lem x y"),
+    ("crates/reason_laws/specs/MarkLaws.antt", r"s\.text\) is_mark x y", "s.text) is_mark_lem x y"),
 ]
 TOKEN = re.compile(r"[^\s(){}\[\],;.`\"|:=λ∙]+|\.|\"[^\"]*\"|.", re.S)
 PART = r"[^\s(){}\[\],;.`\"]+"

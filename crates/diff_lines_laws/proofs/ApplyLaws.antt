@@ -87,7 +87,7 @@ applied_below (only_second x) l ls h =
 applied_below (both_kinds n k m) l ls h = simp (ne_eqb l.number n (λ e. omega arith))
 applied_below (both_bytes n p x y) l ls h = simp (ne_eqb l.number n (λ e. omega arith))
 
-all_pass : {ds : List Difference} (l : FullLine) (ls : List FullLine) → From (suc l.number) ds → applied_all ds (l ∷ ls) ≡ l ∷ applied_all ds ls
+all_pass : (l : FullLine) {ds : List Difference} (ls : List FullLine) → From (suc l.number) ds → applied_all ds (l ∷ ls) ≡ l ∷ applied_all ds ls
 all_pass l ls done = refl
 all_pass l ls (also {d} {ds} h f) = ap (applied_all ds) (applied_below d l ls h) ∙ all_pass l (applied d ls) f
 

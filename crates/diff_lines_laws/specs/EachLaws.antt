@@ -22,5 +22,6 @@ each_both f done done = done
 each_both f (also {d} h g) (also k i) = also (f d h k) (each_both f g i)
 
 pub each_in : {P : Difference → Type 0} {ds : List Difference} {d : Difference} → Each P ds → Memᴰ d ds → P d
+each_in {P = P} {d = d} done x3 = elim x3 [ ]
 each_in {P} (also h g) (Memᴰ.head e) = subst P (sym e) h
 each_in (also h g) (Memᴰ.tail i) = each_in g i

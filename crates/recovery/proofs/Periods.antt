@@ -148,7 +148,6 @@ module _ (p : Profile) where
       → c.place ≡ l.place + (group_nibbles + line_nibbles p) → Behind p (before_by k true) c (l ∷ ms)
   behind_handed NotLine like c l ms h e = elim like [ ]
   behind_handed (LineOf k) line_like c l ms h e = handed h e
-  behind_handed NotLine x3 c l ms h e = elim x3 [ ]
 
   behind_next : (before : Before) (code : ℕ) (tb : List ℕ) (next : ℕ) (c l : Noted) (ms : List Noted)
       → c.told ≡ answer_of p before code tb (some next) → c.place ≡ l.place + group_nibbles + length tb → (b : Bool) → is_line (answer_of p before code tb (some next)) ≡ b
@@ -194,8 +193,6 @@ module _ (p : Profile) where
   went NoMark t all [] no_mark h n (mark x y tb) e =
       let long : suc (length t) ≡ 8 + length tb = ap length (detected (n ∷ t) x y tb e) ∙ omega arith in
       record { stands = open_mark {t = y ∷ x ∷ []} {all = n ∷ all} {m = newest all n nothing} (omega (arith, long)) (not_handed refl (no_period NotLine)); period = tt }
-  went NoMark t all (l ∷ ms) x6 h n d e = elim x6 [ ]
-  went (Open before code) t all [] x5 h n d e = elim x5 [ ]
   went (Open before code) t all (l ∷ ms) (open_mark f b) h n (mark x y tb) e =
       let long : suc (length t) ≡ 8 + length tb = ap length (detected (n ∷ t) x y tb e) ∙ omega arith in
       let next : ℕ = 16 * x + y in

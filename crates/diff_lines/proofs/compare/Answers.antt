@@ -30,3 +30,17 @@ pub returns-then-either_cut : goal.returns-then-either_cut
 unfolding compare_of require
 returns-then-either_cut c =
     refuses _ _ _ (simp (c.either_falls.ensures, c.if-either_falls.false, c.either_past.ensures, c.if-either_past.false, c.either_bad.ensures, c.if-either_bad.false, c.either_cut.ensures, c.if-either_cut.true))
+
+pub returns-then-fits : goal.returns-then-fits
+unfolding compare_of require
+returns-then-fits c =
+    let lists = c.args in
+    let all = encoded_all (differences (full_lines lists.first.now) (full_lines lists.second.now)) in
+    let h : length all ≤ length lists.buffer.now = leb-true (length all) (length lists.buffer.now) (sym c.fits.ensures ∙ c.if-fits.true) in
+    let q = puts_front c.put_all-end.ensures h in
+    fills _ _ all _ _ (simp (c.either_falls.ensures, c.if-either_falls.false, c.either_past.ensures, c.if-either_past.false, c.either_bad.ensures, c.if-either_bad.false, c.either_cut.ensures, c.if-either_cut.false, ← c.fits.ensures, c.if-fits.true) (ap (λ (n : ℕ). used n all) (sym q.count))) (sym q.count) (q.leaves ∙ ap (λ (n : ℕ). all ++ drop n lists.buffer.now) (sym q.count))
+
+pub returns : goal.returns
+unfolding compare_of require
+returns c =
+    refuses _ _ _ (simp (c.either_falls.ensures, c.if-either_falls.false, c.either_past.ensures, c.if-either_past.false, c.either_bad.ensures, c.if-either_bad.false, c.either_cut.ensures, c.if-either_cut.false, ← c.fits.ensures, c.if-fits.false))
