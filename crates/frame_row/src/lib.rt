@@ -119,7 +119,7 @@ fn put_pixels(order: Order, body: &[u8], rows: &mut [u8], at: usize)
 {
     match order {
         Order::AsSent => {
-            bytes::copy(body, &mut rows[at..]);
+            rows[at..at + Profile::WIDTH].copy_from_slice(body);
         }
         Order::OddFirst => {
             pixel_order::to_pixels(Kind::VL.number(), body, &mut rows[at..]);

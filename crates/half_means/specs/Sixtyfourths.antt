@@ -7,7 +7,7 @@ use Rattle.std.proofs.Math.Bool.{false}
 use Rattle.std.proofs.lemmas.Bool.{lt-leb}
 use Rattle.std.proofs.Math.Dec.{nleb→lt}
 use Rattle.std.specs.Int.Count.{count_trailing_zeros}
-use Rattle.std.specs.Float.{fin, Format}
+use Rattle.std.specs.Float.{nan, inf, fin, Format}
 use Rattle.std.specs.Float.Ieee.{binary64, prec, low, up, down, minus, size, odd, round, mul, div, of_int, to_unsigned, in_float, fits, hid, top, to_bits, of_bits}
 use Rattle.std.specs.Float.Ieee.Fits.{round-fits, odd-fits, down_pos}
 use Rattle.std.specs.Float.Ieee.Exact.{HasValue, odd_sign, round_exact}
@@ -25,6 +25,8 @@ pattern f s n = cond s (top f) 0 + (size n - prec f) * hid f + n / 2 ^ (size n -
 
 pattern_of : (f : Format) (x : Float) (s : Bool) (a c : ℕ) → 0 < c → HasValue x s a c → to_bits f x ≡ pattern f s (a * 2 ^ low f / c)
 unfolding to_bits
+pattern_of f nan s a c h v = elim v [ ]
+pattern_of f (inf _) s a c h v = elim v [ ]
 pattern_of f (fin t m e) s a c h v =
     ap (λ (u : Bool). pattern f u (m * up e * 2 ^ low f / down e)) v.0
     ∙ ap (pattern f s) (div_same (m * up e * 2 ^ low f) (down e) (a * 2 ^ low f) c (down_pos e) h
@@ -86,6 +88,8 @@ module _ (n : ℕ) (h : n < 2 ^ 53) where
 -- a float that is n, divided by 64
 quotient : (x : Float) (n : ℕ) → HasValue x false n 1 → div binary64 x (fin false 1 (pos 6)) ≡ round binary64 false n 64
 unfolding div
+quotient nan n v = elim v [ ]
+quotient (inf _) n v = elim v [ ]
 quotient (fin true m e) n v = absurd (true≢false v.0)
 quotient (fin false m e) n v =
     round_same binary64 false (m * up e * 1) (64 * down e) n 64 (mul-pos (lit< tt) (down_pos e)) (lit< tt)
@@ -101,6 +105,8 @@ divided n h = quotient (round binary64 false n 1) n (round_whole binary64 false 
 -- a float that is n / 64, times 64
 product : (x : Float) (n : ℕ) → HasValue x false n 64 → mul binary64 x (fin false 1 (pos 6)) ≡ round binary64 false n 1
 unfolding mul
+product nan n v = elim v [ ]
+product (inf _) n v = elim v [ ]
 product (fin true m e) n v = absurd (true≢false v.0)
 product (fin false m e) n v =
     round_same binary64 false (m * up e * 64) (down e * 1) n 1 (mul-pos (down_pos e) (lit< tt)) (lit< tt)

@@ -10,7 +10,7 @@
 ghost use Rattle.std.specs.Prelude.{◌≡◌, ◌≤◌, length};
 ghost use Rattle.half_means.specs.HalfMeans.{half_length, total, half_at, sixty_fourth, difference, values_of, beside_of, half_values};
 ghost use Rattle.profile.specs.Profile.{body_length};
-ghost use Rattle.profile.specs.declared.Profile.TheVariants.{VV5300};
+ghost use Rattle.profile.specs.declared.Profile.TheVariants as profiles;
 
 use line_code::Kind;
 use profile::Profile;
@@ -100,7 +100,7 @@ fn difference(byte: u8, sum: u16) -> i32
 
 // The sum of the half that starts at an image place.
 fn half_sum(body: &[u8], place: usize) -> u16
-    requires { (length body.now ≡ body_length VV5300) × (place ≤ 80) }
+    requires { (length body.now ≡ body_length profiles.VV5300) × (place ≤ 80) }
     ensures { result ≡ total (half_at place body.now) }
 {
     let start = Profile::VV5300.image_start() + place;

@@ -137,8 +137,8 @@ fn write_as(format: Format, rows: &[u8], file: &mut [u8]) -> Filled
         if file.len() < length {
             return Filled::Refused(refusal::NO_ROOM);
         }
-        bytes::copy(&header(format), file);
-        bytes::copy(rows, &mut file[HEADER..]);
+        file[..HEADER].copy_from_slice(&header(format));
+        file[HEADER..length].copy_from_slice(rows);
         return Filled::Length(length);
     }
     Filled::Refused(refusal::BAD_PIXEL)
@@ -155,8 +155,8 @@ fn read_as(format: Format, body: &[u8], rows: &mut [u8]) -> Filled
         if rows.len() < body.len() {
             return Filled::Refused(refusal::NO_ROOM);
         }
-        let length = bytes::copy(body, rows);
-        return Filled::Length(length);
+        rows[..body.len()].copy_from_slice(body);
+        return Filled::Length(body.len());
     }
     Filled::Refused(refusal::BAD_PIXEL)
 }

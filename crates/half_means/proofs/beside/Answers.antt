@@ -1,6 +1,5 @@
 -- The two means are the sums' sixty-fourths, and each difference is read back from its bits.
 use mathlib.Core.Path.{◌≡◌}
-use borrow.Author.Rules.{rules}
 use lib.Ieee.{Float}
 use Rattle.half_means.specs.HalfMeans.{means, beside_of, sixty_fourth}
 use Rattle.half_means.proofs.Signs.{kept}

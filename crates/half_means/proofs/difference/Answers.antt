@@ -1,7 +1,6 @@
 -- Both numbers are below 2 ^ 30, so the i32 holds their difference.
 use Prim.Native.Nat.{◌*◌}
 use native.Mathlib.Omega.{arith}
-use borrow.Author.Rules.{rules}
 use Rattle.half_means.specs.HalfMeans.{difference}
 use Rattle.half_means.proofs.Signs.{minus_fits, minus_is}
 use Rattle.half_means.proofs.difference.Goals as goal

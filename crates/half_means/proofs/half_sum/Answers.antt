@@ -1,6 +1,5 @@
 -- The part that is added up is the half, since the image starts where the profile says.
 use mathlib.Core.Path.{◌∙◌}
-use borrow.Author.Rules.{rules}
 use Rattle.half_means.proofs.Adding.{part_is}
 use Rattle.half_means.proofs.half_sum.Goals as goal
 

@@ -1,6 +1,5 @@
 -- A u16 is far below 2 ^ 53, so the division by 64 loses nothing.
 use native.Mathlib.Nat.{lt_of_lt_of_le}
-use borrow.Author.Rules.{rules}
 use lib.Dec.{lit≤}
 use lib.Ieee.{of_int}
 use Rattle.half_means.specs.Sixtyfourths.{divided}

@@ -3,7 +3,6 @@ use mathlib.Core.Path.{sym, ◌∙◌}
 use borrow.Author.Tests.{eq-eqb, ne_eqb}
 use Rattle.half_means.specs.HalfMeans.{half_values, require, beside_of, first_sum, second_sum}
 use Rattle.half_means.specs.HalfMeansLaws.{passed}
-use borrow.Author.Rules.{rules}
 use Rattle.half_means.proofs.of_line.Goals as goal
 
 pub returns-then-profile-ne-VV5300 : goal.returns-then-profile-ne-VV5300

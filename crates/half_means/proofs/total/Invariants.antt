@@ -1,11 +1,8 @@
 -- After i turns the sum is that of the first i bytes, at most 255 times i, so it fits.
 use mathlib.Core.Path.{◌≡◌}
 use Prim.Native.Nat.{◌+◌, ◌*◌, ◌-◌, ◌≤◌}
-use native.Mathlib.Omega.{arith}
-use borrow.Author.Rules.{rules}
 use lib.ListN.{length, drop}
 use Rattle.half_means.specs.HalfMeans.{total}
-use Rattle.half_means.proofs.Adding.{total_step, total_end}
 use Rattle.half_means.proofs.total.Given as goal
 
 abbrev pub invariant-loop-i : goal.invariant-loop-i
