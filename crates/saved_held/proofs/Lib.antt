@@ -1,2 +1,0 @@
-pub mod HeldChange
-pub mod Lent
