@@ -1,7 +1,7 @@
 // Lent buffers: what a call has written there.
 ghost use Rattle.std.specs.Prelude.{◌≤◌};
 
-use crate::text::say_counted;
+use crate::plain::say_counted;
 
 // What a buffer holds before a call: no nibble, and no byte of the bodies here.
 pub const UNTOUCHED: u8 = 0xAA;

@@ -1,6 +1,6 @@
 // A reader on the bus, fed by hand: each answer is written as its row of a listing, numbered from 1 in each case.
 use crate::buffer::{UNTOUCHED, say_changed};
-use crate::text::{
+use crate::plain::{
     end_line, nibble_of, number, say, say_counted, say_front, say_hex, say_number, until,
 };
 use line_code::Repair;

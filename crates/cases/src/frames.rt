@@ -1,5 +1,5 @@
 // The judge of frames (paper 01, 'Frames of profile 0').
-use crate::text::{end_line, say, say_number, say_refused};
+use crate::plain::{end_line, say, say_number, say_refused};
 use frame_judge::{Judge, KnownBorders, Ruling};
 use frame_layout::Borders;
 use profile::Profile;

@@ -6,13 +6,13 @@
 mod buffer;
 mod bus;
 mod frames;
-mod text;
+mod plain;
 mod written;
 
 use bus::Bus;
 use frames::Hearing;
 use host_calls::Source;
-use text::{byte_at, end_line, long_at, number_at, say, say_front, short_at, until};
+use plain::{byte_at, end_line, long_at, number_at, say, say_front, short_at, until};
 
 // The longest body that is written: one byte more than the longest that may be.
 const LONGEST: usize = 357;

@@ -1,7 +1,7 @@
 // Lines that the writer writes or refuses (paper 01, refusals 11 to 17), and those that are read back.
 use crate::buffer::{UNTOUCHED, say_changed, say_differing};
 use crate::bus::Bus;
-use crate::text::{
+use crate::plain::{
     byte_at, end_line, long_at, number_at, say_counted, say_number, say_refused, short_at,
 };
 use lent_buffer::Filled;
