@@ -1,7 +1,7 @@
 -- Laws of the rows: how long they can be, and that what they say of a line is exact.
 use Rattle.std.specs.Prelude.{◌≡◌, refl, Bool, true, false, cond, List, [], ◌∷◌, ◌++◌, ℕ, zero, suc, ◌+◌, ◌-◌, ◌*◌, ◌/◌, ◌%◌, ◌≤◌, ◌<◌, ◌^◌, ltb, eqb, ℤ, pos, negsuc, ◌-ℤ◌, Float, length}
 use Rattle.std.proofs.Common.{sym, ap, ap₂, subst, ◌∙◌, mul_assoc, mul_right_comm, arith, lt-ltb, le-ltb, length-append}
-use Rattle.std.specs.Float.{fin}
+use Rattle.std.specs.Float.{nan, inf, fin}
 use Rattle.std.specs.Float.Ieee.{up, down}
 use Rattle.std.specs.Float.Ieee.Exact.{HasValue}
 use Rattle.refusal.specs.Refusal.{bad_gap}
@@ -121,6 +121,8 @@ mean_digits s h =
 
 -- a value in 64ths is one in millionths
 in_millionths : (x : Float) (n : ℕ) → HasValue x false n half_length → HasValue x false (n * millionths) 1000000
+in_millionths nan n v = elim v [ ]
+in_millionths (inf _) n v = elim v [ ]
 in_millionths (fin t m e) n v = (
   v.0,
   (let z : m * up e * 1000000 ≡ m * up e * half_length * millionths = sym (mul_assoc (m * up e) half_length millionths) in z)

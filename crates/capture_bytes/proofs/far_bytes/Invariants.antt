@@ -1,0 +1,14 @@
+-- At each turn the bytes that are passed are as the test says; then fewer are left, or the blocks are smaller.
+use mathlib.Core.Path.{refl}
+use Prim.Native.Nat.{◌+◌, ◌-◌, ◌≤◌}
+use native.Mathlib.Omega.{arith}
+use borrow.Author.Rules.{rules}
+use Rattle.capture_bytes.specs.Packed.{NoneBegins}
+use Rattle.capture_bytes.proofs.Blocks.{none_begins, begins_on}
+use Rattle.capture_bytes.proofs.far_bytes.Given as goal
+
+abbrev pub invariant-loop-block : goal.invariant-loop-block
+invariant-loop-block l = (l.n ≤ l.most) × (l.block ≤ 64) × NoneBegins l.bytes l.i l.n
+
+abbrev pub decreases-loop-block : goal.decreases-loop-block
+decreases-loop-block l = l.most - l.n + l.block

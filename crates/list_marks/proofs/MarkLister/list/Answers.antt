@@ -1,0 +1,57 @@
+-- At each turn what is left brings what the whole does; a run takes some nibbles, until none is left, or no room for a row.
+use mathlib.Core.Path.{◌≡◌, sym, ◌∙◌}
+use Prim.Native.Nat.{◌-◌, ◌*◌}
+use native.Mathlib.Omega.{arith}
+use lib.ListN.{length}
+use borrow.Author.Rules.{rules}
+use Rattle.profile.specs.Profile.{longest}
+use Rattle.reader_laws.proofs.Passes.{passed}
+use Rattle.text.specs.PutLaws.{put_length, put_within}
+use Rattle.lister_laws.proofs.RunLaws.{Along, along_start, taken_fits, left_less, text_fits}
+use Rattle.list_marks.proofs.Runs.{lister, by_reader, marks_next, marks_end, nothing_listed}
+use Rattle.list_marks.proofs.MarkLister.list.Goals as goal
+
+pub loop-line-init : goal.loop-line-init
+loop-line-init c =
+    let e = c.is_sound.ensures in
+    (along_start by_reader _ _ _ _ (record { byte = e.1; test = passed _ (sym e.0 ∙ c.if-is_sound.true) }), search rules, search rules)
+
+pub overflow_sub-out : goal.overflow_sub-out
+overflow_sub-out c = put_within c.loop-line.invariant.0.text_put
+
+pub overflow_add-at : goal.overflow_add-at
+overflow_add-at c =
+    let more = sym c.goes_on.ensures ∙ c.loop-line-test.true in
+    omega (arith, taken_fits c.loop-line.invariant.0 (λ i. (c.shared_slice_known-1.given i).fits) more c.loop-line.invariant.1 c.loop-line.invariant.2 c.run-t.ensures, c.well_formed.1.0.1)
+
+pub put_row-used-requires : goal.put_row-used-requires
+put_row-used-requires c =
+    let more = sym c.goes_on.ensures ∙ c.loop-line-test.true in
+    text_fits c.loop-line.invariant.0 (λ i. (c.shared_slice_known-1.given i).fits) more c.loop-line.invariant.1 c.loop-line.invariant.2 c.run-t.ensures
+
+pub loop-line-smaller : goal.loop-line-smaller
+loop-line-smaller c =
+    let more = sym c.goes_on.ensures ∙ c.loop-line-test.true in
+    left_less c.loop-line.invariant.0 (λ i. (c.shared_slice_known-1.given i).fits) more c.loop-line.invariant.1 c.loop-line.invariant.2 c.run-t.ensures
+
+pub loop-line-preserved : goal.loop-line-preserved
+loop-line-preserved c =
+    let more = sym c.goes_on.ensures ∙ c.loop-line-test.true in (
+      marks_next c.loop-line.invariant.0 (λ i. (c.shared_slice_known-1.given i).fits) more c.loop-line.invariant.1 c.loop-line.invariant.2 c.run-t.ensures
+          c.with_mark-marks.ensures c.put_row-used.ensures,
+      search (rules, c.run-t.auto.body, c.loop-line.invariant.1),
+      search (rules, c.run-t.auto.line, c.loop-line.invariant.2),
+    )
+
+pub overflow_sub-result : goal.overflow_sub-result
+overflow_sub-result c = c.loop-line.invariant.0.forward
+
+pub shape_of-out-then-is_sound : goal.shape_of-out-then-is_sound
+shape_of-out-then-is_sound c = put_length c.loop-line.invariant.0.text_put
+
+pub returns-then-is_sound : goal.returns-then-is_sound
+returns-then-is_sound c =
+    marks_end c.loop-line.invariant.0 (sym c.is_sound.ensures.0 ∙ c.if-is_sound.true) (sym c.goes_on.ensures ∙ c.loop-line-test.false)
+
+pub returns : goal.returns
+returns c = nothing_listed _ _ _ (sym c.is_sound.ensures.0 ∙ c.if-is_sound.false)

@@ -1,0 +1,22 @@
+-- Where nothing is refused the reader of the place finishes and goes back there; else the refusal, and nothing moves.
+use Rattle.recovery.specs.Calls.{done}
+use Rattle.refinement.specs.Runs.{one}
+use Rattle.reader_table.proofs.Asked.{call_granted, call_denied}
+use borrow.Author.Rules.{rules}
+use Rattle.reader_table.proofs.ReaderTable.finish.Goals as goal
+
+pub returns-then-n-eq0 : goal.returns-then-n-eq0
+returns-then-n-eq0 c =
+    let read = c.place_at-p.ensures in
+    let a = c.args in
+    let q = call_granted a.self a.technician a.place read c.denial-n.ensures (one done) c.if-n-eq0.true in
+    let e = c.finish-f.ensures in
+    record { next = simp (q, c.with_reader-table.ensures, e.next); says = simp (q, e.says) }
+
+pub returns : goal.returns
+returns c =
+    let read = c.place_at-p.ensures in
+    let a = c.args in
+    let q = call_denied a.self a.technician a.place read c.denial-n.ensures (one done) c.if-n-eq0.false in
+    let e = c.refuse.ensures in
+    record { next = simp (q, e.0); says = simp (q, e.1) }

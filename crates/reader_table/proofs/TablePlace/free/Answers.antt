@@ -1,0 +1,6 @@
+-- The reader of a free place is a fresh one.
+use borrow.Author.Rules.{rules}
+use Rattle.reader_table.proofs.TablePlace.free.Goals as goal
+
+pub returns : goal.returns
+returns c = simp c.fresh-reader.ensures
