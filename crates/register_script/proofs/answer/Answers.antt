@@ -1,7 +1,6 @@
 -- A line that fills its buffer is too long; of a shorter one what is kept is told.
 use mathlib.Core.Path.{refl, sym}
 use native.Mathlib.Omega.{arith}
-use borrow.Author.Rules.{rules}
 use lib.Seq.{length-take-le}
 use Rattle.register_script.specs.ScriptLaws.{fills, room_left}
 use Rattle.register_script.specs.Script.{line_text, line_refused, line_sensor}

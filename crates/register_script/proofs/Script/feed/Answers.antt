@@ -1,7 +1,6 @@
 -- A newline gives the text of the line that is kept, and the next line starts with nothing kept; any other character is kept, and what is kept is within the room.
 use mathlib.Core.Path.{refl}
 use native.Mathlib.Omega.{arith}
-use borrow.Author.Rules.{rules}
 use borrow.Author.Tests.{eq-eqb, ne_eqb}
 use Rattle.text.specs.PutLaws.{puts_front}
 use Rattle.register_script.specs.Script.{place_of, place_after, text_on, refused_on}
