@@ -8,7 +8,7 @@ sensor_stored r b i f e h =
     let first : drop 128 b ≡ get_or b 128 0 ∷ drop 129 b = drop_more b 128 0 (omega (arith, h)) in
     let second : drop 129 b ≡ get_or b 129 0 ∷ drop 130 b = drop_more b 129 0 (omega (arith, h)) in
     let one : slice_set (r ++ drop 128 b) 128 i ≡ r ++ (i ∷ drop 129 b) =
-        set-append_right r (drop 128 b) 128 128 i e (omega arith) ∙ ap (λ (l : List ℕ). r ++ slice_set l 0 i) first in
+    set-append_right r (drop 128 b) 128 128 i e (omega arith) ∙ ap (λ (l : List ℕ). r ++ slice_set l 0 i) first in
     ap (λ (l : List ℕ). slice_set l 129 f) one
     ∙ set-append_right r (i ∷ drop 129 b) 128 129 f e (omega arith)
     ∙ ap (λ (l : List ℕ). r ++ (i ∷ slice_set l 0 f)) second

@@ -23,5 +23,5 @@ returns c =
     let g = a.gap in
     let same : c.of_line-halves.result ≡ halves_of 1 3 (take 168 a.line.now) g.first g.second =
     values_tell _ _ c.of_line-halves.ensures
-    ∙ ap₂ (λ (k n : ℕ). halves_of 1 k (take n a.line.now) g.first g.second) c.number.ensures c.body-length.ensures in
+    ∙ ap₂ (λ (k n : ℕ). halves_of 1 k (take n a.line.now) g.first g.second) c.number.ensures c.body_length.ensures in
     subst (λ (h : Halves). Put a.out.now a.at (means_row a.number g.first g.second h) c.put_row.result c.put_row.new.out) same c.put_row.ensures

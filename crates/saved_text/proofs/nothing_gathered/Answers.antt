@@ -1,0 +1,6 @@
+-- Eight unused places, and no numbers.
+use borrow.Author.Rules.{rules}
+use Rattle.saved_text.proofs.nothing_gathered.Goals as goal
+
+pub returns : goal.returns
+returns c = simp c.no_fields.ensures

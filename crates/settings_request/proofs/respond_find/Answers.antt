@@ -1,0 +1,15 @@
+-- What is found is said as its line; nothing else changes.
+use mathlib.Core.Path.{refl}
+use Rattle.settings_request.specs.SettingsRequest.{looking_up}
+use borrow.Author.Rules.{rules}
+use Rattle.settings_request.proofs.respond_find.Goals as goal
+
+pub returns-in-Setting : goal.returns-in-Setting
+unfolding looking_up
+returns-in-Setting c =
+    simp (← c.find_held-held.ensures, c.in-Setting.is) (record { lists = refl; changes = refl; refuses = refl; says = c.put_setting-said.ensures })
+
+pub returns-in-Refused : goal.returns-in-Refused
+unfolding looking_up
+returns-in-Refused c =
+    simp (← c.find_held-held.ensures, c.in-Refused.is) c.refuse.ensures
