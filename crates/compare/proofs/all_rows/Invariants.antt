@@ -2,8 +2,8 @@
 use Rattle.std.proofs.Common.{◌-◌, ◌≤◌, ◌+◌, length}
 use Rattle.compare.proofs.all_rows.Given as goal
 
-abbrev pub invariant-loop : goal.invariant-loop
-invariant-loop l = (l.i ≤ length l.first) × (l.j ≤ length l.second)
+abbrev pub invariant-loop-rows : goal.invariant-loop-rows
+invariant-loop-rows l = (l.i ≤ length l.first) × (l.j ≤ length l.second)
 
-abbrev pub decreases-loop : goal.decreases-loop
-decreases-loop l = (length l.first - l.i) + (length l.second - l.j)
+abbrev pub decreases-loop-rows : goal.decreases-loop-rows
+decreases-loop-rows l = (length l.first - l.i) + (length l.second - l.j)
