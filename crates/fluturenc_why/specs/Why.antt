@@ -20,7 +20,7 @@ no_value = 0xFFFFFFFFFFFFFFFF
 abbrev pub valued_number : Valued → ℕ
 valued_number good_line = good_line_number
 valued_number good_gap_lem = good_gap_number
-valued_number (numbered n values) = n
+valued_number (numbered n _) = n
 valued_number (refused n) = n
 
 -- the parity sums that fail, as bits: P0 the lowest
@@ -45,14 +45,14 @@ second_value (byte_and_sums byte sums) = sum_bits sums
 abbrev pub valued_first : Valued → ℕ
 valued_first good_line = no_value
 valued_first good_gap_lem = no_value
-valued_first (numbered n values) = first_value values
+valued_first (numbered n given) = first_value given
 valued_first (refused n) = no_value
 
 -- the second number beside the answer
 abbrev pub valued_second : Valued → ℕ
 valued_second good_line = no_value
 valued_second good_gap_lem = no_value
-valued_second (numbered n values) = second_value values
+valued_second (numbered n given) = second_value given
 valued_second (refused n) = no_value
 
 -- what the call gives: the number, and the two values in their places

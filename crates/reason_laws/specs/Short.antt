@@ -40,7 +40,7 @@ in_short (refused n) = refusal n
 abbrev pub without_values : Valued → Short
 without_values valued.good_line = good_line
 without_values valued.good_gap_lem = good_gap_lem
-without_values (valued.numbered n values) = refusal n
+without_values (valued.numbered n _) = refusal n
 without_values (valued.refused n) = refusal n
 
 -- a reason without its values
