@@ -1,7 +1,6 @@
 // A list of eight saved exposure settings by value (02, A11): save one, find one, go back to one.
 //
-// In, out and refused as in crate `saved_lent`, whose functions are lent the list here: a caller that lends one needs a proof by hand. The list
-// after a call is part of what it gives.
+// In, out and refused as in crate `saved_lent`, whose functions are lent the list here. The list after a call is part of what it gives.
 
 #![tactic(auto)]
 
