@@ -15,10 +15,6 @@ use profile::Profile;
 pub fn has_bad_byte(profile: Profile, kind: Kind, body: &[u8], first: u8, second: u8) -> bool
     ensures { result ≡ not (fits (rules profile kind) body.now && gap_fits profile kind first second) }
 {
-    if line_layout::body_fits(profile, kind, body) {
-        if line_layout::gap_fits(profile, kind, first, second) {
-            return false;
-        }
-    }
-    true
+    !(line_layout::body_fits(profile, kind, body)
+        && line_layout::gap_fits(profile, kind, first, second))
 }

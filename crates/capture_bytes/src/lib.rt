@@ -38,6 +38,7 @@ pub fn run(h: Head, body: &mut [u8], bytes: &[u8], from: usize, line: &mut [u8])
     let mut head = h;
     let mut at = from;
     let mut most = FIRST;
+    // Not a for: each turn goes on by what the run and the skip took.
     loop {
         let end = lesser(bytes.len(), at / 2 + most);
         let t = run_portion(head, body, bytes, at, end, line);
@@ -202,6 +203,7 @@ fn far_bytes(bytes: &[u8], i: usize, most: usize) -> usize
 {
     let mut n: usize = 0;
     let mut block = WIDE;
+    // Not a for: a block that holds no mark's start is followed by another of its size, and else a smaller one is tried.
     while NARROW <= block {
         if is_far(bytes, i + n, block, most - n) {
             n += block;
@@ -223,10 +225,7 @@ fn is_far(bytes: &[u8], i: usize, n: usize, most: usize) -> bool
     requires { (i + most + 2 ≤ length bytes.now) × (n ≤ 64) }
     ensures { result ≡ true → (n ≤ most) × NoneBegins bytes.now i n }
 {
-    if most < n {
-        return false;
-    }
-    beginnings(bytes, i, n) == 0
+    n <= most && beginnings(bytes, i, n) == 0
 }
 
 // At how many of so many bytes from a place on a mark may begin.
@@ -235,10 +234,8 @@ fn beginnings(bytes: &[u8], i: usize, n: usize) -> u8
     ensures { result ≡ 0 → NoneBegins bytes.now i n }
 {
     let mut count: u8 = 0;
-    let mut k: usize = 0;
-    while k < n {
+    for k in 0..n {
         count += may_begin(bytes[i + k], bytes[i + k + 2]);
-        k += 1;
     }
     count
 }
@@ -262,6 +259,7 @@ fn null_bytes(bytes: &[u8], i: usize, most: usize) -> usize
 {
     let mut n: usize = 0;
     let mut block = WIDE;
+    // Not a for: a block of FF is followed by another of its size, and else a smaller one is tried.
     while NARROW <= block {
         if is_null(bytes, i + n, block, most - n) {
             n += block;
@@ -277,10 +275,7 @@ fn is_null(bytes: &[u8], i: usize, n: usize, most: usize) -> bool
     requires { (i + most ≤ length bytes.now) × (n ≤ 64) }
     ensures { result ≡ true → (n ≤ most) × AllNull bytes.now i n }
 {
-    if most < n {
-        return false;
-    }
-    strays(bytes, i, n) == 0
+    n <= most && strays(bytes, i, n) == 0
 }
 
 // How many of so many bytes from a place on are not FF.
@@ -289,10 +284,8 @@ fn strays(bytes: &[u8], i: usize, n: usize) -> u8
     ensures { result ≡ 0 → AllNull bytes.now i n }
 {
     let mut count: u8 = 0;
-    let mut k: usize = 0;
-    while k < n {
-        count += stray(bytes[i + k]);
-        k += 1;
+    for byte in &bytes[i..i + n] {
+        count += stray(*byte);
     }
     count
 }
@@ -351,10 +344,8 @@ fn copy(bytes: &[u8], i: usize, odd: usize, body: &mut [u8], j: usize, n: usize)
     requires { (i + odd + n ≤ length bytes.now) × (odd ≤ 1) × (j + n ≤ length body.old) }
     ensures { body.new ≡ packed_into body.old j (nibbles bytes.now) (2 * i + odd) n }
 {
-    let mut k: usize = 0;
-    while k < n {
+    for k in 0..n {
         body[j + k] = byte_from(bytes, i + k, odd);
-        k += 1;
     }
 }
 
@@ -436,12 +427,10 @@ pub fn unpack(bytes: &[u8], to: &mut [u8]) -> usize
     ensures { (result ≡ fitting (length bytes.now) (length to.old)) × (to.new ≡ unpacked bytes.now to.old result) }
 {
     let n = lesser(bytes.len(), to.len() / 2);
-    let mut i: usize = 0;
-    while i < n {
+    for i in 0..n {
         let b = bytes[i];
         to[2 * i] = b / 16;
         to[2 * i + 1] = b % 16;
-        i += 1;
     }
     n
 }

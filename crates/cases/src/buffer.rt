@@ -1,6 +1,4 @@
 // Lent buffers: what a call has written there.
-ghost use Rattle.std.specs.Prelude.{◌≤◌};
-
 use crate::plain::say_counted;
 
 // What a buffer holds before a call: no nibble, and no byte of the bodies here.
@@ -17,13 +15,7 @@ pub fn say_changed(rt: HostRuntime, buffer: &[u8]) {
 }
 
 fn changed(buffer: &[u8]) -> usize {
-    let mut count: usize = 0;
-    let mut i: usize = 0;
-    while i < buffer.len() {
-        count += differs(buffer[i], UNTOUCHED);
-        i += 1;
-    }
-    count
+    buffer.iter().filter(|byte| **byte != UNTOUCHED).count()
 }
 
 // Writes in how many places two texts differ, as far as both go.
@@ -37,23 +29,8 @@ pub fn say_differing(rt: HostRuntime, one: &[u8], other: &[u8]) {
 }
 
 fn differing(one: &[u8], other: &[u8]) -> usize {
-    let mut count: usize = 0;
-    let mut i: usize = 0;
-    while i < one.len() {
-        if other.len() <= i {
-            return count;
-        }
-        count += differs(one[i], other[i]);
-        i += 1;
-    }
-    count
-}
-
-fn differs(a: u8, b: u8) -> usize
-    ensures { result ≤ 1 }
-{
-    if a == b {
-        return 0;
-    }
-    1
+    one.iter()
+        .zip(other)
+        .filter(|pair| *pair.0 != *pair.1)
+        .count()
 }

@@ -1,14 +1,13 @@
 // A reader on the bus, fed by hand: each answer is written as its row of a listing, numbered from 1 in each case.
 use crate::buffer::{UNTOUCHED, say_changed};
-use crate::plain::{
-    end_line, nibble_of, number, say, say_counted, say_front, say_hex, say_number, until,
-};
+use crate::plain::{say_counted, say_hex};
 use line_code::Repair;
 use mark_text::Kept;
-use period::{Nibbles, Rate, WholePeriods};
+use period::{Nibbles, Periods, Rate};
 use profile::Profile;
 use reader::Reader;
 use reader_head::Head;
+use script_words::{end_line, nibble_of, number, say, say_front, say_number};
 use stream::{Answer, Mark};
 
 // A reader, and how many answers it has given.
@@ -30,32 +29,24 @@ impl Bus {
     // The words of a line after its first: nibbles, or, as 07*356, nibbles so many times.
     pub fn feed(self, rt: HostRuntime, line: &[u8]) -> Bus {
         let mut bus = self;
-        let mut i = until(line, 0, b' ');
-        while i < line.len() {
-            let start = i + 1;
-            let end = until(line, start, b' ');
-            bus = bus.word(rt, &line[start..end]);
-            i = end;
+        for word in line.split(|sign| *sign == b' ').skip(1) {
+            bus = bus.word(rt, word);
         }
         bus
     }
 
     fn word(self, rt: HostRuntime, word: &[u8]) -> Bus {
-        let star = until(word, 0, b'*');
-        let unit = &word[0..star];
-        if star == word.len() {
-            return self.hex(rt, unit);
+        match word.iter().position(|sign| *sign == b'*') {
+            None => self.hex(rt, word),
+            Some(star) => self.repeat(rt, &word[..star], number(&word[star + 1..])),
         }
-        self.repeat(rt, unit, number(&word[star + 1..]))
     }
 
     // The same nibbles, so many times.
     fn repeat(self, rt: HostRuntime, unit: &[u8], times: u64) -> Bus {
         let mut bus = self;
-        let mut i: u64 = 0;
-        while i < times {
+        for _ in 0..times {
             bus = bus.hex(rt, unit);
-            i += 1;
         }
         bus
     }
@@ -63,20 +54,12 @@ impl Bus {
     // The nibbles that a text has as hexadecimal digits; its other signs are passed over.
     fn hex(self, rt: HostRuntime, text: &[u8]) -> Bus {
         let mut bus = self;
-        let mut i: usize = 0;
-        while i < text.len() {
-            bus = bus.sign(rt, text[i]);
-            i += 1;
+        for sign in text {
+            if let Some(nibble) = nibble_of(*sign) {
+                bus = bus.input(rt, nibble);
+            }
         }
         bus
-    }
-
-    fn sign(self, rt: HostRuntime, sign: u8) -> Bus {
-        let nibble = nibble_of(sign);
-        if nibble < 16 {
-            return self.input(rt, nibble);
-        }
-        self
     }
 
     // One input, with a line buffer of 356 bytes.
@@ -111,11 +94,13 @@ impl Bus {
 
     // The nibbles that were written to a buffer, in runs, with the line buffer that is lent.
     pub fn written(self, rt: HostRuntime, buffer: &[u8], line: &mut [u8]) -> Bus {
-        let end = until(buffer, 0, UNTOUCHED);
+        let end = match buffer.iter().position(|byte| *byte == UNTOUCHED) {
+            Some(end) => end,
+            None => buffer.len(),
+        };
         let mut bus = self;
         let mut from: usize = 0;
-        let mut turns: usize = 0;
-        while turns < end {
+        for _ in 0..end {
             let reader = bus.reader;
             let ran = run::run(reader, &buffer[from..end], line);
             let reader = ran.reader;
@@ -126,7 +111,6 @@ impl Bus {
                 return bus;
             }
             from += taken;
-            turns += 1;
         }
         bus
     }
@@ -239,13 +223,13 @@ fn show_period(rt: HostRuntime, period: Nibbles) {
     end_line(rt);
 }
 
-fn show_whole(rt: HostRuntime, whole: WholePeriods) {
+fn show_whole(rt: HostRuntime, whole: Option<Periods>) {
     match whole {
-        WholePeriods::Of(periods) => {
+        Some(periods) => {
             say_number(rt, periods.0 as u64);
             say(rt, b" pixel periods");
         }
-        WholePeriods::Odd => say(rt, b"no whole pixel period"),
+        None => say(rt, b"no whole pixel period"),
     }
 }
 

@@ -1,8 +1,8 @@
 // The judge of frames (paper 01, 'Frames of profile 0').
-use crate::plain::{end_line, say, say_number, say_refused};
-use frame_judge::{Judge, KnownBorders, Ruling};
+use frame_judge::{Judge, Ruling};
 use frame_layout::Borders;
 use profile::Profile;
+use script_words::{end_line, say, say_number, say_refused};
 
 // A judge, and how many lines it answered Going since its last other answer.
 #[derive(Clone, Copy)]
@@ -18,15 +18,13 @@ impl Hearing {
         Hearing { judge, going: 0 }
     }
 
-    // Lines of one kind, numbered from one number to another.
+    // Lines of one kind, numbered from one number to another; the first of them comes in any case.
     pub fn lines(self, rt: HostRuntime, kind: u8, from: u16, to: u16) -> Hearing {
         let mut hearing = self;
-        let mut number = from;
-        while number < to {
+        for number in from..to {
             hearing = hearing.line(rt, kind, number);
-            number += 1;
         }
-        hearing.line(rt, kind, number)
+        hearing.line(rt, kind, from.max(to))
     }
 
     // A line.
@@ -57,7 +55,7 @@ fn ruled(rt: HostRuntime, ruling: Ruling, going: u64) -> u64 {
         Ruling::Going => {}
         Ruling::Waiting => say(rt, b"Waiting"),
         Ruling::Complete => say(rt, b"Complete"),
-        Ruling::Refused(number) => say_refused(rt, number),
+        Ruling::Refused(refusal) => say_refused(rt, refusal),
     }
     end_line(rt);
     0
@@ -77,12 +75,12 @@ pub fn in_state(place: u16, borders: u64) -> Hearing {
     Hearing { judge, going: 0 }
 }
 
-fn borders_numbered(n: u64) -> KnownBorders {
+fn borders_numbered(n: u64) -> Option<Borders> {
     if n == 0 {
-        return KnownBorders::Unsettled;
+        return None;
     }
     if n == 1 {
-        return KnownBorders::Settled(Borders::On);
+        return Some(Borders::On);
     }
-    KnownBorders::Settled(Borders::Off)
+    Some(Borders::Off)
 }

@@ -12,7 +12,8 @@ mod written;
 use bus::Bus;
 use frames::Hearing;
 use host_calls::Source;
-use plain::{byte_at, end_line, long_at, number_at, say, say_front, short_at, until};
+use plain::{byte_at, long_at, number_at, short_at};
+use script_words::{end_line, say, say_front};
 
 // The longest body that is written: one byte more than the longest that may be.
 const LONGEST: usize = 357;
@@ -46,14 +47,8 @@ fn run(rt: HostRuntime, text: &[u8]) {
         length: 0,
         body: [0; LONGEST],
     };
-    let mut start: usize = 0;
-    while start < text.len() {
-        let end = until(text, start, b'\n');
-        bench = bench.line(rt, &text[start..end]);
-        if end == text.len() {
-            return;
-        }
-        start = end + 1;
+    for line in text.split(|sign| *sign == b'\n') {
+        bench = bench.line(rt, line);
     }
 }
 
@@ -75,43 +70,23 @@ impl Bench {
 
     // Lines that work on the reader.
     fn with_bus(self, rt: HostRuntime, command: u8, line: &[u8]) -> Bench {
-        let bus = self.bus;
-        let bus = read(rt, bus, command, line);
-        let hearing = self.hearing;
-        let body = self.body;
-        Bench {
-            bus,
-            hearing,
-            length: self.length,
-            body,
-        }
+        let bus = read(rt, self.bus, command, line);
+        Bench { bus, ..self }
     }
 
     // Lines that work on the judge.
     fn with_hearing(self, rt: HostRuntime, command: u8, line: &[u8]) -> Bench {
-        let bus = self.bus;
-        let hearing = self.hearing;
-        let hearing = judge(rt, hearing, command, line);
-        let body = self.body;
-        Bench {
-            bus,
-            hearing,
-            length: self.length,
-            body,
-        }
+        let hearing = judge(rt, self.hearing, command, line);
+        Bench { hearing, ..self }
     }
 
     // A body of so many bytes, all alike.
     fn with_body(self, length: u64, byte: u8) -> Bench {
-        let bus = self.bus;
-        let hearing = self.hearing;
-        let body = [byte; LONGEST];
         if length <= LONGEST as u64 {
             return Bench {
-                bus,
-                hearing,
                 length: length as usize,
-                body,
+                body: [byte; LONGEST],
+                ..self
             };
         }
         self
@@ -119,18 +94,11 @@ impl Bench {
 
     // The body with another byte at a place.
     fn with_byte(self, place: u64, byte: u8) -> Bench {
-        let bus = self.bus;
-        let hearing = self.hearing;
         let mut body = self.body;
         if place < LONGEST as u64 {
             body[place as usize] = byte;
         }
-        Bench {
-            bus,
-            hearing,
-            length: self.length,
-            body,
-        }
+        Bench { body, ..self }
     }
 
     // Lines that only write.

@@ -5,7 +5,7 @@
 
 #![tactic(auto)]
 
-ghost use Rattle.std.specs.Prelude.{◌-◌};
+ghost use Rattle.std.specs.Prelude.{◌-◌, ◌≤◌, length, IfSome};
 ghost use Rattle.command.specs.Arguments.{sensor_and_file, AskedByAll, AskedBySome};
 
 use command_word::meaning;
@@ -42,25 +42,25 @@ fn words_below(rt: HostRuntime, usage: Usage, count: usize) -> Asked
     ensures { AskedByAll usage (count - 1) result }
 {
     let mut asked = Asked::new();
-    let mut i: usize = 1;
-    while i < count {
+    for i in 1..count {
         let mut buf = [0u8; host_calls::ROOM];
         let n = host_calls::arg(rt, i, &mut buf);
         asked = asked.with(usage, meaning(&buf[..n]), i);
-        i += 1;
     }
     asked.end()
 }
 
-// An input: what is read, none where it can't be opened; and how many bytes its name has.
+// An input: what is read, and how many bytes its name has.
 #[derive(Drop)]
 pub struct Input {
-    pub source: Option<Source>,
+    pub source: Source,
     pub length: usize,
 }
 
 // Opens the capture at a place among the arguments.
-pub fn open_capture(rt: HostRuntime, file: usize, name: &mut [u8]) -> Input {
+pub fn open_capture(rt: HostRuntime, file: usize, name: &mut [u8]) -> Option<Input>
+    ensures { IfSome result (λ i. i.length ≤ length name.new) }
+{
     open(
         rt,
         file,
@@ -69,45 +69,41 @@ pub fn open_capture(rt: HostRuntime, file: usize, name: &mut [u8]) -> Input {
     )
 }
 
-// Opens the file at a place among the arguments, or standard input for 0, and puts its name at the front of a buffer. A file that can't be
-// opened is told. Where standard input is a terminal, says what is waited for.
-pub fn open(rt: HostRuntime, file: usize, waiting: &[u8], name: &mut [u8]) -> Input {
+// Opens the file at a place among the arguments, or standard input for 0, and puts its name at the front of a buffer. None where a file can't
+// be opened, which is told. Where standard input is a terminal, says what is waited for.
+pub fn open(rt: HostRuntime, file: usize, waiting: &[u8], name: &mut [u8]) -> Option<Input>
+    ensures { IfSome result (λ i. i.length ≤ length name.new) }
+{
     if file == 0 {
         let input = rt.stdin();
         if input.is_terminal() {
             complain(rt, waiting);
         }
         let length = name_input(name);
-        return Input {
-            source: Some(Source::Standard(input)),
-            length,
-        };
+        let source = Source::Standard(input);
+        return Some(Input { source, length });
     }
     let length = host_calls::arg(rt, file, name);
     if length == 0 {
         tell_no_name(rt, file);
-        return Input {
-            source: None,
-            length,
-        };
+        return None;
     }
     match host_calls::open_read(rt, &name[..length]) {
-        Ok(opened) => Input {
-            source: Some(Source::Named(opened)),
-            length,
-        },
+        Ok(opened) => {
+            let source = Source::Named(opened);
+            Some(Input { source, length })
+        }
         Err(error) => {
             host_calls::fail(rt, &name[..length], error);
-            Input {
-                source: None,
-                length,
-            }
+            None
         }
     }
 }
 
 // Puts the name of standard input at the front of a buffer.
-fn name_input(name: &mut [u8]) -> usize {
+fn name_input(name: &mut [u8]) -> usize
+    ensures { result ≤ length name.new }
+{
     put(b"standard input", name, 0)
 }
 

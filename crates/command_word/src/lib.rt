@@ -45,17 +45,7 @@ pub fn meaning(text: &[u8]) -> Word
 pub fn is(text: &[u8], that: &[u8]) -> bool
     ensures { result ≡ same text.now that.now }
 {
-    if text.len() != that.len() {
-        return false;
-    }
-    let mut i: usize = 0;
-    while i < text.len() {
-        if text[i] != that[i] {
-            return false;
-        }
-        i += 1;
-    }
-    true
+    text == that
 }
 
 // What a word asks for that names no sensor.
@@ -93,20 +83,11 @@ fn mark_in(text: &[u8]) -> u64
     ensures { result ≡ mark_in text.now }
 {
     let mut mark: u64 = 0;
-    let mut i: usize = 0;
-    while i < text.len() {
-        let c = text[i];
-        if c < b'0' {
+    for c in text {
+        if *c < b'0' || b'9' < *c || TENTH_OF_MARKS < mark {
             return 0;
         }
-        if b'9' < c {
-            return 0;
-        }
-        if TENTH_OF_MARKS < mark {
-            return 0;
-        }
-        mark = 10 * mark + (c - b'0') as u64;
-        i += 1;
+        mark = 10 * mark + (*c - b'0') as u64;
     }
     mark
 }
@@ -115,8 +96,5 @@ fn mark_in(text: &[u8]) -> u64
 fn has_dash(text: &[u8]) -> bool
     ensures { result ≡ same (take 1 text.now) (ascii "-") }
 {
-    if text.len() < 1 {
-        return false;
-    }
-    is(&text[..1], b"-")
+    text.starts_with(b"-")
 }

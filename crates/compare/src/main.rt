@@ -8,11 +8,12 @@
 use command_words::{Asked, Usage};
 use diff_summary::Summary;
 use frame_row::Keeping;
-use lent_buffer::Filled;
 use profile::Profile;
+use refusal::Refusal;
 use std::fs::File;
 use std::io;
 use std::io::Write;
+use text::Page;
 
 // What no summary exceeds.
 const TEXT: usize = 512;
@@ -44,10 +45,7 @@ fn words(rt: HostRuntime) -> Asked {
 
 // Whether the words are understood, and name two captures.
 fn is_for_two(asked: Asked) -> bool {
-    if asked.second == 0 {
-        return false;
-    }
-    asked.understood
+    asked.understood && asked.second != 0
 }
 
 // Compares captures of VV5404 or VV6404 heads.
@@ -73,29 +71,23 @@ fn compare_asked(rt: HostRuntime, asked: Asked) {
     }
     let keeping = Keeping::WholeLines;
     let mut first = [0u8; frame_rows::ALL_LINES];
-    let n = frame_file::first_frame(rt, asked.first, keeping, &mut first);
-    if n == 0 {
-        return;
+    if let Some(n) = frame_file::first_frame(rt, asked.first, keeping, &mut first) {
+        compare_with(rt, &first[..n], asked.second, asked.output);
     }
-    compare_with(rt, &first[..n], asked.second, asked.output);
 }
 
 // Whether the name for the differences is a capture's.
 fn replaces(rt: HostRuntime, asked: Asked) -> bool {
-    if frame_file::is_same(rt, asked.output, asked.first) {
-        return true;
-    }
-    frame_file::is_same(rt, asked.output, asked.second)
+    frame_file::is_same(rt, asked.output, asked.first)
+        || frame_file::is_same(rt, asked.output, asked.second)
 }
 
 fn compare_with(rt: HostRuntime, first: &[u8], capture: usize, output: usize) {
     let keeping = Keeping::WholeLines;
     let mut second = [0u8; frame_rows::ALL_LINES];
-    let m = frame_file::first_frame(rt, capture, keeping, &mut second);
-    if m == 0 {
-        return;
+    if let Some(m) = frame_file::first_frame(rt, capture, keeping, &mut second) {
+        between(rt, first, &second[..m], output);
     }
-    between(rt, first, &second[..m], output);
 }
 
 // Says whether two lists are equal or how they differ, and writes the differences where they are asked for. The comparison is first lent room
@@ -104,9 +96,9 @@ fn between(rt: HostRuntime, first: &[u8], second: &[u8], output: usize) {
     let mut none = [0u8; 1];
     let filled = diff_lines::compare(first, second, &mut none);
     match filled {
-        Filled::Length(_) => say(rt, b"the two frames are equal\n"),
-        Filled::Refused(why) => {
-            if why != refusal::NO_ROOM {
+        Ok(_) => say(rt, b"the two frames are equal\n"),
+        Err(why) => {
+            if why != Refusal::NO_ROOM {
                 command::complain(rt, b"the two frames cannot be compared\n");
                 return;
             }
@@ -122,7 +114,9 @@ fn between(rt: HostRuntime, first: &[u8], second: &[u8], output: usize) {
 // Writes the summary.
 fn say_summary(rt: HostRuntime, summary: Summary) {
     let mut text = [0u8; TEXT];
-    let end = diff_summary_words::put_summary(summary, &mut text, 0);
+    let mut page = Page::new(&mut text);
+    diff_summary_words::put_summary(summary, &mut page);
+    let end = page.used;
     if text.len() < end {
         return;
     }
@@ -137,11 +131,10 @@ fn save(rt: HostRuntime, first: &[u8], second: &[u8], output: usize) {
         command::tell_no_name(rt, output);
         return;
     }
-    let mut saving = whole_file::begin(rt, &name[..n]);
-    let Some(made) = &mut saving.file else {
+    let Some(mut saving) = whole_file::begin(rt, &name[..n]) else {
         return;
     };
-    let whole = match all_rows(made, first, second) {
+    let whole = match all_rows(&mut saving.file, first, second) {
         Ok(()) => true,
         Err(error) => {
             host_calls::fail(rt, &name[..n], error);
@@ -155,6 +148,7 @@ fn save(rt: HostRuntime, first: &[u8], second: &[u8], output: usize) {
 fn all_rows(file: &mut File, first: &[u8], second: &[u8]) -> io::Result<()> {
     let mut i: usize = 0;
     let mut j: usize = 0;
+    // Not a for: each turn goes on by what the call took.
     loop {
         let mut rows = [0u8; diff_rows::ROOM];
         let piece = diff_rows::next_rows(&first[i..], &second[j..], &mut rows);

@@ -9,10 +9,7 @@ ghost use Rattle.counts.specs.Counts.{one_more, one_more_at, all_zero};
 pub fn one_more(count: u64) -> u64
     ensures { result ≡ one_more count }
 {
-    if count < u64::MAX {
-        return count + 1;
-    }
-    count
+    count.saturating_add(1)
 }
 
 // Counts side by side, with one more at a place: none where there is no such place.
@@ -28,12 +25,5 @@ pub fn add_at(counts: &mut [u64], i: usize)
 pub fn are_zero(counts: &[u64]) -> bool
     ensures { result ≡ all_zero counts.now }
 {
-    let mut i: usize = 0;
-    while i < counts.len() {
-        if 0 < counts[i] {
-            return false;
-        }
-        i += 1;
-    }
-    true
+    counts.iter().all(|n| *n == 0)
 }

@@ -44,30 +44,19 @@ fn note_line(kind: u8, number: u16, came: &mut [u8])
 }
 
 // Whether every line up to the EOF line came, of a layout with borders or of one without.
+#[tactic(auto, unfolding(crate::specs::Coverage::is_covered))]
 pub fn is_covered(profile: Profile, came: &[u8]) -> bool
     ensures { result ≡ is_covered profile came.now }
 {
-    if have_come(profile, Borders::On, came) {
-        return true;
-    }
-    have_come(profile, Borders::Off, came)
+    have_come(profile, Borders::On, came) || have_come(profile, Borders::Off, came)
 }
 
 // Whether every line of a layout up to the EOF line came.
 fn have_come(profile: Profile, borders: Borders, came: &[u8]) -> bool
     ensures { result ≡ all_came profile borders came.now (end_place profile borders + 1) }
 {
-    let mut left = borders.end_place(profile) + 1;
-    while 0 < left {
-        let place = left - 1;
-        let kind = borders.kind_at_place(profile, place);
-        if has_come(kind, place, came) {
-            left = place;
-        } else {
-            return false;
-        }
-    }
-    true
+    let lines = borders.end_place(profile) + 1;
+    (0..lines).all(|place| has_come(borders.kind_at_place(profile, place), place, came))
 }
 
 // Whether a line of this kind came with this number.
@@ -75,10 +64,7 @@ fn has_come(kind: Kind, number: u16, came: &[u8]) -> bool
     ensures { result ≡ has_come came.now (kind_number kind) number }
 {
     let cell = cell_of(kind.number(), number);
-    if cell < came.len() {
-        return came[cell] == 1;
-    }
-    false
+    cell < came.len() && came[cell] == 1
 }
 
 fn cell_of(kind: u8, number: u16) -> usize

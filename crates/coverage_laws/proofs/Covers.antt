@@ -1,7 +1,7 @@
 -- The table of what came tells exactly whether a frame is covered: lines of different kind or number have different cells (CoveredLaws), so that each
 -- cell says whether its line was handed out. A frame that the judge found complete is covered: each of its lines was handed out. And what some answers
 -- cover is covered by all that have these lines among them.
-use Rattle.std.specs.Prelude.{◌≡◌, refl, Bool, true, false, ◌&&◌, ◌||◌, cond, List, [], ◌∷◌, ◌++◌, ◌↔◌, ℕ, zero, suc, ◌+◌, ◌*◌, ◌≤◌, ◌<◌, eqb, ltb, length, set}
+use Rattle.std.specs.Prelude.{◌≡◌, refl, Bool, true, false, ◌&&◌, ◌||◌, cond, List, [], ◌∷◌, ◌++◌, ◌↔◌, ℕ, zero, suc, ◌+◌, ◌*◌, ◌≤◌, ◌<◌, eqb, ltb, length, set, None}
 use Rattle.std.proofs.Common.{◌∙◌, ap, ap₂, sym, subst, true≢false, not-suc-le-zero, arith, lit≤, length-set, le-ltb}
 use Rattle.std.proofs.Math.Bool.{or-true, or-false, or_assoc}
 use Rattle.std.proofs.lemmas.List.{length-replicate, get_or-replicate}
@@ -21,12 +21,11 @@ use Rattle.frame_judge.specs.declared.Judge.{Judge}
 use Rattle.frame_judge.specs.declared.Judge.TheVariants.{Waiting}
 use Rattle.frame_judge.specs.declared.Ruling.{Ruling}
 use Rattle.frame_judge.specs.declared.Ruling.TheVariants as ruling
-use Rattle.frame_handing.specs.declared.Handed.TheVariants as hand
 use Rattle.frame_layout.specs.FrameLayout.{end_place, kind_at_place, number_due, due_at}
 use Rattle.frame_layout.specs.PlaceLaws.{last_small, end_within}
 use Rattle.frame_judge.specs.Frame.{broken_kind}
 use Rattle.frame_judge.specs.Calls.{Line, called, after, rulings, is_complete, accepts, accepted, is_laid_out_at, laid_from, IsFrame}
-use Rattle.frame_handing.specs.Handing.{is_broken_line, as_lines, handed_lines, all_handed}
+use Rattle.frame_handing.specs.Handing.{is_broken_line, hand, as_lines, handed_lines, all_handed}
 use Rattle.frame_laws.proofs.WholeFrames.{complete_frame}
 use Rattle.coverage.specs.Coverage.{cell_of, none_came, with_line, with_answer, has_come, all_came, is_covered}
 use Rattle.coverage_laws.specs.AmongAnswers.{LineAmong, DueAmong}
@@ -236,9 +235,9 @@ handed_due : (p : Profile) (b : Borders) (place : ℕ) (a : Answer) → some (is
 handed_due p b place answer.Nothing h = h
 handed_due p b place (answer.Line f) h = and_left (due_at p b place (kind_number f.kind) f.number) _ (sym (or-false _) ∙ h)
 handed_due p b place (answer.Gap g) h = h
-handed_due p b place (answer.Refused n) h = go (is_broken_line n) h
+handed_due p b place (answer.Refused r) h = go (is_broken_line r.0) h
   where
-    go : (t : Bool) → some (is_laid_out_at p b place) (as_lines (cond t (hand.Line broken_kind 0) hand.Nothing)) ≡ true → false ≡ true
+    go : (t : Bool) → some (is_laid_out_at p b place) (as_lines (cond t (hand broken_kind 0) None)) ≡ true → false ≡ true
     go true h = sym (ap (λ (t : Bool). ((t && number_due p b place 0) && true) || false) (broken_nowhere (kind_at_place p b place))) ∙ h
     go false h = h
 

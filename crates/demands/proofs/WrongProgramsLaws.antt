@@ -1,8 +1,7 @@
 -- 01's wrong readers and writers are excluded by the statements themselves, whatever the program: of a clean stream of two lines with two numbers
 -- demand 3 wants both lines out, which no reader of these sorts gives; and for a line that may be written the table wants it written.
-use Rattle.std.specs.Prelude.{◌≡◌, refl, Bool, true, false, List, [], ◌∷◌, ◌++◌, ℕ, length, replicate, get_or}
+use Rattle.std.specs.Prelude.{◌≡◌, refl, Bool, true, false, List, [], ◌∷◌, ◌++◌, ℕ, length, replicate, get_or, Result}
 use Rattle.std.proofs.Common.{sym, ap, ◌∙◌, true≢false, arith, lit≤}
-use Rattle.lent_buffer.specs.declared.Filled.{Filled}
 use Rattle.lent_buffer.specs.Filled.{Output, used, refused, output_of, buffer_after}
 use Rattle.line_code.specs.declared.Kind.TheVariants.{BL}
 use Rattle.profile.specs.declared.Profile.{Profile}
@@ -17,6 +16,7 @@ use Rattle.recovery.specs.WrittenLaws.{all_changed}
 use Rattle.recovery.proofs.Examples.{sample, sample_writable, fed_then_done, finish_last, room}
 use Rattle.demands.specs.Examples.{written_as}
 use Rattle.demands.specs.WrongPrograms.{TakesNibbles, RefusesEachMark, ReportsAlways, CopiesFirst, WriteCall, WritesByTable, WritesNothing, RefusesAlways}
+use Rattle.refusal.specs.declared.Refusal.{Refusal}
 
 -- Readers.
 
@@ -108,5 +108,5 @@ module _ (p : Profile) (write : Sent → List ℕ → WriteCall) where
   pub always_refused_excluded : WritesByTable p write → RefusesAlways p write → ⊥
   always_refused_excluded g h =
       let says : output_of (write blank_line (zeros p)).answer (write blank_line (zeros p)).buffer ≡ used (length (written blank_line)) (written blank_line) = (g blank_line (zeros p)).says ∙ due in
-      let said = ap (λ (a : Filled). is_used (output_of a (write blank_line (zeros p)).buffer)) (h blank_line (zeros p)).1 in
+      let said = ap (λ (a : Result ℕ Refusal). is_used (output_of a (write blank_line (zeros p)).buffer)) (h blank_line (zeros p)).1 in
       true≢false (sym (ap is_used says) ∙ said)

@@ -1,15 +1,13 @@
 -- Demand 2 as one claim: whatever lines the writer wrote, and whichever bits of their codes were flipped in what it wrote, every list of calls that
 -- takes the outcome is told each line for itself. Definitions only.
-use Rattle.std.specs.Prelude.{◌≡◌, Bool, cond, List, [], ◌∷◌, ◌++◌, map, ℕ, ◌*◌, ◌<◌, length, take}
+use Rattle.std.specs.Prelude.{◌≡◌, Bool, cond, List, [], ◌∷◌, ◌++◌, map, ℕ, ◌*◌, ◌<◌, length, take, None, Some}
 use Rattle.bits.specs.Bits.{flipped}
 use Rattle.refusal.specs.Refusal.{damaged_code, no_end_of_line, end_without_line}
 use Rattle.lent_buffer.specs.Filled.{used}
 use Rattle.line_code.specs.declared.Kind.{Kind}
-use Rattle.line_code.specs.declared.LineKind.TheVariants.{NotLine, LineOf}
 use Rattle.line_code.specs.declared.Meaning.{Meaning}
 use Rattle.line_code.specs.LineCode.{clean_byte, reading_of, kind_of, kind_numbered}
 use Rattle.profile.specs.declared.Profile.{Profile}
-use Rattle.profile.specs.declared.Numbered.TheVariants as numbered
 use Rattle.profile.specs.Profile.{profile_numbered}
 use Rattle.stream.specs.Answers.{Outcome, refused}
 use Rattle.stream.specs.Written.{Sent, mark_of}
@@ -46,7 +44,7 @@ pub record DemandTwo (p : Profile) : Type 0 where
   -- lines come back as sent, in any list of them, each with the flipped bit of either code named
   pub lines_read : (all : List Arrived) (v : List ℕ) → AllArrived p all v → ReadAs p all v
   -- where two of the eight bits of any clean code are flipped, it is never a line kind
-  pub two_flipped : (m : Meaning) (i j : ℕ) → i < 8 → j < 8 → (i ≡ j → ⊥) → kind_of (reading_of (flipped (flipped (clean_byte m) i) j)) ≡ NotLine
+  pub two_flipped : (m : Meaning) (i j : ℕ) → i < 8 → j < 8 → (i ≡ j → ⊥) → kind_of (reading_of (flipped (flipped (clean_byte m) i) j)) ≡ None
 
 -- One line, by the numbers that the writer was given.
 
@@ -55,8 +53,8 @@ pub record DemandTwo (p : Profile) : Type 0 where
 pub record Accepted (profile kind number : ℕ) (body : List ℕ) (a b nulls n : ℕ) (w : List ℕ) : Type 0 where
   pub p : Profile
   pub k : Kind
-  pub profile_is : profile_numbered profile ≡ numbered.Profile p
-  pub kind_is : kind_numbered kind ≡ LineOf k
+  pub profile_is : profile_numbered profile ≡ Some p
+  pub kind_is : kind_numbered kind ≡ Some k
   pub count_is : n ≡ length w
   pub reads_back : (start end : Flips) → let line : Arrived = arrived_with (sent k number body a b nulls) start end in ReadAs p (line ∷ []) (with_flips p line w)
 

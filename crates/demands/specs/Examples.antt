@@ -72,11 +72,11 @@ module _ (p : Profile) (buffer : List ℕ) (enough : body_length p ≤ length bu
   next_at r n l a = record { ok = take_ok r n (omega arith) a.ok; profile_is = take_profile r.head _ n ∙ a.profile_is }
 
   -- above 15: 10
-  above : (r : Reader) → At p r → reader_call r (feed 16 buffer) ≡ untouched r (answers.Refused not_a_nibble) buffer
+  above : (r : Reader) → At p r → reader_call r (feed 16 buffer) ≡ untouched r (answers.Refused (record { 0 = not_a_nibble })) buffer
   above r a = ap (λ (t : Took). gives t buffer) ((feeds_by_table r 16 (length buffer) _).1 (not_a_nibble_lem (passes_test r.head a.ok.test) (lit≤ tt)))
 
   -- no room at all: 12
-  short : (r : Reader) (n : ℕ) → n ≤ 15 → At p r → reader_call r (feed n []) ≡ untouched r (answers.Refused no_room) []
+  short : (r : Reader) (n : ℕ) → n ≤ 15 → At p r → reader_call r (feed n []) ≡ untouched r (answers.Refused (record { 0 = no_room })) []
   short r n l a = ap (λ (t : Took). gives t []) ((feeds_by_table r n 0 _).1 (no_room_lem (passes_test r.head a.ok.test) l (some_body r.head.profile)))
 
   -- rightly

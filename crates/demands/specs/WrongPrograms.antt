@@ -1,7 +1,5 @@
 -- The wrong readers and writers that 01 names ('How tight the statements are'), each by what every program of its sort does. Definitions only.
-use Rattle.std.specs.Prelude.{◌≡◌, List, [], ◌∷◌, ◌++◌, ℕ, ◌≤◌, length}
-use Rattle.lent_buffer.specs.declared.Filled.{Filled}
-use Rattle.lent_buffer.specs.declared.Filled.TheVariants as filled
+use Rattle.std.specs.Prelude.{◌≡◌, List, [], ◌∷◌, ◌++◌, ℕ, ◌≤◌, length, Err, Result}
 use Rattle.lent_buffer.specs.Filled.{Gives}
 use Rattle.profile.specs.declared.Profile.{Profile}
 use Rattle.profile.specs.Profile.{body_length}
@@ -9,6 +7,7 @@ use Rattle.stream.specs.Answers.{outcome_of}
 use Rattle.stream.specs.Written.{Sent}
 use Rattle.writer.specs.WriterTable.{write_sent}
 use Rattle.recovery.specs.Calls.{Call, feed, CallResult, takes, LineOut, line_in, on_lines}
+use Rattle.refusal.specs.declared.Refusal.{Refusal}
 
 -- Readers of the type R, by their calls.
 
@@ -33,7 +32,7 @@ module _ {R : Type 0} (on : R → Call → CallResult R) (p : Profile) where
 
 -- what a call of a writer answers, and the buffer that it leaves
 pub record WriteCall : Type 0 where
-  pub answer : Filled
+  pub answer : Result ℕ Refusal
   pub buffer : List ℕ
 
 module _ (p : Profile) (write : Sent → List ℕ → WriteCall) where
@@ -47,4 +46,4 @@ module _ (p : Profile) (write : Sent → List ℕ → WriteCall) where
 
   -- one that always refuses
   abbrev pub RefusesAlways : Type 0
-  RefusesAlways = (s : Sent) (buffer : List ℕ) → (n : ℕ) × ((write s buffer).answer ≡ filled.Refused n)
+  RefusesAlways = (s : Sent) (buffer : List ℕ) → (n : ℕ) × ((write s buffer).answer ≡ Err (record { 0 = n }))

@@ -18,71 +18,57 @@ ghost use Rattle.diff_lines.specs.Compare.{compare_of};
 
 use lent_buffer::Filled;
 use line_records::LINE;
+use refusal::Refusal;
 
 // Compares two lists.
 pub fn compare(first: &[u8], second: &[u8], buffer: &mut [u8]) -> Filled
     ensures { Gives (compare_of first.now second.now (length buffer.old)) result buffer.old buffer.new }
 {
     if either_falls(first, second) {
-        return Filled::Refused(refusal::NUMBERS_NOT_RISING);
+        return Err(Refusal::NUMBERS_NOT_RISING);
     }
     if either_past(first, second) {
-        return Filled::Refused(refusal::NUMBER_TOO_LARGE);
+        return Err(Refusal::NUMBER_TOO_LARGE);
     }
     if either_bad(first, second) {
-        return Filled::Refused(refusal::BAD_KIND);
+        return Err(Refusal::BAD_KIND);
     }
     if either_cut(first, second) {
-        return Filled::Refused(refusal::WRONG_BODY_LENGTH);
+        return Err(Refusal::WRONG_BODY_LENGTH);
     }
     if fits(first, second, buffer.len()) {
         let end = put_all(first, second, buffer);
-        return Filled::Length(end);
+        return Ok(end);
     }
-    Filled::Refused(refusal::NO_ROOM)
+    Err(Refusal::NO_ROOM)
 }
 
 // Whether in either list a number is not above the one before it.
 fn either_falls(first: &[u8], second: &[u8]) -> bool
     ensures { (rises (headed_lines first.now) && rises (headed_lines second.now)) ≡ not result }
 {
-    if line_records::some_falls(first) {
-        return true;
-    }
-    line_records::some_falls(second)
+    line_records::some_falls(first) || line_records::some_falls(second)
 }
 
 // Whether in either list a number is above 4095.
 fn either_past(first: &[u8], second: &[u8]) -> bool
     ensures { (numbers_small (headed_lines first.now) && numbers_small (headed_lines second.now)) ≡ not result }
 {
-    if line_records::some_number_past(first) {
-        return true;
-    }
-    line_records::some_number_past(second)
+    line_records::some_number_past(first) || line_records::some_number_past(second)
 }
 
 // Whether in either list a kind is not 1 to 5.
 fn either_bad(first: &[u8], second: &[u8]) -> bool
     ensures { (kinds_known (headed_lines first.now) && kinds_known (headed_lines second.now)) ≡ not result }
 {
-    if line_records::some_kind_bad(first) {
-        return true;
-    }
-    line_records::some_kind_bad(second)
+    line_records::some_kind_bad(first) || line_records::some_kind_bad(second)
 }
 
 // Whether either list is cut within a line.
 fn either_cut(first: &[u8], second: &[u8]) -> bool
     ensures { (none_cut first.now && none_cut second.now) ≡ not result }
 {
-    if first.len() % LINE != 0 {
-        return true;
-    }
-    if second.len() % LINE != 0 {
-        return true;
-    }
-    false
+    first.len() % LINE != 0 || second.len() % LINE != 0
 }
 
 // Whether there is room for all differences.
@@ -92,6 +78,7 @@ fn fits(first: &[u8], second: &[u8], room: usize) -> bool
     let mut left = room;
     let mut i: usize = 0;
     let mut j: usize = 0;
+    // Not a for: each turn goes on by how far the next number reaches in each list.
     loop {
         let a = &first[i..];
         let b = &second[j..];
@@ -119,6 +106,7 @@ fn put_all(first: &[u8], second: &[u8], buffer: &mut [u8]) -> usize
     let mut at: usize = 0;
     let mut i: usize = 0;
     let mut j: usize = 0;
+    // Not a for: each turn goes on by how far the next number reaches in each list.
     loop {
         let a = &first[i..];
         let b = &second[j..];

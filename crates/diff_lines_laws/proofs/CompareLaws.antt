@@ -1,9 +1,8 @@
 -- What 02 asks of a comparison: equal lists, and only these, give nothing; the bytes written turn the first list into the second; their order.
-use Rattle.std.specs.Prelude.{◌≡◌, true, ◌&&◌, ℕ, ◌≤◌, ◌<◌, length, get_or, take}
+use Rattle.std.specs.Prelude.{◌≡◌, true, ◌&&◌, ℕ, ◌≤◌, ◌<◌, length, get_or, take, Ok}
 use Rattle.std.proofs.Common.{sym, ap, subst, ◌∙◌, arith, le-leb}
 use mathlib.Core.List.{List, [], Memᴰ}
 use Rattle.bits.specs.Every.{and_left, and_right}
-use Rattle.lent_buffer.specs.declared.Filled.TheVariants as filled
 use Rattle.lent_buffer.specs.Filled.{used, Gives, require}
 use Rattle.lent_buffer.specs.FilledLaws.{passed, used_fitted}
 use Rattle.line_records.specs.Lines.{full_lines, headed_lines, as_lent, none_cut, rises, numbers_small, kinds_known}
@@ -117,7 +116,7 @@ no_lines room = simp (le-leb 0 room (omega arith))
 
 -- From the buffer, as a call leaves it.
 
-module _ (first second before after : List ℕ) (n : ℕ) (g : Gives (compare_of first second (length before)) (filled.Length n) before after) where
+module _ (first second before after : List ℕ) (n : ℕ) (g : Gives (compare_of first second (length before)) (Ok n) before after) where
   -- the bytes used, and the first list, tell the second
   pub from_buffer : AllBytes second → as_lent (applied_all (differences_in (take n after)) (full_lines first)) ≡ second
   from_buffer = second_list first second (take n after) n (length before) (sym g.says)

@@ -1,2 +1,3 @@
 pub mod DifferenceLaws
 pub mod NextLaws
+pub mod PairLaws

@@ -95,13 +95,7 @@ fn different(a: &[u8], b: &[u8]) -> usize
     requires { (length a.now ≡ width) × (length b.now ≡ width) }
     ensures { (result ≡ different a.now b.now) × (result ≤ width) }
 {
-    let mut count: usize = 0;
-    let mut p: usize = 0;
-    while p < a.len() {
-        count += unequal(a[p], b[p]);
-        p += 1;
-    }
-    count
+    a.iter().zip(b).filter(|(x, y)| x != y).count()
 }
 
 // 1 where two bytes differ.
@@ -151,10 +145,8 @@ fn put_places(n: usize, a: &[u8], b: &[u8], buffer: &mut [u8], at: usize) -> usi
     ensures { Puts buffer.old at (encoded_all (places_from n 0 a.now b.now)) result buffer.new }
 {
     let mut next = at;
-    let mut p: usize = 0;
-    while p < a.len() {
-        next = put_place(n, p, a[p], b[p], buffer, next);
-        p += 1;
+    for (p, (x, y)) in a.iter().zip(b).enumerate() {
+        next = put_place(n, p, *x, *y, buffer, next);
     }
     next
 }

@@ -7,11 +7,12 @@
 
 #![tactic(auto)]
 
-ghost use Rattle.text.specs.Put.{Puts};
+ghost use Rattle.text.specs.Pages.{Writes};
 ghost use Rattle.diff_records.specs.ReadBack.{differences_in};
 ghost use Rattle.diff_rows.specs.Rows.{rows_text, RowsPut};
 
 use profile::Profile;
+use text::Page;
 
 // The most bytes of one number's differences: both kinds, and every place.
 const MOST: usize = diff_records::KINDS_SIZE + diff_records::BYTES_SIZE * Profile::WIDTH;
@@ -39,24 +40,28 @@ pub fn next_rows(a: &[u8], b: &[u8], out: &mut [u8]) -> Piece
     let second = diff_records::how_far(m, n);
     let mut records = [0u8; MOST];
     let size = diff_records::put_next(a, b, &mut records, 0);
-    let end = put_rows(&records[..size], out, 0);
-    Piece { first, second, end }
+    let mut page = Page::new(out);
+    put_rows(&records[..size], &mut page);
+    Piece {
+        first,
+        second,
+        end: page.used,
+    }
 }
 
-// Puts a row for each difference that some bytes tell.
-fn put_rows(records: &[u8], out: &mut [u8], at: usize) -> usize
-    ensures { Puts out.old at (rows_text (differences_in records.now)) result out.new }
+// Writes a row for each difference that some bytes tell.
+fn put_rows(records: &[u8], page: &mut Page<'_>)
+    ensures { Writes (rows_text (differences_in records.now)) page.old page.new }
 {
-    let mut next = at;
     let mut i: usize = 0;
+    // Not a for: each turn goes on by the size of the difference there.
     while i < records.len() {
         let rest = &records[i..];
-        next = diff_change_row::put_row(diff_change::front(rest), out, next);
+        diff_change_row::put_row(diff_change::front(rest), page);
         let size = diff_change::front_size(rest);
         if rest.len() < size {
-            return next;
+            return;
         }
         i += size;
     }
-    next
 }

@@ -9,7 +9,7 @@ ghost use Rattle.std.specs.Prelude.{◌≡◌, [], ◌≤◌, eqb, length};
 ghost use Rattle.line_records.specs.Lines.{line_size, front_line, full_lines};
 ghost use Rattle.diff_records.specs.Difference.{both_kinds, both_bytes, unless, places_from, between_lines, differences};
 ghost use Rattle.diff_records.specs.Next.{next_differences};
-ghost use Rattle.diff_summary.specs.Summary.{absolute_difference, greater_of, fresh, with_counts, lines_with, least_with, with_pixel, with_change, with_differences, summary_of};
+ghost use Rattle.diff_summary.specs.Summary.{fresh, with_counts, lines_with, least_with, with_pixel, with_change, with_differences, summary_of};
 
 use counts::one_more;
 use diff_change::Change;
@@ -36,6 +36,7 @@ pub fn summed(first: &[u8], second: &[u8]) -> Summary
     let mut s = Summary::new();
     let mut i: usize = 0;
     let mut j: usize = 0;
+    // Not a for: each turn goes on by how far the next number reaches in each list.
     loop {
         let a = &first[i..];
         let b = &second[j..];
@@ -112,10 +113,8 @@ impl Summary {
         ensures { result ≡ with_differences self (places_from n 0 a.now b.now) }
     {
         let mut s = self;
-        let mut p: usize = 0;
-        while p < a.len() {
-            s = s.with_place(n, p, a[p], b[p]);
-            p += 1;
+        for (p, (x, y)) in a.iter().zip(b).enumerate() {
+            s = s.with_place(n, p, *x, *y);
         }
         s
     }
@@ -138,7 +137,7 @@ impl Summary {
             Change::First(_) => self.with(one_more(self.first), self.second, self.kinds),
             Change::Second(_) => self.with(self.first, one_more(self.second), self.kinds),
             Change::Kinds(_, _, _) => self.with(self.first, self.second, one_more(self.kinds)),
-            Change::Bytes(number, _, x, y) => self.pixel(number, absolute_difference(x, y)),
+            Change::Bytes(number, _, x, y) => self.pixel(number, x.abs_diff(y)),
         }
     }
 
@@ -150,11 +149,7 @@ impl Summary {
             first,
             second,
             kinds,
-            pixels: self.pixels,
-            lines: self.lines,
-            least: self.least,
-            last: self.last,
-            most: self.most,
+            ..self
         }
     }
 
@@ -165,16 +160,14 @@ impl Summary {
         let pixels = one_more(self.pixels);
         let lines = self.lines_with(number);
         let least = self.least_with(number);
-        let most = greater_of(self.most, by);
+        let most = self.most.max(by);
         Summary {
-            first: self.first,
-            second: self.second,
-            kinds: self.kinds,
             pixels,
             lines,
             least,
             last: number,
             most,
+            ..self
         }
     }
 
@@ -198,23 +191,4 @@ impl Summary {
         }
         self.least
     }
-}
-
-// How far two bytes are apart.
-fn absolute_difference(x: u8, y: u8) -> u8
-    ensures { result ≡ absolute_difference x y }
-{
-    if x < y {
-        return y - x;
-    }
-    x - y
-}
-
-fn greater_of(x: u8, y: u8) -> u8
-    ensures { result ≡ greater_of x y }
-{
-    if x < y {
-        return y;
-    }
-    x
 }

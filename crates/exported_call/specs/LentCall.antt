@@ -1,20 +1,19 @@
 -- What an exported call gives back: its number, and what was lent to it.
-use Rattle.std.specs.Prelude.{◌≡◌, Bool, true, false, List, ℕ}
-use Rattle.lent_buffer.specs.declared.Filled.{Filled}
-use Rattle.lent_buffer.specs.declared.Filled.TheVariants as filled
+use Rattle.std.specs.Prelude.{◌≡◌, Bool, true, false, List, ℕ, Err, Ok, Result}
 use Rattle.lent_buffer.specs.Filled.{Output, answer_for, buffer_after}
+use Rattle.refusal.specs.declared.Refusal.{Refusal}
 
 -- Calls that fill a lent buffer: 0 or the refusal, and how much is filled.
 
 -- the answer's number: 0, or the refusal
-abbrev pub written_number : Filled → ℕ
-written_number (filled.Length n) = 0
-written_number (filled.Refused n) = n
+abbrev pub written_number : Result ℕ Refusal → ℕ
+written_number (Ok n) = 0
+written_number (Err r) = r.0
 
 -- the length used, 0 with a refusal
-abbrev pub written_count : Filled → ℕ
-written_count (filled.Length n) = n
-written_count (filled.Refused n) = 0
+abbrev pub written_count : Result ℕ Refusal → ℕ
+written_count (Ok n) = n
+written_count (Err r) = 0
 
 -- the buffer is left as by every call that fills one
 pub record WriteGives (o : Output) (answer written : ℕ) (before after : List ℕ) : Type 0 where

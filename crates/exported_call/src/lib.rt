@@ -15,13 +15,13 @@ pub fn number_written(filled: Filled, written: &mut usize) -> u8
     ensures { (result ≡ written_number filled) × (written.new ≡ written_count filled) }
 {
     match filled {
-        Filled::Length(n) => {
+        Ok(n) => {
             *written = n;
             0
         }
-        Filled::Refused(n) => {
+        Err(refusal) => {
             *written = 0;
-            n
+            refusal.0
         }
     }
 }

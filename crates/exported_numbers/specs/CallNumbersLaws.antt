@@ -1,5 +1,5 @@
 -- Laws of numbers: a judge's number stands for the judge; and an answer's number tells its parts.
-use Rattle.std.specs.Prelude.{◌≡◌, refl, Bool, true, false, cond, ℕ, ◌+◌, ◌/◌, ◌%◌, ◌≤◌, ◌<◌, eqb, leb, ltb}
+use Rattle.std.specs.Prelude.{◌≡◌, refl, Bool, true, false, cond, ℕ, ◌+◌, ◌/◌, ◌%◌, ◌≤◌, ◌<◌, eqb, leb, ltb, None, Some}
 use Rattle.std.proofs.Common.{sym, ap, arith, ltb-true, ltb-false, leb-true, eqb-true, lt-ltb, le-ltb, ne_eqb}
 use Rattle.bits.specs.Every.{and_left, and_right}
 use Rattle.exported_call.specs.LentCall.{bit_of}
@@ -12,7 +12,6 @@ use Rattle.stream.specs.declared.LineFacts.{LineFacts}
 use Rattle.stream.specs.declared.Answer.TheVariants as answers
 use Rattle.stream.specs.Answers.{either_repaired}
 use Rattle.frame_layout.specs.declared.Borders.TheVariants.{On, Off}
-use Rattle.frame_judge.specs.declared.KnownBorders.TheVariants.{Unsettled, Settled}
 use Rattle.frame_judge.specs.declared.Judge.{Judge}
 use Rattle.frame_judge.specs.declared.Judge.TheVariants.{Waiting, Due}
 use Rattle.frame_judge.specs.Frame as frame
@@ -28,25 +27,25 @@ within_low from to n h = leb-true from n (and_left _ _ h)
 
 pub judge_small : (j : Judge) → frame.passes VV5404 j ≡ true → judge_number j < 0x30000
 judge_small Waiting h = omega arith
-judge_small (Due place Unsettled) h = omega (arith, within_high 1 10 place h)
-judge_small (Due place (Settled On)) h = omega (arith, within_high 11 303 place h)
-judge_small (Due place (Settled Off)) h = omega (arith, within_high 11 303 place h)
+judge_small (Due place None) h = omega (arith, within_high 1 10 place h)
+judge_small (Due place (Some On)) h = omega (arith, within_high 11 303 place h)
+judge_small (Due place (Some Off)) h = omega (arith, within_high 11 303 place h)
 
 pub judge_back : (j : Judge) → frame.passes VV5404 j ≡ true → judge_numbered (judge_number j) ≡ j
 unfolding judge_numbered
 judge_back Waiting h = refl
-judge_back (Due place Unsettled) h =
+judge_back (Due place None) h =
     let high = within_high 1 10 place h in
     let low = within_low 1 10 place h in
-    simp (ne_eqb place 0 (λ e. omega arith), lt-ltb place 0x10000 (omega arith)) (ap (λ (k : ℕ). Due k Unsettled) (omega arith))
-judge_back (Due place (Settled On)) h =
+    simp (ne_eqb place 0 (λ e. omega arith), lt-ltb place 0x10000 (omega arith)) (ap (λ (k : ℕ). Due k None) (omega arith))
+judge_back (Due place (Some On)) h =
     let high = within_high 11 303 place h in
     simp (ne_eqb (0x10000 + place) 0 (λ e. omega arith), le-ltb (0x10000 + place) 0x10000 (omega arith), lt-ltb (0x10000 + place) 0x20000 (omega arith))
-    (ap (λ (k : ℕ). Due k (Settled On)) (omega arith))
-judge_back (Due place (Settled Off)) h =
+    (ap (λ (k : ℕ). Due k (Some On)) (omega arith))
+judge_back (Due place (Some Off)) h =
     let high = within_high 11 303 place h in
     simp (ne_eqb (0x20000 + place) 0 (λ e. omega arith), le-ltb (0x20000 + place) 0x10000 (omega arith), le-ltb (0x20000 + place) 0x20000 (omega arith))
-    (ap (λ (k : ℕ). Due k (Settled Off)) (omega arith))
+    (ap (λ (k : ℕ). Due k (Some Off)) (omega arith))
 
 -- so a judge that its own call leaves as it was has the same number, whatever the number
 pub number_back : (n : ℕ) → n < 0x30000 → judge_number (judge_numbered n) ≡ n
@@ -54,7 +53,7 @@ unfolding judge_numbered
 number_back n h = go (eqb n 0) (ltb n 0x10000) (ltb n 0x20000) refl refl refl
   where
     go : (a b c : Bool) → eqb n 0 ≡ a → ltb n 0x10000 ≡ b → ltb n 0x20000 ≡ c
-        → judge_number (cond a Waiting (Due (n % 0x10000) (cond b Unsettled (Settled (cond c On Off))))) ≡ n
+        → judge_number (cond a Waiting (Due (n % 0x10000) (cond b None (Some (cond c On Off))))) ≡ n
     go true b c e f g = sym (eqb-true n 0 e)
     go false true c e f g = let l = ltb-true n 0x10000 f in omega arith
     go false false true e f g =

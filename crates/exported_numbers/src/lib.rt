@@ -9,7 +9,7 @@ ghost use Rattle.std.specs.Prelude.{◌≡◌};
 ghost use Rattle.exported_numbers.specs.CallNumbers.{answer_number, judge_number, judge_numbered, ruling_number};
 
 use exported_call::bit;
-use frame_judge::{Judge, KnownBorders, Ruling};
+use frame_judge::{Judge, Ruling};
 use frame_layout::Borders;
 use stream::Answer;
 
@@ -34,7 +34,7 @@ pub fn answer_number(answer: Answer) -> u64
             let period = g.period;
             PERIOD * period.0 as u64 + GAP + 256 * g.first as u64 + g.second as u64
         }
-        Answer::Refused(n) => n as u64,
+        Answer::Refused(refusal) => refusal.0 as u64,
     }
 }
 
@@ -68,12 +68,12 @@ pub fn judge_numbered(n: u32) -> Judge
     }
     let place = (n % PLACES) as u16;
     if n < PLACES {
-        return Judge::Due(place, KnownBorders::Unsettled);
+        return Judge::Due(place, None);
     }
     if n < 2 * PLACES {
-        return Judge::Due(place, KnownBorders::Settled(Borders::On));
+        return Judge::Due(place, Some(Borders::On));
     }
-    Judge::Due(place, KnownBorders::Settled(Borders::Off))
+    Judge::Due(place, Some(Borders::Off))
 }
 
 // A judge as a number.
@@ -83,8 +83,8 @@ pub fn judge_number(judge: Judge) -> u32
     match judge {
         Judge::Waiting => 0,
         Judge::Due(place, borders) => match borders {
-            KnownBorders::Unsettled => place as u32,
-            KnownBorders::Settled(borders) => match borders {
+            None => place as u32,
+            Some(borders) => match borders {
                 Borders::On => PLACES + place as u32,
                 Borders::Off => 2 * PLACES + place as u32,
             },
@@ -100,6 +100,6 @@ pub fn ruling_number(ruling: Ruling) -> u8
         Ruling::Waiting => 0,
         Ruling::Going => 1,
         Ruling::Complete => 2,
-        Ruling::Refused(n) => n,
+        Ruling::Refused(refusal) => refusal.0,
     }
 }

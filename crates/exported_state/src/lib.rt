@@ -33,13 +33,7 @@ const GREATEST_MARK: u8 = 11;
 pub fn holds_reader(state: &[u8]) -> bool
     ensures { result ≡ holds_reader state.now }
 {
-    if state.len() < LENGTH {
-        return false;
-    }
-    if is_tagged(state[0], state[1], state[13]) {
-        return head_in(state).passes();
-    }
-    false
+    LENGTH <= state.len() && is_tagged(state[0], state[1], state[13]) && head_in(state).passes()
 }
 
 // Whether these are numbers of a profile, of an open mark and of a bool.
@@ -47,13 +41,7 @@ pub fn holds_reader(state: &[u8]) -> bool
 pub fn is_tagged(profile: u8, mark: u8, stray: u8) -> bool
     ensures { result ≡ tagged profile mark stray }
 {
-    if 1 < profile {
-        return false;
-    }
-    if GREATEST_MARK < mark {
-        return false;
-    }
-    stray <= 1
+    profile <= 1 && mark <= GREATEST_MARK && stray <= 1
 }
 
 // The head that bytes hold; a fresh reader's where they are too few for a state.

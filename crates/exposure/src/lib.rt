@@ -21,22 +21,11 @@ pub const COARSE_LIMIT: u16 = 302;
 pub const DIVISOR_LIMIT: u8 = 3;
 
 // Whether a number is a gain code: 0, 1, 3 or 7, for a gain of 1, 2, 4 or 8.
+#[tactic(auto, unfolding(crate::specs::Exposure::is_gain))]
 pub fn is_gain(code: u32) -> bool
     ensures { result ≡ is_gain code }
 {
-    if code == 0 {
-        return true;
-    }
-    if code == 1 {
-        return true;
-    }
-    if code == 3 {
-        return true;
-    }
-    if code == 7 {
-        return true;
-    }
-    false
+    matches!(code, 0 | 1 | 3 | 7)
 }
 
 // The greatest fine exposure at 30 frames a second; at any other rate that at 25.

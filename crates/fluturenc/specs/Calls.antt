@@ -1,9 +1,7 @@
 -- What each exported call answers, and what it leaves in the buffers that it was lent.
-use Rattle.std.specs.Prelude.{cond, List, ℕ, eqb, leb, ltb, length}
+use Rattle.std.specs.Prelude.{cond, List, ℕ, eqb, leb, ltb, length, None, Option, Some}
 use Rattle.refusal.specs.Refusal.{bad_state, no_room}
 use Rattle.exported_call.specs.LentCall.{Called}
-use Rattle.profile.specs.declared.Numbered.{Numbered}
-use Rattle.profile.specs.declared.Numbered.TheVariants as numbered
 use Rattle.profile.specs.declared.Profile.TheVariants.{VV5404}
 use Rattle.profile.specs.Profile.{profile_numbered}
 use Rattle.stream.specs.Answers.{refused, answer_for, buffer_after}
@@ -12,13 +10,14 @@ use Rattle.run.specs.Run.{Ran, ran, run_of}
 use Rattle.frame_judge.specs.Frame.{judge_of}
 use Rattle.exported_numbers.specs.CallNumbers.{answer_number, judge_number, judge_numbered, ruling_number}
 use Rattle.exported_state.specs.State.{state_length, stored, holds_reader, reader_in}
+use Rattle.profile.specs.declared.Profile.{Profile}
 
 -- A call on a reader's state.
 
 -- opening, by the profile that the number names: 11 for none, 12 for too few bytes
-abbrev pub open_for : Numbered → List ℕ → Called
-open_for numbered.NoProfile s = record { answer = bad_state; state = s }
-open_for (numbered.Profile p) s =
+abbrev pub open_for : Option Profile → List ℕ → Called
+open_for None s = record { answer = bad_state; state = s }
+open_for (Some p) s =
     cond (leb state_length (length s)) (record { answer = 0; state = stored (fresh_reader p) s }) (record { answer = no_room; state = s })
 
 -- 11, 12, or a fresh reader

@@ -31,8 +31,9 @@ ghost use Rattle.exported_state.specs.State.{state_length, reader_in, stored};
 ghost use Rattle.fluturenc.specs.Calls.{open_call, feed_call, finish_call, judge_call};
 ghost use Rattle.fluturenc.specs.Gives.{FeedCallGives, JudgeGives};
 
-use profile::{Numbered, Profile};
+use profile::Profile;
 use reader::Reader;
+use refusal::Refusal;
 
 // The bytes of a reader's state: its head's, and its body's.
 const STATE: usize = exported_state::LENGTH;
@@ -51,11 +52,11 @@ pub fn fluturenc_state_length() -> usize
 pub fn fluturenc_open(profile: u8, state: &mut [u8]) -> u8
     ensures { StateGives (open_call profile state.old) result state.new }
 {
-    let Numbered::Profile(p) = Profile::numbered(profile) else {
-        return refusal::BAD_STATE;
+    let Some(p) = Profile::numbered(profile) else {
+        return Refusal::BAD_STATE.0;
     };
     if state.len() < STATE {
-        return refusal::NO_ROOM;
+        return Refusal::NO_ROOM.0;
     }
     let r = Reader::fresh(p);
     store(r, state);
@@ -70,7 +71,7 @@ pub fn fluturenc_feed(state: &mut [u8], nibbles: &[u8], line: &mut [u8], taken: 
 {
     *taken = 0;
     if state.len() < STATE {
-        return refusal::BAD_STATE as u64;
+        return Refusal::BAD_STATE.0 as u64;
     }
     if exported_state::is_tagged(state[0], state[1], state[13]) {
         let h = exported_state::head_in(state);
@@ -83,7 +84,7 @@ pub fn fluturenc_feed(state: &mut [u8], nibbles: &[u8], line: &mut [u8], taken: 
         let answer = t.answer;
         return exported_numbers::answer_number(answer);
     }
-    refusal::BAD_STATE as u64
+    Refusal::BAD_STATE.0 as u64
 }
 
 // Answers the last mark, if there is one, and leaves a fresh reader. Refused: 11.
@@ -99,7 +100,7 @@ pub fn fluturenc_finish(state: &mut [u8]) -> u64
         let answer = f.answer;
         return exported_numbers::answer_number(answer);
     }
-    refusal::BAD_STATE as u64
+    Refusal::BAD_STATE.0 as u64
 }
 
 // Writes one line's nibbles. Refused: 11, 13, 14, 15, 16, 17, 12, in this order.
@@ -134,7 +135,7 @@ pub fn fluturenc_judge(judge: &mut u32, kind: u8, number: u16) -> u8
         let ruling = d.ruling;
         return exported_numbers::ruling_number(ruling);
     }
-    refusal::BAD_STATE
+    Refusal::BAD_STATE.0
 }
 
 // A reader in the state, and back.

@@ -14,6 +14,8 @@ ghost use Rattle.std.specs.Prelude.{◌≡◌};
 ghost use Rattle.fluturenc.specs.Gives.{FeedCallGives};
 ghost use Rattle.fluturenc_bytes.specs.BytesCall.{feed_bytes_call};
 
+use refusal::Refusal;
+
 // The bytes of a reader's state, and of its head.
 const STATE: usize = exported_state::LENGTH;
 
@@ -33,7 +35,7 @@ pub fn fluturenc_feed_bytes(
 {
     *taken = 0;
     if state.len() < STATE {
-        return refusal::BAD_STATE as u64;
+        return Refusal::BAD_STATE.0 as u64;
     }
     if exported_state::is_tagged(state[0], state[1], state[13]) {
         let h = exported_state::head_in(state);
@@ -46,5 +48,5 @@ pub fn fluturenc_feed_bytes(
         let answer = t.answer;
         return exported_numbers::answer_number(answer);
     }
-    refusal::BAD_STATE as u64
+    Refusal::BAD_STATE.0 as u64
 }

@@ -13,8 +13,6 @@
 ghost use Rattle.half_means.specs.HalfMeans.{half_values};
 ghost use Rattle.fluturenc_means.specs.MeansCall.{in_places, MeansGives};
 
-use half_means::Halves;
-
 // The means of a line's two halves, and their differences from the sensor's. Refused: 11 no VV5300, 23 not a visible line, 15 the body's length, 16 a
 // body byte or a mean that is not allowed, in this order.
 pub fn fluturenc_half_means(
@@ -34,13 +32,14 @@ pub fn fluturenc_half_means(
 {
     let halves = half_means::of_line(profile, kind, body, first, second);
     match halves {
-        Halves::Given(means, _, a, b) => {
+        Ok(halves) => {
+            let means = halves.means;
             *mean1 = means.first;
             *mean2 = means.second;
-            *beside1 = a;
-            *beside2 = b;
+            *beside1 = halves.first_difference;
+            *beside2 = halves.second_difference;
             0
         }
-        Halves::Refused(n) => n,
+        Err(refusal) => refusal.0,
     }
 }

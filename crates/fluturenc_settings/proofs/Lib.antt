@@ -1,3 +1,3 @@
-pub mod Halves
+pub mod Reading
 pub mod Storing
 pub mod Telling

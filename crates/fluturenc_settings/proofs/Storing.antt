@@ -1,20 +1,25 @@
--- What is stored: a setting, two bytes after another; four settings one after another, and both halves of a list, of which nothing else is left.
-use mathlib.Core.Path.{◌≡◌, ap, ◌∙◌}
+-- What is stored: a setting, two bytes after another; the settings of a list, one behind another, and nothing else is left of its bytes.
+use mathlib.Core.Path.{◌≡◌, sym, ap, ◌∙◌}
 use mathlib.Core.List.{List, [], ◌∷◌, ◌++◌, append-nil}
-use Prim.Native.Nat.{ℕ, ◌+◌}
+use Prim.Native.Nat.{ℕ, ◌+◌, ◌*◌, ◌<◌}
 use native.Mathlib.Omega.{arith}
-use lib.ListN.{length, drop_of_length-le}
+use lib.ListN.{length, get_or, take, drop_of_length-le}
+use Rattle.std.proofs.Common.{take_all, append_assoc}
+use Rattle.std.proofs.lemmas.List.{length-take-le, take_more}
 use lib.Seq.{sets}
 use Rattle.lent_buffer.specs.StoringLaws.{sets_append, sets_front}
 use Rattle.line_records.specs.Lines.{in_two}
 use Rattle.saved_setting.specs.declared.SavedSetting.{SavedSetting}
-use Rattle.saved_setting.specs.declared.EightPlaces.{EightPlaces}
-use Rattle.saved_setting.specs.SavedSettings.{places_of}
 use Rattle.fluturenc_settings.specs.SavedBytes.{list_size, place_bytes, list_bytes}
+use Rattle.fluturenc_settings.specs.SavedBytesLaws.{bytes_length}
 
 -- bytes stored straight behind others
 behind_them : (v w b : List ℕ) (at k : ℕ) → k ≡ at + length v → sets (sets b at v) k w ≡ sets b at (v ++ w)
 behind_them v w b at k e = ap (λ (i : ℕ). sets (sets b at v) i w) e ∙ sets_append v w b at
+
+bytes_last : (list : List SavedSetting) (s : SavedSetting) → list_bytes (list ++ (s ∷ [])) ≡ list_bytes list ++ place_bytes s
+bytes_last [] s = append-nil (place_bytes s)
+bytes_last (t ∷ list) s = ap (λ (l : List ℕ). place_bytes t ++ l) (bytes_last list s) ∙ sym (append_assoc (place_bytes t) (list_bytes list) (place_bytes s))
 
 pub setting_stored : (b b1 b2 b3 b4 : List ℕ) (at : ℕ) (s : SavedSetting) → b1 ≡ sets b at (in_two s.version) → b2 ≡ sets b1 (at + 2) (in_two s.fine)
     → b3 ≡ sets b2 (at + 4) (in_two s.coarse) → b4 ≡ sets b3 (at + 6) (s.gain ∷ s.divisor ∷ []) → b4 ≡ sets b at (place_bytes s)
@@ -31,28 +36,20 @@ setting_stored b b1 b2 b3 b4 at s p q r z =
     ∙ ap (λ (l : List ℕ). sets l (at + 2) (in_two s.fine ++ (in_two s.coarse ++ codes))) p
     ∙ behind_them (in_two s.version) (in_two s.fine ++ (in_two s.coarse ++ codes)) b at (at + 2) second
 
-pub four_stored : (b b1 b2 b3 b4 : List ℕ) (at : ℕ) (s t u v : SavedSetting) → b1 ≡ sets b at (place_bytes s) → b2 ≡ sets b1 (at + 8) (place_bytes t)
-    → b3 ≡ sets b2 (at + 16) (place_bytes u) → b4 ≡ sets b3 (at + 24) (place_bytes v) → b4 ≡ sets b at (list_bytes (s ∷ t ∷ u ∷ v ∷ []))
-four_stored b b1 b2 b3 b4 at s t u v p q r z =
-    let last : at + 24 ≡ at + 16 + 8 = omega arith in
-    let third : at + 16 ≡ at + 8 + 8 = omega arith in
-    let second : at + 8 ≡ at + 8 = omega arith in
-    z
-    ∙ ap (λ (l : List ℕ). sets l (at + 24) (place_bytes v)) r
-    ∙ behind_them (place_bytes u) (place_bytes v) b2 (at + 16) (at + 24) last
-    ∙ ap (λ (l : List ℕ). sets l (at + 16) (place_bytes u ++ place_bytes v)) q
-    ∙ behind_them (place_bytes t) (place_bytes u ++ place_bytes v) b1 (at + 8) (at + 16) third
-    ∙ ap (λ (l : List ℕ). sets l (at + 8) (place_bytes t ++ (place_bytes u ++ place_bytes v))) p
-    ∙ behind_them (place_bytes s) (place_bytes t ++ (place_bytes u ++ place_bytes v)) b at (at + 8) second
+-- the bytes of the places before a place, and of that place behind them
+pub place_stored : (places : List SavedSetting) (d : SavedSetting) (b : List ℕ) (i : ℕ) → i < length places
+    → sets (sets b 0 (list_bytes (take i places))) (8 * i) (place_bytes (get_or places i d)) ≡ sets b 0 (list_bytes (take (i + 1) places))
+place_stored places d b i h =
+    let front : List SavedSetting = take i places in
+    let at : length (list_bytes front) ≡ 8 * i = bytes_length front ∙ omega (arith, length-take-le i places (omega arith)) in
+    behind_them (list_bytes front) (place_bytes (get_or places i d)) b 0 (8 * i) (omega (arith, at))
+    ∙ ap (λ (l : List ℕ). sets b 0 l) (sym (bytes_last front (get_or places i d)) ∙ ap list_bytes (sym (take_more places i d h)))
 
-pub halves_stored : (p : EightPlaces) (b b1 b2 : List ℕ) → length b ≡ list_size → b1 ≡ sets b 0 (list_bytes (p.a ∷ p.b ∷ p.c ∷ p.d ∷ []))
-    → b2 ≡ sets b1 32 (list_bytes (p.e ∷ p.f ∷ p.g ∷ p.h ∷ [])) → b2 ≡ list_bytes (places_of p)
-halves_stored p b b1 b2 long q r =
-    let front : List ℕ = list_bytes (p.a ∷ p.b ∷ p.c ∷ p.d ∷ []) in
-    let back : List ℕ = list_bytes (p.e ∷ p.f ∷ p.g ∷ p.h ∷ []) in
-    r
-    ∙ ap (λ (l : List ℕ). sets l 32 back) q
-    ∙ sets_append front back b 0
-    ∙ sets_front (front ++ back) b (omega (arith, long))
-    ∙ ap (λ (l : List ℕ). (front ++ back) ++ l) (drop_of_length-le b {i = 64} (omega (arith, long)))
-    ∙ append-nil (front ++ back)
+pub places_stored : (places : List SavedSetting) (b : List ℕ) → length places ≡ 8 → length b ≡ list_size
+    → sets b 0 (list_bytes (take 8 places)) ≡ list_bytes places
+places_stored places b e long =
+    let bytes : length (list_bytes places) ≡ 64 = bytes_length places ∙ omega (arith, e) in
+    ap (λ (l : List SavedSetting). sets b 0 (list_bytes l)) (take_all 8 places (omega (arith, e)))
+    ∙ sets_front (list_bytes places) b (omega (arith, bytes, long))
+    ∙ ap (λ (l : List ℕ). list_bytes places ++ l) (drop_of_length-le b {i = length (list_bytes places)} (omega (arith, bytes, long)))
+    ∙ append-nil (list_bytes places)

@@ -6,13 +6,13 @@ use native.Mathlib.Omega.{arith}
 use lib.ListN.{length}
 use Rattle.refusal.specs.Refusal.{not_saved_settings}
 use Rattle.saved_setting.specs.declared.SavedSetting.{SavedSetting}
-use Rattle.saved_setting.specs.declared.Saved.{Saved}
-use Rattle.saved_setting.specs.declared.Saved.TheVariants as saved
+use Rattle.std.specs.Prelude.{Err, Result}
+use Rattle.refusal.specs.declared.Refusal.{Refusal}
 use Rattle.saved_setting.specs.SavedSettings.{Reply, saved_reply, setting_places, ListReply, Leaves}
 use Rattle.fluturenc_settings.specs.SavedBytes.{list_size, list_in, saved_number, saved_version, bytes_after, SaveGives}
 use Rattle.fluturenc_settings.specs.SavedBytesLaws.{no_list}
 
-pub told : (call : List SavedSetting → ListReply) (list held after : List SavedSetting) (a : Saved) (answer version : ℕ) (before bytes : List ℕ)
+pub told : (call : List SavedSetting → ListReply) (list held after : List SavedSetting) (a : Result ℕ Refusal) (answer version : ℕ) (before bytes : List ℕ)
     → list ≡ held → Leaves (call list) a after → SaveGives (record { reply = saved_reply a; list = after }) answer version before bytes
     → SaveGives (call held) answer version before bytes
 told call list held after a answer version before bytes e left g =
@@ -28,7 +28,7 @@ not_eight b other h =
     let none : length (list_in b) ≡ 0 = ap length (no_list b other) in
     omega (arith, none, h)
 
-pub not_told : (said : ListReply) (list : List SavedSetting) (b : List ℕ) → Leaves said (saved.Refused not_saved_settings) list
+pub not_told : (said : ListReply) (list : List SavedSetting) (b : List ℕ) → Leaves said (Err (record { 0 = not_saved_settings })) list
     → SaveGives said not_saved_settings 0 b b
 not_told said list b left =
     record {

@@ -11,7 +11,6 @@ use Rattle.saved_setting.specs.declared.SavedSetting.{SavedSetting}
 use Rattle.saved_setting.specs.declared.Wanted.{Wanted}
 use Rattle.saved_setting.specs.SavedSettings as reply
 use Rattle.saved_setting.specs.SavedSettings.{Reply, setting_places, ListReply}
-use Rattle.fluturenc_settings.specs.declared.FourPlaces.{FourPlaces}
 
 -- the bytes of a place, and of a list
 abbrev pub place_size : ℕ
@@ -53,10 +52,6 @@ first_settings (suc n) b = front_setting b ∷ first_settings n (drop place_size
 -- the eight settings of a list; bytes of another length hold none
 unfoldable pub list_in : List ℕ → List SavedSetting
 list_in b = cond (eqb (length b) list_size) (first_settings setting_places b) []
-
--- half of a list
-abbrev pub four_of : FourPlaces → List SavedSetting
-four_of p = p.a ∷ p.b ∷ p.c ∷ p.d ∷ []
 
 -- The calls.
 

@@ -17,21 +17,20 @@
 
 #![tactic(auto)]
 
-ghost use Rattle.std.specs.Prelude.{◌≡◌, [], ◌∷◌, ◌++◌, ◌+◌, ◌≤◌, length, get_or, drop};
+ghost use Rattle.std.specs.Prelude.{◌≡◌, [], ◌∷◌, ◌+◌, ◌≤◌, length, get_or, drop};
 ghost use Rattle.std.proofs.lemmas.List.Edits.{sets};
 ghost use Rattle.exported_call.specs.LentCall.{StateGives, WriteGives};
 ghost use Rattle.lent_buffer.specs.Filled.{Gives};
 ghost use Rattle.line_records.specs.Lines.{from_two, in_two};
-ghost use Rattle.saved_setting.specs.SavedSettings.{saved_reply, held_reply, saved_wanted, found_in, saved_again, places_of};
-ghost use Rattle.fluturenc_settings.specs.SavedBytes.{place_size, list_size, place_bytes, list_bytes, front_setting, first_settings, four_of, list_in, wanted_of, SaveGives, found_call, messages_of};
+ghost use Rattle.saved_setting.specs.SavedSettings.{saved_reply, held_reply, saved_wanted, found_in, saved_again};
+ghost use Rattle.fluturenc_settings.specs.SavedBytes.{place_size, list_size, place_bytes, list_bytes, front_setting, list_in, wanted_of, SaveGives, found_call, messages_of};
 
 use lent_buffer::Filled;
-use saved_setting::{EightPlaces, Held, Saved, SavedPlaces, SavedSetting, Wanted};
+use refusal::Refusal;
+use saved_setting::{PLACES, SavedPlaces, SavedSetting, Wanted};
 
-// The bytes of a place, of half a list, and of a list.
+// The bytes of a place, and of a list.
 const PLACE: usize = 8;
-
-const HALF: usize = 32;
 
 const LIST: usize = 64;
 
@@ -58,35 +57,32 @@ pub fn fluturenc_settings_save(
     if list.len() == LIST {
         let places = places_in(list);
         let wanted = Wanted {
-            fine: fine,
-            coarse: coarse,
-            gain: gain,
-            divisor: divisor,
-            rate: rate,
+            fine,
+            coarse,
+            gain,
+            divisor,
+            rate,
         };
         let saved = saved_places::save_in(places, wanted);
         return store_saved(saved, list, version);
     }
     *version = 0;
-    refusal::NOT_SAVED_SETTINGS
+    Refusal::NOT_SAVED_SETTINGS.0
 }
 
 // Puts the setting under a version at the front of what is lent for it. Refused: 37, 30 version not held, 12 fewer than eight bytes are lent.
 pub fn fluturenc_settings_find(list: &[u8], version: u16, setting: &mut [u8]) -> u8
     ensures { StateGives (found_call (found_in (list_in list.now) version) setting.old) result setting.new }
 {
-    let found = held_in(list, version);
-    match found {
-        Held::Setting(s) => {
+    match held_in(list, version) {
+        Ok(s) => {
             if setting.len() < PLACE {
-                return refusal::NO_ROOM;
+                return Refusal::NO_ROOM.0;
             }
             store_setting(s, setting, 0);
-            return 0;
+            0
         }
-        Held::Refused(n) => {
-            return n;
-        }
+        Err(refusal) => refusal.0,
     }
 }
 
@@ -101,7 +97,7 @@ pub fn fluturenc_settings_back(list: &mut [u8], version: u16, new: &mut u16) -> 
         return store_saved(saved, list, new);
     }
     *new = 0;
-    refusal::NOT_SAVED_SETTINGS
+    Refusal::NOT_SAVED_SETTINGS.0
 }
 
 // Writes the two-wire messages that write the setting under a version to a sensor's registers, 18 bytes. Refused: 37, 30, 12.
@@ -119,103 +115,55 @@ pub fn fluturenc_settings_messages(
 }
 
 // The messages of what is found, or why nothing is.
-fn put_found(found: Held, messages: &mut [u8]) -> Filled
+fn put_found(found: Result<SavedSetting, Refusal>, messages: &mut [u8]) -> Filled
     ensures { Gives (messages_of (held_reply found) (length messages.old)) result messages.old messages.new }
 {
-    match found {
-        Held::Setting(s) => {
-            let pairs = saved_registers::pairs(s);
-            return two_wire_write::write(&pairs, messages);
-        }
-        Held::Refused(n) => {
-            return Filled::Refused(n);
-        }
-    }
+    let pairs = saved_registers::pairs(found?);
+    two_wire_write::write(&pairs, messages)
 }
 
 // The setting under a version of a list in bytes.
 #[tactic(auto, unfolding(crate::specs::SavedBytes::list_in))]
-fn held_in(list: &[u8], version: u16) -> Held
+fn held_in(list: &[u8], version: u16) -> Result<SavedSetting, Refusal>
     ensures { held_reply result ≡ found_in (list_in list.now) version }
 {
     if list.len() == LIST {
         let places = places_in(list);
         return saved_places::find_in(places, version);
     }
-    Held::Refused(refusal::NOT_SAVED_SETTINGS)
+    Err(Refusal::NOT_SAVED_SETTINGS)
 }
 
 // Stores the places that are saved, and tells the new version; or tells why nothing is, and the version is 0.
 fn store_saved(saved: SavedPlaces, list: &mut [u8], version: &mut u16) -> u8
     requires { length list.old ≡ list_size }
-    ensures { SaveGives (record { reply = saved_reply saved.answer; list = places_of saved.places }) result version.new list.old list.new }
+    ensures { SaveGives (record { reply = saved_reply saved.answer; list = saved.places }) result version.new list.old list.new }
 {
     let places = saved.places;
     let answer = saved.answer;
     match answer {
-        Saved::Version(v) => {
+        Ok(v) => {
             store(places, list);
             *version = v;
             return 0;
         }
-        Saved::Refused(n) => {
+        Err(refusal) => {
             *version = 0;
-            return n;
+            return refusal.0;
         }
     }
 }
 
-// Four places, oldest first.
-#[derive(Clone, Copy)]
-struct FourPlaces {
-    a: SavedSetting,
-    b: SavedSetting,
-    c: SavedSetting,
-    d: SavedSetting,
-}
-
 // The eight places of a list.
-fn places_in(list: &[u8]) -> EightPlaces
+fn places_in(list: &[u8]) -> [SavedSetting; PLACES]
     requires { length list.now ≡ list_size }
-    ensures { places_of result ≡ list_in list.now }
+    ensures { result ≡ list_in list.now }
 {
-    from_halves(four_at(list, 0), four_at(list, HALF))
-}
-
-fn from_halves(front: FourPlaces, back: FourPlaces) -> EightPlaces
-    ensures { places_of result ≡ four_of front ++ four_of back }
-{
-    let a = front.a;
-    let b = front.b;
-    let c = front.c;
-    let d = front.d;
-    let e = back.a;
-    let f = back.b;
-    let g = back.c;
-    let h = back.d;
-    EightPlaces {
-        a: a,
-        b: b,
-        c: c,
-        d: d,
-        e: e,
-        f: f,
-        g: g,
-        h: h,
+    let mut places = [SavedSetting::UNUSED; PLACES];
+    for i in 0..PLACES {
+        places[i] = setting_at(list, PLACE * i);
     }
-}
-
-// The four places from a byte on.
-fn four_at(list: &[u8], at: usize) -> FourPlaces
-    requires { at + 32 ≤ length list.now }
-    ensures { four_of result ≡ first_settings 4 (drop at list.now) }
-{
-    FourPlaces {
-        a: setting_at(list, at),
-        b: setting_at(list, at + PLACE),
-        c: setting_at(list, at + 2 * PLACE),
-        d: setting_at(list, at + 3 * PLACE),
-    }
+    places
 }
 
 // The setting whose bytes start at a byte.
@@ -249,31 +197,13 @@ fn from_two(high: u8, low: u8) -> u16
 }
 
 // Puts eight places into a list.
-fn store(places: EightPlaces, list: &mut [u8])
+fn store(places: [SavedSetting; PLACES], list: &mut [u8])
     requires { length list.old ≡ list_size }
-    ensures { list.new ≡ list_bytes (places_of places) }
+    ensures { list.new ≡ list_bytes places }
 {
-    let p = places;
-    store_four(p.a, p.b, p.c, p.d, list, 0);
-    store_four(p.e, p.f, p.g, p.h, list, HALF);
-}
-
-// Puts four settings into a list, from a byte on.
-fn store_four(
-    a: SavedSetting,
-    b: SavedSetting,
-    c: SavedSetting,
-    d: SavedSetting,
-    list: &mut [u8],
-    at: usize,
-)
-    requires { at + 32 ≤ length list.old }
-    ensures { list.new ≡ sets list.old at (list_bytes (a ∷ b ∷ c ∷ d ∷ [])) }
-{
-    store_setting(a, list, at);
-    store_setting(b, list, at + PLACE);
-    store_setting(c, list, at + 2 * PLACE);
-    store_setting(d, list, at + 3 * PLACE);
+    for i in 0..PLACES {
+        store_setting(places[i], list, PLACE * i);
+    }
 }
 
 // Puts a setting's bytes into a buffer, from a byte on.

@@ -8,7 +8,9 @@ use borrow.Author.Tests.{ltb-true, leb-true, eqb-true}
 use lib.Dec.{eqb, leb, ltb}
 use lib.ListN.{length, get_or}
 use Rattle.refusal.specs.Refusal.{bad_state, no_such_technician, place_not_held}
-use Rattle.technician.specs.Technician.{is_technician, denial_by}
+use Rattle.std.specs.Prelude.{None}
+use Rattle.technician.specs.Technician.{is_technician, denial_by, denial_for}
+use Rattle.technician.specs.TechnicianLaws.{granted as nothing_denied}
 use Rattle.reader_table.specs.Table.{nobody, place_count}
 use Rattle.fluturenc_table.specs.TableBytes.{table_length, place_start, owner_at, denial_at}
 
@@ -21,9 +23,9 @@ nobody_denied who = go (is_technician who) (eqb nobody who) refl refl
     go true false e f z = omega (arith, z)
     go false b e f z = omega (arith, z)
 
-pub granted : (s : List ℕ) (who i : ℕ) {n : ℕ} → n ≡ denial_at s who i → n ≡ 0 → (i < place_count) × (table_length ≤ length s)
+pub granted : (s : List ℕ) (who i : ℕ) → None ≡ denial_for (denial_at s who i) → (i < place_count) × (table_length ≤ length s)
 unfolding denial_at owner_at
-granted s who i e z = go (leb table_length (length s)) (ltb i place_count) refl refl (sym e ∙ z)
+granted s who i e = go (leb table_length (length s)) (ltb i place_count) refl refl (nothing_denied _ e)
   where
     go : (a b : Bool) → leb table_length (length s) ≡ a → ltb i place_count ≡ b
         → cond a (denial_by who (cond b (get_or s (place_start i) 0) nobody)) bad_state ≡ 0

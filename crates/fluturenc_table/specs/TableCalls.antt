@@ -1,14 +1,13 @@
 -- The exported calls of a table: what each answers and leaves, of the bytes lent to it.
-use Rattle.std.specs.Prelude.{cond, List, ℕ, zero, suc, eqb, leb, ltb, length, set}
+use Rattle.std.specs.Prelude.{cond, List, ℕ, zero, suc, eqb, leb, ltb, length, set, None, Option, Some}
 use Rattle.refusal.specs.Refusal.{bad_state, no_room, no_such_technician, no_place_free}
 use Rattle.exported_call.specs.LentCall.{Called}
-use Rattle.profile.specs.declared.Numbered.{Numbered}
-use Rattle.profile.specs.declared.Numbered.TheVariants as numbered
 use Rattle.profile.specs.Profile.{profile_numbered}
 use Rattle.technician.specs.Technician.{is_technician}
 use Rattle.reader_table.specs.Table.{nobody, place_count}
 use Rattle.fluturenc.specs.Calls.{FeedCalled, open_call, feed_call, finish_call}
 use Rattle.fluturenc_table.specs.TableBytes.{table_length, place_start, state_at, with_state, lowest_from, denial_at}
+use Rattle.profile.specs.declared.Profile.{Profile}
 
 -- a refused call: the table's bytes stay
 abbrev pub refused_table : ℕ → List ℕ → Called
@@ -34,9 +33,9 @@ unfoldable pub open_lowest : List ℕ → ℕ → ℕ → ℕ → Called
 open_lowest s who n i = cond (ltb i place_count) (opened_at s who n i) (refused_table no_place_free s)
 
 -- opening, by the profile that the number names; 11 for none
-abbrev pub open_profile : List ℕ → ℕ → ℕ → Numbered → Called
-open_profile s who n (numbered.Profile p) = open_lowest s who n (lowest_from place_count 0 s)
-open_profile s who n numbered.NoProfile = refused_table bad_state s
+abbrev pub open_profile : List ℕ → ℕ → ℕ → Option Profile → Called
+open_profile s who n (Some p) = open_lowest s who n (lowest_from place_count 0 s)
+open_profile s who n None = refused_table bad_state s
 
 -- an opening: 11 of too few bytes, 32, 11, 33, or the place's number
 unfoldable pub open_table : List ℕ → ℕ → ℕ → Called

@@ -15,13 +15,15 @@
 #![tactic(auto)]
 
 ghost use Rattle.std.specs.Prelude.{◌≡◌, ◌≤◌, length};
+ghost use Rattle.technician.specs.Technician.{denial_for};
 ghost use Rattle.reader_table.specs.Table.{place_count};
 ghost use Rattle.exported_call.specs.LentCall.{StateGives};
 ghost use Rattle.fluturenc.specs.Gives.{FeedCallGives};
 ghost use Rattle.fluturenc_table.specs.TableBytes.{table_length, lowest_from, denial_at};
 ghost use Rattle.fluturenc_table.specs.TableCalls.{places_freed, new_table, open_lowest, open_table, feed_table, finish_table, close_table};
 
-use profile::{Numbered, Profile};
+use profile::Profile;
+use refusal::Refusal;
 
 // The bytes of a reader's state, of a place, and of a table.
 const STATE: usize = 370;
@@ -47,7 +49,7 @@ pub fn fluturenc_table_new(table: &mut [u8]) -> u8
     ensures { StateGives (new_table table.old) result table.new }
 {
     if table.len() < TABLE {
-        return refusal::NO_ROOM;
+        return Refusal::NO_ROOM.0;
     }
     free_all(table);
     0
@@ -59,17 +61,15 @@ pub fn fluturenc_table_open(table: &mut [u8], technician: u8, profile: u8) -> u8
     ensures { StateGives (open_table table.old technician profile) result table.new }
 {
     if table.len() < TABLE {
-        return refusal::BAD_STATE;
+        return Refusal::BAD_STATE.0;
     }
     if technician::is_technician(technician) {
-        let found = Profile::numbered(profile);
-        match found {
-            Numbered::Profile(_) => return open_lowest(table, technician, profile),
-            Numbered::NoProfile => {}
-        }
-        return refusal::BAD_STATE;
+        return match Profile::numbered(profile) {
+            Some(_) => open_lowest(table, technician, profile),
+            None => Refusal::BAD_STATE.0,
+        };
     }
-    refusal::NO_SUCH_TECHNICIAN
+    Refusal::NO_SUCH_TECHNICIAN.0
 }
 
 // Feeds nibbles to the reader of a place until one brings an answer or none is left.
@@ -85,12 +85,13 @@ pub fn fluturenc_table_feed(
     ensures { FeedCallGives (feed_table table.old technician place nibbles.now line.old) result taken.new table.new line.new }
 {
     *taken = 0;
-    let n = denial_at(table, technician, place);
-    if n == 0 {
-        let from = PLACE * place + 1;
-        return fluturenc::fluturenc_feed(&mut table[from..from + STATE], nibbles, line, taken);
+    match denial_at(table, technician, place) {
+        None => {
+            let from = PLACE * place + 1;
+            fluturenc::fluturenc_feed(&mut table[from..from + STATE], nibbles, line, taken)
+        }
+        Some(refusal) => refusal.0 as u64,
     }
-    n as u64
 }
 
 // Answers the last mark of a place, and leaves it a fresh reader; the place stays its technician's.
@@ -98,12 +99,13 @@ pub fn fluturenc_table_feed(
 pub fn fluturenc_table_finish(table: &mut [u8], technician: u8, place: usize) -> u64
     ensures { StateGives (finish_table table.old technician place) result table.new }
 {
-    let n = denial_at(table, technician, place);
-    if n == 0 {
-        let from = PLACE * place + 1;
-        return fluturenc::fluturenc_finish(&mut table[from..from + STATE]);
+    match denial_at(table, technician, place) {
+        None => {
+            let from = PLACE * place + 1;
+            fluturenc::fluturenc_finish(&mut table[from..from + STATE])
+        }
+        Some(refusal) => refusal.0 as u64,
     }
-    n as u64
 }
 
 // Frees a place.
@@ -111,21 +113,22 @@ pub fn fluturenc_table_finish(table: &mut [u8], technician: u8, place: usize) ->
 pub fn fluturenc_table_close(table: &mut [u8], technician: u8, place: usize) -> u8
     ensures { StateGives (close_table table.old technician place) result table.new }
 {
-    let n = denial_at(table, technician, place);
-    if n == 0 {
-        table[PLACE * place] = NOBODY;
-        return 0;
+    match denial_at(table, technician, place) {
+        None => {
+            table[PLACE * place] = NOBODY;
+            0
+        }
+        Some(refusal) => refusal.0,
     }
-    n
 }
 
-// What a technician is refused of a place; 0 where it is theirs.
+// What a technician is refused of a place; nothing where it is theirs.
 #[tactic(auto, unfolding(crate::specs::TableBytes::denial_at, crate::specs::TableBytes::owner_at, crate::specs::TableBytes::place_start))]
-fn denial_at(table: &[u8], technician: u8, place: usize) -> u8
-    ensures { result ≡ denial_at table.now technician place }
+fn denial_at(table: &[u8], technician: u8, place: usize) -> Option<Refusal>
+    ensures { result ≡ denial_for (denial_at table.now technician place) }
 {
     if table.len() < TABLE {
-        return refusal::BAD_STATE;
+        return Some(Refusal::BAD_STATE);
     }
     if place < COUNT {
         return technician::denial(technician, table[PLACE * place]);
@@ -145,7 +148,7 @@ fn open_lowest(table: &mut [u8], technician: u8, profile: u8) -> u8
         table[PLACE * place] = technician;
         return place as u8;
     }
-    refusal::NO_PLACE_FREE
+    Refusal::NO_PLACE_FREE.0
 }
 
 // The lowest free place; the count of places where all are taken.
@@ -154,14 +157,12 @@ fn lowest_free(table: &[u8]) -> usize
     requires { table_length ≤ length table.now }
     ensures { result ≡ lowest_from place_count 0 table.now }
 {
-    let mut i: usize = 0;
-    while i < COUNT {
+    for i in 0..COUNT {
         if table[PLACE * i] == NOBODY {
             return i;
         }
-        i += 1;
     }
-    i
+    COUNT
 }
 
 #[tactic(auto, unfolding(crate::specs::TableBytes::place_start))]
@@ -169,9 +170,7 @@ fn free_all(table: &mut [u8])
     requires { table_length ≤ length table.old }
     ensures { table.new ≡ places_freed place_count table.old }
 {
-    let mut i: usize = 0;
-    while i < COUNT {
+    for i in 0..COUNT {
         table[PLACE * i] = NOBODY;
-        i += 1;
     }
 }

@@ -1,12 +1,10 @@
 -- Histories on bytes: each technician is told the numbers of what the table tells in the same history, so isolation holds of the bytes. An opening's
 -- number says whether it is a place or a refusal: places are below 8, refusals are not.
-use Rattle.std.specs.Prelude.{◌≡◌, refl, Bool, true, false, cond, List, [], ◌∷◌, map, ℕ, ◌≤◌, ◌<◌, eqb, ltb, length, get_or, drop}
+use Rattle.std.specs.Prelude.{◌≡◌, refl, Bool, true, false, cond, List, [], ◌∷◌, map, ℕ, ◌≤◌, ◌<◌, eqb, ltb, length, get_or, drop, None, Option as Optional, Some}
 use Rattle.std.proofs.Common.{sym, ap, ◌∙◌, suc-ne-zero, arith, ltb-true}
 use Rattle.std.proofs.Math.Option.{Option, none, some}
 use Rattle.refusal.specs.Refusal.{bad_state, no_such_technician, no_place_free}
 use Rattle.profile.specs.declared.Profile.{Profile}
-use Rattle.profile.specs.declared.Numbered.{Numbered}
-use Rattle.profile.specs.declared.Numbered.TheVariants as numbered
 use Rattle.profile.specs.Profile.{profile_numbered}
 use Rattle.reader.specs.declared.Reader.{Reader}
 use Rattle.recovery.specs.Calls.{done}
@@ -162,10 +160,10 @@ opening_legal t who n h = go (is_technician who) (profile_numbered n)
     at p true e = a_place {i = lowest_free t.places} (let k = ltb-true (lowest_free t.places) (length t.places) e in omega (arith, k, h))
     at p false e = a_refusal {n = no_place_free} (omega arith)
 
-    go : (a : Bool) (m : Numbered) → Legal (cond a (open_numbered t who m) (not_opened t no_such_technician)).placing
+    go : (a : Bool) (m : Optional Profile) → Legal (cond a (open_numbered t who m) (not_opened t no_such_technician)).placing
     go false m = a_refusal {n = no_such_technician} (omega arith)
-    go true numbered.NoProfile = a_refusal {n = bad_state} (omega arith)
-    go true (numbered.Profile p) = at p (ltb (lowest_free t.places) (length t.places)) refl
+    go true None = a_refusal {n = bad_state} (omega arith)
+    go true (Some p) = at p (ltb (lowest_free t.places) (length t.places)) refl
 
 reply_legal : (t : ReaderTable) (lines : Buffers) (who : ℕ) (q : TableAsk) (ts : List TableReply) → length t.places ≡ place_count → AllLegal (openings_in ts)
     → AllLegal (openings_in ((serve t who (request_in_full lines (request_for q))).told ∷ ts))

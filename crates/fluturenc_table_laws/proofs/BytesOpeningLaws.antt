@@ -1,6 +1,6 @@
 -- Openings on a table's bytes take the lowest free place; and demand 3 holds of each, since the same calls of the table take the same nibbles and
 -- are told what has these numbers.
-use Rattle.std.specs.Prelude.{◌≡◌, Bool, List, [], ◌∷◌, ◌++◌, map, eqb, ltb, length, get_or, take}
+use Rattle.std.specs.Prelude.{◌≡◌, Bool, List, [], ◌∷◌, ◌++◌, map, eqb, ltb, length, get_or, take, Some}
 use Rattle.std.proofs.Math.Path.{refl}
 use Rattle.std.proofs.Common.{sym, ap, ◌∙◌, subst, true≢false, arith, le-leb, ltb-true, ltb-false, eqb-true}
 use Rattle.std.proofs.Math.Bool.{true, false, cond}
@@ -9,7 +9,6 @@ use Prim.Native.Nat.{ℕ, zero, suc, ◌+◌, ◌≤◌, ◌<◌}
 use Rattle.std.proofs.lemmas.Bool.{eqb-false}
 use Rattle.refusal.specs.Refusal.{no_place_free, place_not_held}
 use Rattle.profile.specs.declared.Profile.{Profile}
-use Rattle.profile.specs.declared.Numbered.TheVariants as numbered
 use Rattle.profile.specs.Profile.{profile_numbered}
 use Rattle.recovery.specs.Calls.{done}
 use Rattle.refinement.specs.Runs.{RunCall, run, one}
@@ -61,7 +60,7 @@ module _ (s : List ℕ) where
       go false false f g rec l e = let d = eqb-false i j g in rec (omega (arith, m, d)) l e
 
   -- of all bytes that are as many as a table's
-  pub bytes_open_lowest : table_length ≤ length s → (who n : ℕ) (p : Profile) → is_technician who ≡ true → profile_numbered n ≡ numbered.Profile p
+  pub bytes_open_lowest : table_length ≤ length s → (who n : ℕ) (p : Profile) → is_technician who ≡ true → profile_numbered n ≡ Some p
       → BytesOpensLowest s (open_table s who n).answer
   unfolding open_table open_lowest opened_at
   bytes_open_lowest room who n p h e = simp (le-leb table_length (length s) room, h, e) (go (ltb lowest place_count) refl)
@@ -258,7 +257,7 @@ bytes_only_opened s room lines h who i =
 
 -- demand 3 of each opening on the bytes, from a new table on and after any history, that is told a place
 pub bytes_demand_three : (s : List ℕ) → table_length ≤ length s → (lines : Buffers) (h : List BytesCall) (who n : ℕ) (p : Profile) (i : ℕ)
-    → profile_numbered n ≡ numbered.Profile p
+    → profile_numbered n ≡ Some p
     → (open_table (bytes_left (new_table s).state lines h) who n).answer ≡ i
     → i < place_count
     → BytesMeetDemandThree p who i (open_table (bytes_left (new_table s).state lines h) who n).state

@@ -1,6 +1,6 @@
 -- Laws of the exported table: a new table's bytes hold an empty table; each call on bytes that hold a table answers as the table's own call does,
 -- and leaves bytes that hold the table after it. By the laws of a reader's state in bytes, and since places lie apart.
-use Rattle.std.specs.Prelude.{◌≡◌, Bool, set}
+use Rattle.std.specs.Prelude.{◌≡◌, Bool, set, None, Option as Optional, Some}
 use Rattle.std.proofs.Math.Path.{refl, sym, ap, subst}
 use Rattle.std.proofs.Common.{◌∙◌, true≢false, not-suc-le-zero, le_of_suc-le-suc, arith, length-set, ext_get_or}
 use Rattle.std.proofs.Math.Bool.{true, false, cond}
@@ -16,8 +16,6 @@ use Rattle.refusal.specs.Refusal.{no_such_technician, no_place_free, place_not_h
 use Rattle.exported_call.specs.LentCall.{Called}
 use Rattle.profile.specs.declared.Profile.{Profile}
 use Rattle.profile.specs.declared.Profile.TheVariants.{VV5404, VV5300}
-use Rattle.profile.specs.declared.Numbered.{Numbered}
-use Rattle.profile.specs.declared.Numbered.TheVariants as numbered
 use Rattle.profile.specs.Profile.{profile_number, profile_numbered, longest}
 use Rattle.reader.specs.declared.Reader.{Reader}
 use Rattle.reader.specs.Reader.{fresh_reader, finish_of}
@@ -290,19 +288,19 @@ finished_length s r h =
     ap (λ (c : Called). length c.state) (finish_call_lem s r h.held h.read)
     ∙ stored_length (finish_of r).reader s (finishes s r h).1.whole.full h.room
 
-profile_numbered_lem : (p : Profile) → profile_numbered (profile_number p) ≡ numbered.Profile p
+profile_numbered_lem : (p : Profile) → profile_numbered (profile_number p) ≡ Some p
 unfolding profile_numbered
 profile_numbered_lem VV5404 = refl
 profile_numbered_lem VV5300 = refl
 
-opened_same : (n : ℕ) (p : Profile) (s : List ℕ) → profile_numbered n ≡ numbered.Profile p → open_call n s ≡ open_call (profile_number p) s
+opened_same : (n : ℕ) (p : Profile) (s : List ℕ) → profile_numbered n ≡ Some p → open_call n s ≡ open_call (profile_number p) s
 unfolding open_call
-opened_same n p s e = ap (λ (m : Numbered). open_for m s) (e ∙ sym (profile_numbered_lem p))
+opened_same n p s e = ap (λ (m : Optional Profile). open_for m s) (e ∙ sym (profile_numbered_lem p))
 
 opened_length : (p : Profile) (s : List ℕ) → state_length ≤ length s → length (open_call (profile_number p) s).state ≡ length s
 unfolding open_call
 opened_length p s h =
-    ap (λ (m : Numbered). length (open_for m s).state) (profile_numbered_lem p)
+    ap (λ (m : Optional Profile). length (open_for m s).state) (profile_numbered_lem p)
     ∙ simp (le-leb state_length (length s) h) (stored_length (fresh_reader p) s (opens p s h).1.whole.full h)
 
 -- The calls.
@@ -383,7 +381,7 @@ module _ (s : List ℕ) (t : ReaderTable) (h : HoldsTable s t) where
           (record { says = refl; keeps = place_freed i (is_there s t h who i e f) })
 
   -- a fresh reader that is put into a place
-  fresh_put : (i who n : ℕ) (p : Profile) → is_technician who ≡ true → profile_numbered n ≡ numbered.Profile p → i < place_count
+  fresh_put : (i who n : ℕ) (p : Profile) → is_technician who ≡ true → profile_numbered n ≡ Some p → i < place_count
       → HoldsTable (opened_at s who n i).state (with_place t i (place_for who (fresh_reader p)))
   unfolding opened_at
   fresh_put i who n p a e l =
@@ -417,7 +415,7 @@ module _ (s : List ℕ) (t : ReaderTable) (h : HoldsTable s t) where
       same_room : length with_fresh ≡ length s
       same_room = with_room s i state h.room l full
 
-  opens_at_lem : (i who n : ℕ) (p : Profile) → is_technician who ≡ true → profile_numbered n ≡ numbered.Profile p
+  opens_at_lem : (i who n : ℕ) (p : Profile) → is_technician who ≡ true → profile_numbered n ≡ Some p
       → OpensAs (open_lowest s who n i) (cond (ltb i place_count) (opens_at t who p i) (not_opened t no_place_free))
   unfolding open_lowest opened_at
   opens_at_lem i who n p a e = go (ltb i place_count) refl
@@ -427,7 +425,7 @@ module _ (s : List ℕ) (t : ReaderTable) (h : HoldsTable s t) where
       go true f = record { says = refl; keeps = fresh_put i who n p a e (ltb-true i place_count f) }
       go false f = record { says = refl; keeps = h }
 
-  opens_lowest_as : (who n : ℕ) (p : Profile) → is_technician who ≡ true → profile_numbered n ≡ numbered.Profile p
+  opens_lowest_as : (who n : ℕ) (p : Profile) → is_technician who ≡ true → profile_numbered n ≡ Some p
       → OpensAs (open_lowest s who n (lowest_from place_count 0 s)) (open_place t who p)
   unfolding open_place
   opens_lowest_as who n p a e =
@@ -443,11 +441,11 @@ module _ (s : List ℕ) (t : ReaderTable) (h : HoldsTable s t) where
   unfolding open_table open_place_of
   opens_as who n = simp (le-leb table_length (length s) h.room) (go (is_technician who) (profile_numbered n) refl refl)
     where
-      go : (a : Bool) (m : Numbered) → is_technician who ≡ a → profile_numbered n ≡ m
+      go : (a : Bool) (m : Optional Profile) → is_technician who ≡ a → profile_numbered n ≡ m
           → OpensAs (cond a (open_profile s who n m) (refused_table no_such_technician s)) (cond a (open_numbered t who m) (not_opened t no_such_technician))
       go false m e f = record { says = refl; keeps = h }
-      go true numbered.NoProfile e f = record { says = refl; keeps = h }
-      go true (numbered.Profile p) e f = opens_lowest_as who n p e f
+      go true None e f = record { says = refl; keeps = h }
+      go true (Some p) e f = opens_lowest_as who n p e f
 
 -- a new table's bytes hold an empty table
 pub new_empty : (s : List ℕ) → table_length ≤ length s → ((new_table s).answer ≡ 0) × HoldsTable (new_table s).state empty_table

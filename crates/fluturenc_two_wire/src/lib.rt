@@ -20,7 +20,8 @@ ghost use Rattle.exported_call.specs.LentCall.{StateGives, WriteGives};
 ghost use Rattle.two_wire_write.specs.Writing.{write_of};
 ghost use Rattle.fluturenc_two_wire.specs.SensorBytes.{sensor_length, with_sensor, sensor_in, holds_sensor, reset_call, message_call};
 
-use two_wire::{MessageAnswer, Sensor};
+use refusal::Refusal;
+use two_wire::Sensor;
 
 // The places of index and flag among a sensor's bytes, and how many there are.
 const INDEX: usize = 128;
@@ -42,7 +43,7 @@ pub fn fluturenc_sensor_reset(sensor: &mut [u8]) -> u8
     ensures { StateGives (reset_call sensor.old) result sensor.new }
 {
     if sensor.len() < LENGTH {
-        return refusal::NO_ROOM;
+        return Refusal::NO_ROOM.0;
     }
     let s = Sensor::new();
     store(s, sensor);
@@ -61,16 +62,16 @@ pub fn fluturenc_sensor_message(sensor: &mut [u8], message: &[u8]) -> u8
         let next = seen.sensor;
         let answer = seen.answer;
         match answer {
-            MessageAnswer::Accepted => {
+            Ok(()) => {
                 store(next, sensor);
                 return 0;
             }
-            MessageAnswer::Refused(n) => {
-                return n;
+            Err(refusal) => {
+                return refusal.0;
             }
         }
     }
-    refusal::BAD_STATE
+    Refusal::BAD_STATE.0
 }
 
 // Writes a message for each pair, index and value, of the list. Refused: 24 a list that ends within a pair, 28 an index above 127, 12 room,
@@ -87,13 +88,7 @@ pub fn fluturenc_messages(pairs: &[u8], messages: &mut [u8], written: &mut usize
 fn holds_sensor(sensor: &[u8]) -> bool
     ensures { result ≡ holds_sensor sensor.now }
 {
-    if sensor.len() < LENGTH {
-        return false;
-    }
-    if two_wire::LAST_INDEX < sensor[INDEX] {
-        return false;
-    }
-    sensor[FLAG] <= 1
+    sensor.len() >= LENGTH && sensor[INDEX] <= two_wire::LAST_INDEX && sensor[FLAG] <= 1
 }
 
 #[tactic(auto, unfolding(crate::specs::SensorBytes::sensor_in))]

@@ -24,6 +24,7 @@ ghost use Rattle.fluturenc_why.specs.Why.{valued_number, valued_first, valued_se
 
 use exported_call::bit;
 use reason::{FailedSums, Reason};
+use refusal::Refusal;
 
 // In place of a refusal's number: a good line, and a good gap.
 const GOOD_LINE: u8 = 128;
@@ -56,17 +57,17 @@ fn number(reason: Reason) -> u8
     match reason {
         Reason::GoodLine => GOOD_LINE,
         Reason::GoodGap => GOOD_GAP,
-        Reason::DamagedCode(_, _) => refusal::DAMAGED_CODE,
-        Reason::ReservedCode => refusal::RESERVED_CODE,
-        Reason::UnfinishedLine => refusal::UNFINISHED_LINE,
-        Reason::WrongLength(_, _) => refusal::WRONG_LENGTH,
-        Reason::BadNumber(_, _) => refusal::BAD_NUMBER,
-        Reason::BadBody(_, _) => refusal::BAD_BODY,
-        Reason::NoEndOfLine(_) => refusal::NO_END_OF_LINE,
-        Reason::EndWithoutLine => refusal::END_WITHOUT_LINE,
-        Reason::BadGap(_, _) => refusal::BAD_GAP,
-        Reason::ShortGap(_) => refusal::BAD_GAP,
-        Reason::Refused(n) => n,
+        Reason::DamagedCode(_, _) => Refusal::DAMAGED_CODE.0,
+        Reason::ReservedCode => Refusal::RESERVED_CODE.0,
+        Reason::UnfinishedLine => Refusal::UNFINISHED_LINE.0,
+        Reason::WrongLength(_, _) => Refusal::WRONG_LENGTH.0,
+        Reason::BadNumber(_, _) => Refusal::BAD_NUMBER.0,
+        Reason::BadBody(_, _) => Refusal::BAD_BODY.0,
+        Reason::NoEndOfLine(_) => Refusal::NO_END_OF_LINE.0,
+        Reason::EndWithoutLine => Refusal::END_WITHOUT_LINE.0,
+        Reason::BadGap(_, _) => Refusal::BAD_GAP.0,
+        Reason::ShortGap(_) => Refusal::BAD_GAP.0,
+        Reason::Refused(refusal) => refusal.0,
     }
 }
 

@@ -5,45 +5,32 @@
 
 #![tactic(auto)]
 
-ghost use Rattle.std.specs.Prelude.{◌≤◌, length};
+ghost use Rattle.std.specs.Prelude.{◌≤◌, length, IfSome};
 
 use command::Input;
 use frame_grabber::Grabber;
 use frame_row::Keeping;
-use frame_rows::Progress;
 use host_calls::Source;
 
-// Whether two arguments are one word; none is the word of place 0.
+// Whether two arguments are one word; none is the word of place 0. Not one expression: the words are read between the tests.
 pub fn is_same(rt: HostRuntime, one: usize, other: usize) -> bool {
-    if one == 0 {
-        return false;
-    }
-    if other == 0 {
+    if one == 0 || other == 0 {
         return false;
     }
     let mut a = [0u8; host_calls::ROOM];
     let n = host_calls::arg(rt, one, &mut a);
     let mut b = [0u8; host_calls::ROOM];
     let m = host_calls::arg(rt, other, &mut b);
-    if n == 0 {
-        return false;
-    }
-    command_word::is(&a[..n], &b[..m])
+    n != 0 && command_word::is(&a[..n], &b[..m])
 }
 
-// Puts the rows of the first complete frame of the capture at a place among the arguments at the front of a buffer, and gives their length; 0
+// Puts the rows of the first complete frame of the capture at a place among the arguments at the front of a buffer, and gives their length; none
 // where there are none, which has been told.
-pub fn first_frame(rt: HostRuntime, file: usize, keeping: Keeping, rows: &mut [u8]) -> usize
-    ensures { result ≤ length rows.new }
+pub fn first_frame(rt: HostRuntime, file: usize, keeping: Keeping, rows: &mut [u8]) -> Option<usize>
+    ensures { IfSome result (λ n. n ≤ length rows.new) }
 {
     let mut name = [0u8; host_calls::ROOM];
-    let Input { source, length } = command::open_capture(rt, file, &mut name);
-    let Some(mut source) = source else {
-        return 0;
-    };
-    if name.len() < length {
-        return 0;
-    }
+    let Input { mut source, length } = command::open_capture(rt, file, &mut name)?;
     seek(rt, keeping, &mut source, &name[..length], rows)
 }
 
@@ -55,34 +42,28 @@ fn seek(
     source: &mut Source,
     name: &[u8],
     rows: &mut [u8],
-) -> usize
-    ensures { result ≤ length rows.new }
+) -> Option<usize>
+    ensures { IfSome result (λ n. n ≤ length rows.new) }
 {
     let mut grabber = Grabber::new(keeping);
     for _ in 0..u64::MAX {
         let mut buf = [0u8; host_calls::LARGE_ROOM];
-        let Some(n) = host_calls::read_or_tell(rt, source, name, &mut buf) else {
-            return 0;
-        };
+        let n = host_calls::read_or_tell(rt, source, name, &mut buf)?;
         if n == 0 {
             tell_no_frame(rt, name);
-            return 0;
+            return None;
         }
         let grabbed = grabber.grab(&buf[..n], 0, rows);
         grabber = grabbed.grabber;
-        let progress = grabbed.progress;
-        match progress {
-            Progress::Nothing => {}
-            Progress::Complete(n) => {
-                return n;
-            }
-            Progress::Refused(_) => {
-                command::complain(rt, b"the capture cannot be read on\n");
-                return 0;
-            }
+        let Ok(complete) = grabbed.progress else {
+            command::complain(rt, b"the capture cannot be read on\n");
+            return None;
+        };
+        if let Some(length) = complete {
+            return Some(length);
         }
     }
-    0
+    None
 }
 
 fn tell_no_frame(rt: HostRuntime, name: &[u8]) {

@@ -1,5 +1,6 @@
 -- A piece run by run: a run leaves what is sought the same, since the nibbles before its answer bring nothing; so what is said at the first
 -- answer that says something is what is sought.
+use Rattle.std.specs.Prelude.{None, Some, Err, Ok as Unrefused}
 use mathlib.Core.Path.{◌≡◌, refl, sym, ap, ap₂, subst, ◌∙◌}
 use mathlib.Core.Bool.{Bool, true, false, cond, ◌&&◌, not, true≢false}
 use mathlib.Core.List.{List, []}
@@ -30,9 +31,7 @@ use Rattle.reader_laws.proofs.ByRunsLaws.{run_on, lent_onward}
 use Rattle.capture_bytes.specs.UnpackedLaws.{nibbles_small}
 use Rattle.frame_rows.specs.declared.Gatherer.{Gatherer}
 use Rattle.frame_rows.specs.declared.Gathered.{Gathered}
-use Rattle.frame_rows.specs.declared.Progress.{Progress}
-use Rattle.frame_rows.specs.declared.Progress.TheVariants as progress
-use Rattle.frame_rows.specs.FrameRows.{AfterCall, Output, output_of, quiet, take_of}
+use Rattle.frame_rows.specs.FrameRows.{AfterCall, Output, Progress, output_of, quiet, take_of}
 use Rattle.frame_rows.specs.FrameRows as rows
 use Rattle.frame_rows_laws.specs.Gathering.{call}
 use Rattle.frame_grabber.specs.declared.Grabber.{Grabber}
@@ -49,9 +48,9 @@ outcome g p held = record { gatherer = g; output = output_of p held; buffer = he
 
 -- whether something is said does not depend on the rows
 said_alike : (p : Progress) (held : List ℕ) → is_said (output_of p held) ≡ is_said (output_of p [])
-said_alike progress.Nothing held = refl
-said_alike (progress.Complete n) held = refl
-said_alike (progress.Refused n) held = refl
+said_alike (Unrefused None) held = refl
+said_alike (Unrefused (Some n)) held = refl
+said_alike (Err r) held = refl
 
 -- where an answer was handed to the gatherer, with the nibbles still to come: it stops, or goes on
 abbrev on_answer : Reader → AfterCall → List ℕ → Sought
@@ -83,7 +82,7 @@ pub record Along (r : Reader) (g : Gatherer) (bytes held : List ℕ) (from at : 
   pub sound : Ok h
 
 pub along_start : (h : Head) (body : List ℕ) (g : Gatherer) (bytes held : List ℕ) (from : ℕ) → Ok h
-    → Along (reader h body) g bytes held from from h body g progress.Nothing held
+    → Along (reader h body) g bytes held from from h body g (Unrefused None) held
 along_start h body g bytes held from ok = record { forward = omega arith; within = omega arith; same = refl; sound = ok }
 
 -- nothing is said yet, and a nibble is left
@@ -186,7 +185,7 @@ along_end {q} {bytes} {held} {from} {at} {h} {body} {m} {p} {held'} a ok e =
 
 -- a reader that fails its own test: nothing is taken
 pub refused_state : (q : Grabber) (w held : List ℕ) → passes q.reader.head ≡ false
-    → Grabs (grab_of q w held) (record { grabber = q; taken = 0; progress = progress.Refused bad_state }) held
+    → Grabs (grab_of q w held) (record { grabber = q; taken = 0; progress = Err (record { 0 = bad_state }) }) held
 refused_state q w held e =
     let z = grab_fails q w held e in
     record {

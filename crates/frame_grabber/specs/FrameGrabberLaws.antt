@@ -1,5 +1,5 @@
 -- The first complete frame of a capture: a visible line that the reader gives out is laid out as 01 says, so the file of a picture is written.
-use Rattle.std.specs.Prelude.{◌≡◌, refl, Bool, true, false, cond, List, [], ◌∷◌, ◌++◌, ℕ, length, drop}
+use Rattle.std.specs.Prelude.{◌≡◌, refl, Bool, true, false, cond, List, [], ◌∷◌, ◌++◌, ℕ, length, drop, None}
 use Rattle.std.proofs.Common.{sym, ap, subst, ◌∙◌, true≢false, take_at}
 use Rattle.line_code.specs.declared.Kind.{Kind}
 use Rattle.line_code.specs.declared.Kind.TheVariants.{BL, BK, VL, SOF, EOF}
@@ -15,9 +15,8 @@ use Rattle.reader.specs.Reader.{Took, fresh_reader, taking, feed_of}
 use Rattle.mark_answer.specs.Sound.{Sound, sound_nothing, sound_line, sound_gap, sound_refused}
 use Rattle.reader.specs.ReaderLaws.{take_profile, take_sound}
 use Rattle.reader_laws.proofs.Passes.{passes_test, fresh_ok, Feeding, feed_state, feed_nibble, feed_room, feed_taken, feeding}
-use Rattle.frame_handing.specs.declared.Handed.TheVariants as hand
 use Rattle.frame_judge.specs.Frame.{broken_kind}
-use Rattle.frame_handing.specs.Handing.{is_broken_line, as_lines, handed_lines}
+use Rattle.frame_handing.specs.Handing.{is_broken_line, hand, as_lines, handed_lines}
 use Rattle.frame_row.specs.declared.Order.{Order}
 use Rattle.frame_row.specs.declared.Keeping.{Keeping}
 use Rattle.frame_row.specs.declared.Keeping.TheVariants.{VisiblePixels}
@@ -34,7 +33,7 @@ use Rattle.frame_grabber.specs.PieceLaws.{grab_is, pieces_whole}
 
 -- Lines are laid out as 01 says.
 
-broken_laid : (b : Bool) (held : List ℕ) → Every Laid (shown (as_lines (cond b (hand.Line broken_kind 0) hand.Nothing)) held)
+broken_laid : (b : Bool) (held : List ℕ) → Every Laid (shown (as_lines (cond b (hand broken_kind 0) None)) held)
 broken_laid true held = (λ e. absurd (true≢false (sym e)), tt)
 broken_laid false held = tt
 

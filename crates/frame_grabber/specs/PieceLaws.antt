@@ -1,6 +1,6 @@
 -- Laws of a piece's nibbles: pieces give what the whole capture gives; no answer of the nibbles taken is left out; the length that complete says
 -- is within the buffer.
-use Rattle.std.specs.Prelude.{◌≡◌, refl, Bool, true, false, cond, List, [], ◌∷◌, ◌++◌, ℕ, ◌+◌, ◌-◌, ◌≤◌, length, take}
+use Rattle.std.specs.Prelude.{◌≡◌, refl, Bool, true, false, cond, List, [], ◌∷◌, ◌++◌, ℕ, ◌+◌, ◌-◌, ◌≤◌, length, take, Ok as Unrefused, Some}
 use Rattle.std.proofs.Common.{sym, ap, ap₂, subst, ◌∙◌, arith, length-append, length-take, take_at}
 use Rattle.profile.specs.Profile.{longest}
 use Rattle.reader.specs.declared.Reader.{Reader}
@@ -8,9 +8,7 @@ use Rattle.reader_head.specs.Head.{passes}
 use Rattle.reader.specs.Reader.{feed_of}
 use Rattle.reader_laws.proofs.Passes.{passes_test, feed_ok}
 use Rattle.reader_laws.specs.Passing.{Ok}
-use Rattle.frame_rows.specs.declared.Progress.{Progress}
-use Rattle.frame_rows.specs.declared.Progress.TheVariants as progress
-use Rattle.frame_rows.specs.FrameRows.{output_of, quiet}
+use Rattle.frame_rows.specs.FrameRows.{Progress, output_of, quiet}
 use Rattle.frame_rows.specs.FrameRows as rows
 use Rattle.frame_rows_laws.specs.Gathering.{calls}
 use Rattle.frame_grabber.specs.declared.Grabber.{Grabber}
@@ -146,7 +144,7 @@ grab_sized s w held = by (passes s.reader.head)
     by false = tt
 
 pub rows_within : (s : Grabber) (w held : List ℕ) (y : Grabbed) (after : List ℕ) (n : ℕ) → Grabs (grab_of s w held) y after
-    → y.progress ≡ progress.Complete n → n ≤ length after
+    → y.progress ≡ Unrefused (Some n) → n ≤ length after
 rows_within s w held y after n g e =
     let q = subst Sized (sym g.says ∙ ap (λ (p : Progress). output_of p after) e) (grab_sized s w held) in
     omega (arith, q, length-take n after)

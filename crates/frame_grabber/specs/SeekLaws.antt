@@ -149,7 +149,7 @@ handed_sized g l held = by (called VV5404 g.judge l.given).ruling
     by ruling.Complete =
         either_sized (row_fits g.keeping g.kept l.given.kind l.body held) (rows.completing g j n last) (rows.refuses g no_room held)
         (λ e. length-take-le n last (omega (arith, (row_fits_lem g.keeping g.kept l.given.kind l.body held e).1, with_row_length g.keeping g.kept (rows.place_due g.judge) l.given.kind l.body held e))) tt
-    by (ruling.Refused m) = either_sized (breaks_frame m) (rows.after_break g j l.given.kind l.body held) (rows.refuses g m held) (λ _. broken j) tt
+    by (ruling.Refused r) = either_sized (breaks_frame r.0) (rows.after_break g j l.given.kind l.body held) (rows.refuses g r.0 held) (λ _. broken j) tt
 
 call_sized : (x : rows.AfterCall) (a : Given) → Sized (call x a).output
 call_sized x a = by (shown (handed_lines a.answer) a.held) (call x a) (hands x a)

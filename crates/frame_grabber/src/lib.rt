@@ -18,6 +18,7 @@ use frame_row::Keeping;
 use frame_rows::{Gatherer, Progress};
 use profile::Profile;
 use reader::Reader;
+use refusal::Refusal;
 
 // A reader, and the gatherer of the rows of its lines.
 #[derive(Clone, Copy)]
@@ -53,8 +54,9 @@ impl Grabber {
         if capture_bytes::is_sound(head) {
             let mut body = reader.body;
             let mut gatherer = self.gatherer;
-            let mut progress = Progress::Nothing;
+            let mut progress = Ok(None);
             let mut at = from;
+            // Not a for: each turn goes on by what the run took.
             while goes_on(progress, at, input.len()) {
                 let mut line = [0u8; Profile::LONGEST];
                 let t = capture_bytes::run(head, &mut body, input, at, &mut line);
@@ -73,7 +75,7 @@ impl Grabber {
                 progress,
             };
         }
-        let progress = Progress::Refused(refusal::BAD_STATE);
+        let progress = Err(Refusal::BAD_STATE);
         Grabbed {
             grabber: self,
             taken: 0,
@@ -87,8 +89,8 @@ fn goes_on(progress: Progress, at: usize, bytes: usize) -> bool
     ensures { result ≡ (not (is_said (output_of progress [])) && ltb (at / 2) bytes) }
 {
     match progress {
-        Progress::Nothing => at / 2 < bytes,
-        Progress::Complete(_) => false,
-        Progress::Refused(_) => false,
+        Ok(None) => at / 2 < bytes,
+        Ok(Some(_)) => false,
+        Err(_) => false,
     }
 }

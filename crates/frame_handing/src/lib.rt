@@ -9,41 +9,46 @@ ghost use Rattle.std.specs.Prelude.{◌≡◌};
 ghost use Rattle.frame_handing.specs.Handing.{is_broken_line, handed_over};
 
 use frame_judge::Judge;
+use refusal::Refusal;
 use stream::Answer;
 
-// What of an answer is handed to the judge: nothing, or a kind number and a number.
+// A line as it is handed to the judge: a kind number, 0 for a broken line, and a number.
 #[derive(Clone, Copy)]
-pub enum Handed {
-    Nothing,
-    Line(u8, u16),
+pub struct HandedLine {
+    pub kind: u8,
+    pub number: u16,
 }
 
 // Each line given out is handed over, and kind 0 for each answer 1 to 7.
-pub fn handed_over(answer: Answer) -> Handed
+pub fn handed_over(answer: Answer) -> Option<HandedLine>
     ensures { result ≡ handed_over answer }
 {
     match answer {
-        Answer::Nothing => Handed::Nothing,
+        Answer::Nothing => None,
         Answer::Line(facts) => {
             let kind = facts.kind;
-            Handed::Line(kind.number(), facts.number)
+            Some(HandedLine {
+                kind: kind.number(),
+                number: facts.number,
+            })
         }
-        Answer::Gap(_) => Handed::Nothing,
-        Answer::Refused(number) => {
-            if is_broken_line(number) {
-                return Handed::Line(Judge::BROKEN, 0);
+        Answer::Gap(_) => None,
+        Answer::Refused(refusal) => {
+            if is_broken_line(refusal) {
+                return Some(HandedLine {
+                    kind: Judge::BROKEN,
+                    number: 0,
+                });
             }
-            Handed::Nothing
+            None
         }
     }
 }
 
-// Whether an answer's refusal number, 1 to 7, is that of a broken line.
-fn is_broken_line(number: u8) -> bool
-    ensures { result ≡ is_broken_line number }
+// Whether an answer's refusal, 1 to 7, is that of a broken line.
+#[tactic(auto, unfolding(crate::specs::Handing::is_broken_line))]
+fn is_broken_line(refusal: Refusal) -> bool
+    ensures { result ≡ is_broken_line refusal.0 }
 {
-    if number < refusal::DAMAGED_CODE {
-        return false;
-    }
-    number <= refusal::NO_END_OF_LINE
+    Refusal::DAMAGED_CODE.0 <= refusal.0 && refusal.0 <= Refusal::NO_END_OF_LINE.0
 }

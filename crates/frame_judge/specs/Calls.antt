@@ -41,21 +41,21 @@ abbrev pub is_complete : Ruling → Bool
 is_complete ruling.Waiting = false
 is_complete ruling.Going = false
 is_complete ruling.Complete = true
-is_complete (ruling.Refused refusal) = false
+is_complete (ruling.Refused r) = false
 
 -- a ruling that breaks a frame
 abbrev pub is_break : Ruling → Bool
 is_break ruling.Waiting = false
 is_break ruling.Going = false
 is_break ruling.Complete = false
-is_break (ruling.Refused refusal) = breaks_frame refusal
+is_break (ruling.Refused r) = breaks_frame r.0
 
 -- an accepted line is one that is not refused 13 or 14: those change nothing (and 11 comes from no judge that calls reach)
 abbrev pub accepts : Ruling → Bool
 accepts ruling.Waiting = true
 accepts ruling.Going = true
 accepts ruling.Complete = true
-accepts (ruling.Refused r) = not (eqb r bad_kind || eqb r number_too_large)
+accepts (ruling.Refused r) = not (eqb r.0 bad_kind || eqb r.0 number_too_large)
 
 -- a line, where the judge takes it into a frame
 abbrev pub accepted_one : Profile → Judge → Line → List Line

@@ -1,5 +1,5 @@
 -- The judge of frames (01, 'Frames of profile 0'; 000, 'Frame Level Formatting' and 'Line Level Formatting' for the VV5300).
-use Rattle.std.specs.Prelude.{◌≡◌, Bool, true, ◌&&◌, ◌||◌, cond, ℕ, ◌+◌, eqb, leb, ltb}
+use Rattle.std.specs.Prelude.{◌≡◌, Bool, true, ◌&&◌, ◌||◌, cond, ℕ, ◌+◌, eqb, leb, ltb, None, Option, Some}
 use Rattle.refusal.specs.Refusal.{bad_state, bad_kind, number_too_large, not_the_line_due, broken_line}
 use Rattle.line_code.specs.declared.Kind.TheVariants.{VL, SOF, EOF}
 use Rattle.line_code.specs.LineCode.{kind_number}
@@ -7,13 +7,12 @@ use Rattle.line_number.specs.LineNumber.{greatest}
 use Rattle.profile.specs.declared.Profile.{Profile}
 use Rattle.frame_layout.specs.declared.Borders.TheVariants.{On, Off}
 use Rattle.frame_layout.specs.FrameLayout.{last_place, settling_place, due_at}
-use Rattle.frame_judge.specs.declared.KnownBorders.{KnownBorders}
-use Rattle.frame_judge.specs.declared.KnownBorders.TheVariants.{Unsettled, Settled}
 use Rattle.frame_judge.specs.declared.Judge.{Judge}
 use Rattle.frame_judge.specs.declared.Judge.TheVariants.{Waiting, Due}
 use Rattle.frame_judge.specs.declared.Ruling.{Ruling}
 use Rattle.frame_judge.specs.declared.Ruling.TheVariants as ruling
 use Rattle.frame_judge.specs.declared.Judged.{Judged}
+use Rattle.frame_layout.specs.declared.Borders.{Borders}
 
 -- the judge's own test: waiting; due at place 1 up to the settling place, unsettled; due after it up to the last, settled
 abbrev pub within : ℕ → ℕ → ℕ → Bool
@@ -22,18 +21,18 @@ within from to n = leb from n && leb n to
 -- the judge's own test: a state that calls can reach
 abbrev pub passes : Profile → Judge → Bool
 passes p Waiting = true
-passes p (Due place Unsettled) = within 1 (settling_place p) place
-passes p (Due place (Settled b)) = within (settling_place p + 1) (last_place p) place
+passes p (Due place None) = within 1 (settling_place p) place
+passes p (Due place (Some b)) = within (settling_place p + 1) (last_place p) place
 
 -- a line is the one due: with the borders settled, or, while they are not, with either setting
-abbrev pub line_due : Profile → KnownBorders → ℕ → ℕ → ℕ → Bool
-line_due p Unsettled place k n = due_at p On place k n || due_at p Off place k n
-line_due p (Settled b) place k n = due_at p b place k n
+abbrev pub line_due : Profile → Option Borders → ℕ → ℕ → ℕ → Bool
+line_due p None place k n = due_at p On place k n || due_at p Off place k n
+line_due p (Some b) place k n = due_at p b place k n
 
 -- the borders after a line that was due: at the settling place a VL settles them on, a BL off
-abbrev pub settled_by : Profile → KnownBorders → ℕ → ℕ → KnownBorders
-settled_by p Unsettled place k = cond (ltb place (settling_place p)) Unsettled (Settled (cond (eqb k (kind_number VL)) On Off))
-settled_by p (Settled b) place k = Settled b
+abbrev pub settled_by : Profile → Option Borders → ℕ → ℕ → Option Borders
+settled_by p None place k = cond (ltb place (settling_place p)) None (Some (cond (eqb k (kind_number VL)) On Off))
+settled_by p (Some b) place k = Some b
 
 -- what the judge says, in 01's words: Waiting, Going, Complete, or a refusal with its number
 pub data Said : Type 0 where
@@ -47,14 +46,14 @@ abbrev pub said_of : Ruling → Said
 said_of ruling.Waiting = still_waiting
 said_of ruling.Going = on_going
 said_of ruling.Complete = whole_frame
-said_of (ruling.Refused n) = refused n
+said_of (ruling.Refused r) = refused r.0
 
 -- the program's ruling that says this
 abbrev pub ruling_for : Said → Ruling
 ruling_for still_waiting = ruling.Waiting
 ruling_for on_going = ruling.Going
 ruling_for whole_frame = ruling.Complete
-ruling_for (refused n) = ruling.Refused n
+ruling_for (refused n) = ruling.Refused (record { 0 = n })
 
 -- a judge after a call, and what it answered
 abbrev pub gives : Judge → Ruling → Judged
@@ -70,7 +69,7 @@ opens k n = eqb k (kind_number SOF) && eqb n 0
 
 -- the judge at a frame's second line
 abbrev pub begun : Judge
-begun = Due 1 Unsettled
+begun = Due 1 None
 
 -- the kind number that stands for a broken line
 abbrev pub broken_kind : ℕ
@@ -82,7 +81,7 @@ broken Waiting = gives Waiting (ruling_for still_waiting)
 broken (Due place s) = refuses Waiting broken_line
 
 -- a line that is due: Going, or Complete at the last place, then waiting
-abbrev pub due_taken : Profile → ℕ → KnownBorders → ℕ → Judged
+abbrev pub due_taken : Profile → ℕ → Option Borders → ℕ → Judged
 due_taken p place s k =
     cond (ltb place (last_place p)) (gives (Due (place + 1) (settled_by p s place k)) (ruling_for on_going)) (gives Waiting (ruling_for whole_frame))
 

@@ -10,7 +10,7 @@ ruling_back : (v : Ruling) → v ≡ ruling_for (said_of v)
 ruling_back Waiting = refl
 ruling_back Going = refl
 ruling_back Complete = refl
-ruling_back (Refused n) = refl
+ruling_back (Refused r) = refl
 
 pub same_ruling : (v w : Ruling) → said_of v ≡ said_of w → v ≡ w
 same_ruling v w h = ruling_back v ∙ ap ruling_for h ∙ sym (ruling_back w)

@@ -13,28 +13,23 @@ ghost use Rattle.frame_judge.specs.Frame.{within, passes, line_due, settled_by, 
 use frame_layout::{Borders, FIRST_BLACK};
 use line_code::Kind;
 use profile::Profile;
+use refusal::Refusal;
 
-// What is known so far of a frame's borders: the line at the place of the first visible line with borders on settles them.
-#[derive(Clone, Copy)]
-pub enum KnownBorders {
-    Unsettled,
-    Settled(Borders),
-}
-
-// Waiting for a frame; or within one, with the place that is due and what is known of the borders.
+// Waiting for a frame; or within one, with the place that is due and what is known so far of the borders: the line at the place of the first
+// visible line with borders on settles them. No option of a pair: definitions and laws go by both parts, and their patterns can't take a pair apart.
 #[derive(Clone, Copy)]
 pub enum Judge {
     Waiting,
-    Due(u16, KnownBorders),
+    Due(u16, Option<Borders>),
 }
 
-// What the judge answers.
+// What the judge answers: one enum, and no result of an option, since the paper has the four side by side.
 #[derive(Clone, Copy)]
 pub enum Ruling {
     Waiting,
     Going,
     Complete,
-    Refused(u8),
+    Refused(Refusal),
 }
 
 // A judge after a call, and its answer.
@@ -62,17 +57,17 @@ impl Judge {
     {
         if self.passes(profile) {
             if kind > Kind::EOF.number() {
-                return refused(self, refusal::BAD_KIND);
+                return refused(self, Refusal::BAD_KIND);
             }
             if kind == Judge::BROKEN {
                 return self.broken();
             }
             if number > line_number::GREATEST {
-                return refused(self, refusal::NUMBER_TOO_LARGE);
+                return refused(self, Refusal::NUMBER_TOO_LARGE);
             }
             return self.whole(profile, kind, number);
         }
-        refused(self, refusal::BAD_STATE)
+        refused(self, Refusal::BAD_STATE)
     }
 
     // The judge's own test: true of the states that calls reach from a fresh judge, and of no other.
@@ -85,8 +80,8 @@ impl Judge {
                 let settling = frame_layout::settling_place(profile);
                 let last = frame_layout::last_place(profile);
                 match borders {
-                    KnownBorders::Unsettled => within(FIRST_BLACK, settling, place),
-                    KnownBorders::Settled(_) => within(settling + 1, last, place),
+                    None => within(FIRST_BLACK, settling, place),
+                    Some(_) => within(settling + 1, last, place),
                 }
             }
         }
@@ -100,7 +95,7 @@ impl Judge {
                 judge: self,
                 ruling: Ruling::Waiting,
             },
-            Judge::Due(_, _) => refused(Judge::Waiting, refusal::BROKEN_LINE),
+            Judge::Due(_, _) => refused(Judge::Waiting, Refusal::BROKEN_LINE),
         }
     }
 
@@ -110,7 +105,7 @@ impl Judge {
         match self {
             Judge::Waiting => first(kind, number),
             Judge::Due(place, borders) => {
-                if borders.line_due(profile, place, kind, number) {
+                if line_due(borders, profile, place, kind, number) {
                     return take_due(profile, place, borders, kind);
                 }
                 astray(kind, number)
@@ -119,60 +114,53 @@ impl Judge {
     }
 }
 
-impl KnownBorders {
-    // Whether this is the line due at a place.
-    fn line_due(self, profile: Profile, place: u16, kind: u8, number: u16) -> bool
-        ensures { result ≡ line_due profile self place kind number }
-    {
-        match self {
-            KnownBorders::Unsettled => {
-                if Borders::On.due_at(profile, place, kind, number) {
-                    return true;
-                }
-                Borders::Off.due_at(profile, place, kind, number)
-            }
-            KnownBorders::Settled(borders) => borders.due_at(profile, place, kind, number),
+// Whether this is the line due at a place.
+fn line_due(known: Option<Borders>, profile: Profile, place: u16, kind: u8, number: u16) -> bool
+    ensures { result ≡ line_due profile known place kind number }
+{
+    match known {
+        None => {
+            Borders::On.due_at(profile, place, kind, number)
+                || Borders::Off.due_at(profile, place, kind, number)
         }
+        Some(borders) => borders.due_at(profile, place, kind, number),
     }
+}
 
-    // The borders after a line that was due.
-    fn settled_by(self, profile: Profile, place: u16, kind: u8) -> KnownBorders
-        ensures { result ≡ settled_by profile self place kind }
-    {
-        match self {
-            KnownBorders::Unsettled => {
-                if place < frame_layout::settling_place(profile) {
-                    return KnownBorders::Unsettled;
-                }
-                if kind == Kind::VL.number() {
-                    return KnownBorders::Settled(Borders::On);
-                }
-                KnownBorders::Settled(Borders::Off)
+// The borders after a line that was due.
+fn settled_by(known: Option<Borders>, profile: Profile, place: u16, kind: u8) -> Option<Borders>
+    ensures { result ≡ settled_by profile known place kind }
+{
+    match known {
+        None => {
+            if place < frame_layout::settling_place(profile) {
+                return None;
             }
-            KnownBorders::Settled(_) => self,
+            if kind == Kind::VL.number() {
+                return Some(Borders::On);
+            }
+            Some(Borders::Off)
         }
+        Some(_) => known,
     }
 }
 
 // Whether a refusal of the judge, 18 or 19, breaks the frame.
-pub fn breaks_frame(number: u8) -> bool
-    ensures { result ≡ breaks_frame number }
+pub fn breaks_frame(refusal: Refusal) -> bool
+    ensures { result ≡ breaks_frame refusal.0 }
 {
-    if number == refusal::NOT_THE_LINE_DUE {
-        return true;
-    }
-    number == refusal::BROKEN_LINE
+    refusal == Refusal::NOT_THE_LINE_DUE || refusal == Refusal::BROKEN_LINE
 }
 
 // The place of a frame's first line.
 const FIRST_PLACE: u16 = 0;
 
 // A line that is due.
-fn take_due(profile: Profile, place: u16, borders: KnownBorders, kind: u8) -> Judged
+fn take_due(profile: Profile, place: u16, borders: Option<Borders>, kind: u8) -> Judged
     ensures { result ≡ due_taken profile place borders kind }
 {
     if place < frame_layout::last_place(profile) {
-        let next = borders.settled_by(profile, place, kind);
+        let next = settled_by(borders, profile, place, kind);
         return Judged {
             judge: Judge::Due(place + 1, next),
             ruling: Ruling::Going,
@@ -188,10 +176,7 @@ fn take_due(profile: Profile, place: u16, borders: KnownBorders, kind: u8) -> Ju
 fn opens(kind: u8, number: u16) -> bool
     ensures { result ≡ opens kind number }
 {
-    if kind == Kind::SOF.number() {
-        return number == FIRST_PLACE;
-    }
-    false
+    kind == Kind::SOF.number() && number == FIRST_PLACE
 }
 
 // A line while waiting.
@@ -200,7 +185,7 @@ fn first(kind: u8, number: u16) -> Judged
 {
     if opens(kind, number) {
         return Judged {
-            judge: Judge::Due(FIRST_BLACK, KnownBorders::Unsettled),
+            judge: Judge::Due(FIRST_BLACK, None),
             ruling: Ruling::Going,
         };
     }
@@ -215,16 +200,13 @@ fn astray(kind: u8, number: u16) -> Judged
     ensures { result ≡ astray kind number }
 {
     if opens(kind, number) {
-        return refused(
-            Judge::Due(FIRST_BLACK, KnownBorders::Unsettled),
-            refusal::NOT_THE_LINE_DUE,
-        );
+        return refused(Judge::Due(FIRST_BLACK, None), Refusal::NOT_THE_LINE_DUE);
     }
-    refused(Judge::Waiting, refusal::NOT_THE_LINE_DUE)
+    refused(Judge::Waiting, Refusal::NOT_THE_LINE_DUE)
 }
 
-fn refused(judge: Judge, refusal: u8) -> Judged
-    ensures { result ≡ refuses judge refusal }
+fn refused(judge: Judge, refusal: Refusal) -> Judged
+    ensures { result ≡ refuses judge refusal.0 }
 {
     Judged {
         judge,
@@ -235,8 +217,5 @@ fn refused(judge: Judge, refusal: u8) -> Judged
 fn within(from: u16, to: u16, n: u16) -> bool
     ensures { result ≡ within from to n }
 {
-    if n < from {
-        return false;
-    }
-    n <= to
+    from <= n && n <= to
 }

@@ -1,5 +1,5 @@
 -- The states that calls reach, and whole frames: the laws of frames that rest on others of them (FrameLaws) that the must-fail edits turn.
-use Rattle.std.specs.Prelude.{◌≡◌, refl, Bool, true, false, ◌||◌, cond, List, [], ◌∷◌, ◌++◌, ℕ, zero, suc, ◌+◌, ◌-◌, ◌≤◌, ◌<◌, eqb, length, get_or, replicate, take}
+use Rattle.std.specs.Prelude.{◌≡◌, refl, Bool, true, false, ◌||◌, cond, List, [], ◌∷◌, ◌++◌, ℕ, zero, suc, ◌+◌, ◌-◌, ◌≤◌, ◌<◌, eqb, length, get_or, replicate, take, None, Option, Some}
 use Rattle.std.proofs.Common.{sym, ap, subst, ◌∙◌, arith, add-one, le-leb, lt-ltb, length-append, length-take}
 use Rattle.std.proofs.lemmas.Bool.{lt-leb}
 use Rattle.std.proofs.lemmas.List.{length-replicate}
@@ -12,8 +12,6 @@ use Rattle.profile.specs.declared.Profile.{Profile}
 use Rattle.profile.specs.declared.Profile.TheVariants.{VV5404, VV5300}
 use Rattle.frame_layout.specs.declared.Borders.{Borders}
 use Rattle.frame_layout.specs.declared.Borders.TheVariants.{On}
-use Rattle.frame_judge.specs.declared.KnownBorders.{KnownBorders}
-use Rattle.frame_judge.specs.declared.KnownBorders.TheVariants.{Unsettled, Settled}
 use Rattle.frame_judge.specs.declared.Judge.{Judge}
 use Rattle.frame_judge.specs.declared.Judge.TheVariants.{Waiting, Due}
 use Rattle.frame_judge.specs.declared.Ruling.{Ruling}
@@ -102,10 +100,10 @@ reach p b (suc n) h =
 pub passes_reached : (p : Profile) (j : Judge) → passes p j ≡ true → (ls : List Line) × (after p Waiting ls ≡ j)
 passes_reached p Waiting h = ([], refl)
 passes_reached p (Due zero s) h = absurd (let z = passes_low p zero s h in omega arith)
-passes_reached p (Due (suc n) Unsettled) h =
-    (lines_before p On (suc n), reach p On (suc n) (passes_high p (suc n) Unsettled h) ∙ simp (le-leb (suc n) (settling_place p) (within_high 1 (settling_place p) (suc n) h)))
-passes_reached p (Due (suc n) (Settled b)) h =
-    (lines_before p b (suc n), reach p b (suc n) (passes_high p (suc n) (Settled b) h) ∙ simp (lt-leb (suc n) (settling_place p) (omega (arith, within_low (settling_place p + 1) (last_place p) (suc n) h))))
+passes_reached p (Due (suc n) None) h =
+    (lines_before p On (suc n), reach p On (suc n) (passes_high p (suc n) None h) ∙ simp (le-leb (suc n) (settling_place p) (within_high 1 (settling_place p) (suc n) h)))
+passes_reached p (Due (suc n) (Some b)) h =
+    (lines_before p b (suc n), reach p b (suc n) (passes_high p (suc n) (Some b) h) ∙ simp (lt-leb (suc n) (settling_place p) (omega (arith, within_low (settling_place p + 1) (last_place p) (suc n) h))))
 
 -- a whole frame is Complete wherever the judge is: in another frame its first line is refused, and opens it
 pub frame_complete_anywhere : (p : Profile) (j : Judge) → passes p j ≡ true → (b : Borders) (ls : List Line) → IsFrame p b ls → Completes p j (called p j (line (kind_number SOF) 0)).ruling ls
@@ -128,15 +126,15 @@ frame_complete_lem VV5404 b ls f = frame_complete_anywhere VV5404 Waiting refl b
 frame_complete_lem VV5300 b ls f = frame_complete_anywhere VV5300 Waiting refl b ls f
 
 -- a line that is due at the last place, where the borders are settled, ends a whole frame
-last_ends_frame : (p : Profile) (past : List Line) (place : ℕ) (s : KnownBorders) (l : Line) → passes p (Due place s) ≡ true → IsDue p s place l → last_place p ≤ place
+last_ends_frame : (p : Profile) (past : List Line) (place : ℕ) (s : Option Borders) (l : Line) → passes p (Due place s) ≡ true → IsDue p s place l → last_place p ≤ place
     → Traced p past (Due place s) → (b : Borders) × (earlier : List Line) × (frame : List Line) × (past ++ (l ∷ []) ≡ earlier ++ frame) × IsFrame p b frame
-last_ends_frame p past place Unsettled l h d g t = absurd (omega (arith, settling_early p, within_high 1 (settling_place p) place h))
-last_ends_frame p past place (Settled b) l h d g t = by (longer p past place (Settled b) l h d t)
+last_ends_frame p past place None l h d g t = absurd (omega (arith, settling_early p, within_high 1 (settling_place p) place h))
+last_ends_frame p past place (Some b) l h d g t = by (longer p past place (Some b) l h d t)
   where
-    by : Traced p (past ++ (l ∷ [])) (Due (suc place) (Settled b))
+    by : Traced p (past ++ (l ∷ [])) (Due (suc place) (Some b))
         → (b : Borders) × (earlier : List Line) × (frame : List Line) × (past ++ (l ∷ []) ≡ earlier ++ frame) × IsFrame p b frame
     by (earlier, frame, e, f) =
-        (b, earlier, frame, e, subst (λ (n : ℕ). FirstLines p b n frame) (omega (arith, passes_high p place (Settled b) h)) (f b refl))
+        (b, earlier, frame, e, subst (λ (n : ℕ). FirstLines p b n frame) (omega (arith, passes_high p place (Some b) h)) (f b refl))
 
 -- if a call is answered Complete, the accepted lines up to it end in exactly the lines of a frame, borders on or off: no damaged frame is Complete
 pub complete_frame : (p : Profile) (ls : List Line) (l : Line) → (called p (after p Waiting ls) l).ruling ≡ ruling.Complete

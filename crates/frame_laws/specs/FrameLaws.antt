@@ -1,5 +1,5 @@
 -- Laws of frames: the judge's test is true of exactly the states that calls reach, a whole frame is Complete, and nothing else is.
-use Rattle.std.specs.Prelude.{◌≡◌, refl, Bool, true, false, ◌&&◌, ◌||◌, cond, List, [], ◌∷◌, ◌++◌, ℕ, zero, suc, ◌+◌, ◌-◌, ◌≤◌, ◌<◌, eqb, leb, ltb, length, get_or, take}
+use Rattle.std.specs.Prelude.{◌≡◌, refl, Bool, true, false, ◌&&◌, ◌||◌, cond, List, [], ◌∷◌, ◌++◌, ℕ, zero, suc, ◌+◌, ◌-◌, ◌≤◌, ◌<◌, eqb, leb, ltb, length, get_or, take, None, Option, Some}
 use Rattle.std.proofs.Common.{sym, ap, ap₂, subst, ◌∙◌, true≢false, append-nil, append_assoc, not-suc-le-zero, le_of_suc-le-suc, arith, add-one, eqb-true, leb-true, leb-false, ltb-true, ltb-false, le-leb, lt-ltb, le-ltb, eq-eqb, lit≤, length-append}
 use Rattle.std.proofs.Math.Bool.{or-true}
 use Rattle.bits.specs.Every.{and_left, and_right, and_both}
@@ -12,8 +12,6 @@ use Rattle.profile.specs.declared.Profile.{Profile}
 use Rattle.profile.specs.declared.Profile.TheVariants.{VV5404, VV5300}
 use Rattle.frame_layout.specs.declared.Borders.{Borders}
 use Rattle.frame_layout.specs.declared.Borders.TheVariants.{On, Off}
-use Rattle.frame_judge.specs.declared.KnownBorders.{KnownBorders}
-use Rattle.frame_judge.specs.declared.KnownBorders.TheVariants.{Unsettled, Settled}
 use Rattle.frame_judge.specs.declared.Judge.{Judge}
 use Rattle.frame_judge.specs.declared.Judge.TheVariants.{Waiting, Due}
 use Rattle.frame_judge.specs.declared.Ruling.{Ruling}
@@ -76,15 +74,15 @@ end_place_lem VV5300 On = refl
 end_place_lem VV5300 Off = refl
 
 -- an SOF is due at no place but the first
-sof_not_due : (p : Profile) (s : KnownBorders) (place n : ℕ) → line_due p s (suc place) (kind_number SOF) n ≡ false
+sof_not_due : (p : Profile) (s : Option Borders) (place n : ℕ) → line_due p s (suc place) (kind_number SOF) n ≡ false
 sof_not_due p s place n = by s
   where
     with_borders : (b : Borders) → due_at p b (suc place) (kind_number SOF) n ≡ false
     with_borders b = ap (λ (t : Bool). t && number_due p b (suc place) n) (sof_only_first p b place)
 
-    by : (s : KnownBorders) → line_due p s (suc place) (kind_number SOF) n ≡ false
-    by Unsettled = ap₂ ◌||◌ (with_borders On) (with_borders Off)
-    by (Settled b) = with_borders b
+    by : (s : Option Borders) → line_due p s (suc place) (kind_number SOF) n ≡ false
+    by None = ap₂ ◌||◌ (with_borders On) (with_borders Off)
+    by (Some b) = with_borders b
 
 -- a line that fits at a later place opens no frame
 pub later_opens_none : (p : Profile) (b : Borders) (place : ℕ) (l : Line) → is_laid_out_at p b (suc place) l ≡ true → opens l.kind l.number ≡ false
@@ -148,13 +146,13 @@ within_high from to n h = leb-true n to (and_right (leb from n) _ h)
 within_holds : (from to n : ℕ) → from ≤ n → n ≤ to → within from to n ≡ true
 within_holds from to n g h = and_both _ _ (le-leb from n g) (le-leb n to h)
 
-pub passes_low : (p : Profile) (place : ℕ) (s : KnownBorders) → passes p (Due place s) ≡ true → 1 ≤ place
-passes_low p place Unsettled h = within_low 1 (settling_place p) place h
-passes_low p place (Settled b) h = omega (arith, within_low (settling_place p + 1) (last_place p) place h)
+pub passes_low : (p : Profile) (place : ℕ) (s : Option Borders) → passes p (Due place s) ≡ true → 1 ≤ place
+passes_low p place None h = within_low 1 (settling_place p) place h
+passes_low p place (Some b) h = omega (arith, within_low (settling_place p + 1) (last_place p) place h)
 
-pub passes_high : (p : Profile) (place : ℕ) (s : KnownBorders) → passes p (Due place s) ≡ true → place ≤ last_place p
-passes_high p place Unsettled h = omega (arith, settling_early p, within_high 1 (settling_place p) place h)
-passes_high p place (Settled b) h = within_high (settling_place p + 1) (last_place p) place h
+pub passes_high : (p : Profile) (place : ℕ) (s : Option Borders) → passes p (Due place s) ≡ true → place ≤ last_place p
+passes_high p place None h = omega (arith, settling_early p, within_high 1 (settling_place p) place h)
+passes_high p place (Some b) h = within_high (settling_place p + 1) (last_place p) place h
 
 -- Runs of calls: one after another, and one call longer.
 
@@ -179,8 +177,8 @@ accepted_snoc p j (a ∷ ls) l =
 -- The judge at each place of a frame.
 
 -- the borders as the judge knows them at a place: unsettled up to the settling place
-abbrev known_at : Profile → Borders → ℕ → KnownBorders
-known_at p b place = cond (leb place (settling_place p)) Unsettled (Settled b)
+abbrev known_at : Profile → Borders → ℕ → Option Borders
+known_at p b place = cond (leb place (settling_place p)) None (Some b)
 
 -- the judge at a place of a frame
 abbrev pub judge_at : Profile → Borders → ℕ → Judge
@@ -192,7 +190,7 @@ judge_begun VV5404 b = refl
 judge_begun VV5300 b = refl
 
 -- an SOF numbered 0 within a frame, after the EOF line too, is not due and opens a new frame
-pub sof_within : (p : Profile) (place : ℕ) (s : KnownBorders) → passes p (Due place s) ≡ true → called p (Due place s) (line (kind_number SOF) 0) ≡ refuses begun not_the_line_due
+pub sof_within : (p : Profile) (place : ℕ) (s : Option Borders) → passes p (Due place s) ≡ true → called p (Due place s) (line (kind_number SOF) 0) ≡ refuses begun not_the_line_due
 unfolding judge_of
 sof_within p zero s h = absurd (let z = passes_low p zero s h in omega arith)
 sof_within p (suc n) s h = simp (h, sof_not_due p s n 0)
@@ -228,14 +226,14 @@ kind_unbroken SOF = refl
 kind_unbroken EOF = refl
 
 -- a line that is due with either setting is due while the borders are unsettled
-due_unsettled : (p : Profile) (b : Borders) (place k n : ℕ) → due_at p b place k n ≡ true → line_due p Unsettled place k n ≡ true
+due_unsettled : (p : Profile) (b : Borders) (place k n : ℕ) → due_at p b place k n ≡ true → line_due p None place k n ≡ true
 due_unsettled p On place k n d = ap (λ (t : Bool). t || due_at p Off place k n) d
 due_unsettled p Off place k n d = ap (λ (t : Bool). due_at p On place k n || t) d ∙ or-true (due_at p On place k n)
 
 -- and a line that is due is due with some setting
-pub due_with : (p : Profile) (s : KnownBorders) (place k n : ℕ) → line_due p s place k n ≡ true → (b : Borders) × (due_at p b place k n ≡ true)
-due_with p Unsettled place k n d = either (due_at p On place k n) (due_at p Off place k n) d (λ e. (On, e)) (λ e. (Off, e))
-due_with p (Settled b) place k n d = (b, d)
+pub due_with : (p : Profile) (s : Option Borders) (place k n : ℕ) → line_due p s place k n ≡ true → (b : Borders) × (due_at p b place k n ≡ true)
+due_with p None place k n d = either (due_at p On place k n) (due_at p Off place k n) d (λ e. (On, e)) (λ e. (Off, e))
+due_with p (Some b) place k n d = (b, d)
 
 -- a line that fits is due, and the judge passes its own test, while the borders are unsettled and after
 fits_due : (p : Profile) (b : Borders) (place : ℕ) (l : Line) → 1 ≤ place → place ≤ last_place p → is_laid_out_at p b place l ≡ true
@@ -246,7 +244,7 @@ fits_due p b place l g h f = by (leb place (settling_place p)) refl
     due = and_left _ _ f
 
     by : (t : Bool) → leb place (settling_place p) ≡ t
-        → (passes p (Due place (cond t Unsettled (Settled b))) ≡ true) × (line_due p (cond t Unsettled (Settled b)) place l.kind l.number ≡ true)
+        → (passes p (Due place (cond t None (Some b))) ≡ true) × (line_due p (cond t None (Some b)) place l.kind l.number ≡ true)
     by true e = (within_holds 1 (settling_place p) place g (leb-true place (settling_place p) e), due_unsettled p b place l.kind l.number due)
     by false e = (within_holds (settling_place p + 1) (last_place p) place (omega (arith, leb-false place (settling_place p) e)) h, due)
 
@@ -255,11 +253,11 @@ settled_at : (p : Profile) (b : Borders) (place : ℕ) (l : Line) → is_laid_ou
 settled_at p b place l h = by (leb place (settling_place p)) (ltb place (settling_place p)) refl refl
   where
     by : (t u : Bool) → leb place (settling_place p) ≡ t → ltb place (settling_place p) ≡ u
-        → settled_by p (cond t Unsettled (Settled b)) place l.kind ≡ cond u Unsettled (Settled b)
+        → settled_by p (cond t None (Some b)) place l.kind ≡ cond u None (Some b)
     by true true e f = simp f
     by true false e f =
         let q : place ≡ settling_place p = omega (arith, leb-true place (settling_place p) e, ltb-false place (settling_place p) f) in
-        simp f (ap Settled (shows_borders p b l.kind (subst (λ (i : ℕ). stands_at p b i l.kind ≡ true) q (and_left _ _ (and_left _ _ h)))))
+        simp f (ap Some (shows_borders p b l.kind (subst (λ (i : ℕ). stands_at p b i l.kind ≡ true) q (and_left _ _ (and_left _ _ h)))))
     by false true e f = absurd (omega (arith, leb-false place (settling_place p) e, ltb-true place (settling_place p) f))
     by false false e f = refl
 
@@ -306,7 +304,7 @@ rest_complete p b n l (m ∷ ls) e h =
 -- What one call does.
 
 -- the line is due at the place, and its number is not too large
-abbrev pub IsDue : Profile → KnownBorders → ℕ → Line → Type 0
+abbrev pub IsDue : Profile → Option Borders → ℕ → Line → Type 0
 IsDue p s place l = (line_due p s place l.kind l.number ≡ true) × (leb l.number greatest ≡ true)
 
 -- a call changes nothing (13, 14); or the judge waits; or the line breaks the frame (19, 18); or it opens one, or another one; or it is due,
@@ -319,9 +317,9 @@ pub data Effect (p : Profile) (j : Judge) (l : Line) : Judged → Type 0 where
   strays : Effect p j l (refuses Waiting not_the_line_due)
   starts : j ≡ Waiting → opens l.kind l.number ≡ true → Effect p j l (gives begun ruling.Going)
   restarts : opens l.kind l.number ≡ true → Effect p j l (refuses begun not_the_line_due)
-  goes : (place : ℕ) (s : KnownBorders) → j ≡ Due place s → IsDue p s place l → place < last_place p
+  goes : (place : ℕ) (s : Option Borders) → j ≡ Due place s → IsDue p s place l → place < last_place p
       → Effect p j l (gives (Due (place + 1) (settled_by p s place l.kind)) ruling.Going)
-  ends : (place : ℕ) (s : KnownBorders) → j ≡ Due place s → IsDue p s place l → last_place p ≤ place → Effect p j l (gives Waiting ruling.Complete)
+  ends : (place : ℕ) (s : Option Borders) → j ≡ Due place s → IsDue p s place l → last_place p ≤ place → Effect p j l (gives Waiting ruling.Complete)
 
 pick : {p : Profile} {j : Judge} {l : Line} {x y : Judged} (t : Bool) → (t ≡ true → Effect p j l x) → (t ≡ false → Effect p j l y) → Effect p j l (cond t x y)
 pick true f g = f refl
@@ -363,13 +361,13 @@ unaccepted p j l h = by (called p j l) (effect p j l h)
     by _ (goes place s q d g) e = absurd (true≢false e)
     by _ (ends place s q d g) e = absurd (true≢false e)
 
-passes_next : (p : Profile) (place : ℕ) (s : KnownBorders) (k : ℕ) → passes p (Due place s) ≡ true → place < last_place p → passes p (Due (place + 1) (settled_by p s place k)) ≡ true
-passes_next p place Unsettled k h g = by (ltb place (settling_place p)) refl
+passes_next : (p : Profile) (place : ℕ) (s : Option Borders) (k : ℕ) → passes p (Due place s) ≡ true → place < last_place p → passes p (Due (place + 1) (settled_by p s place k)) ≡ true
+passes_next p place None k h g = by (ltb place (settling_place p)) refl
   where
-    by : (early : Bool) → ltb place (settling_place p) ≡ early → passes p (Due (place + 1) (cond early Unsettled (Settled (cond (eqb k (kind_number VL)) On Off)))) ≡ true
+    by : (early : Bool) → ltb place (settling_place p) ≡ early → passes p (Due (place + 1) (cond early None (Some (cond (eqb k (kind_number VL)) On Off)))) ≡ true
     by true e = within_holds 1 (settling_place p) (place + 1) (omega arith) (omega (arith, ltb-true place (settling_place p) e))
     by false e = within_holds (settling_place p + 1) (last_place p) (place + 1) (omega (arith, ltb-false place (settling_place p) e)) (omega arith)
-passes_next p place (Settled b) k h g =
+passes_next p place (Some b) k h g =
     within_holds (settling_place p + 1) (last_place p) (place + 1) (omega (arith, within_low (settling_place p + 1) (last_place p) place h)) (omega arith)
 
 passes_begun : (p : Profile) → passes p begun ≡ true
@@ -398,25 +396,25 @@ reached_passes p ls = passes_after p Waiting ls refl
 -- Which lines came before.
 
 -- the borders may still be these
-abbrev MayBe : KnownBorders → Borders → Type 0
-MayBe Unsettled b = Unit {0}
-MayBe (Settled c) b = c ≡ b
+abbrev MayBe : Option Borders → Borders → Type 0
+MayBe None b = Unit {0}
+MayBe (Some c) b = c ≡ b
 
 -- what may still be so after a line might have been before it
-may_before : (p : Profile) (place : ℕ) (s : KnownBorders) (k : ℕ) (b : Borders) → MayBe (settled_by p s place k) b → MayBe s b
-may_before p place Unsettled k b o = tt
-may_before p place (Settled c) k b o = o
+may_before : (p : Profile) (place : ℕ) (s : Option Borders) (k : ℕ) (b : Borders) → MayBe (settled_by p s place k) b → MayBe s b
+may_before p place None k b o = tt
+may_before p place (Some c) k b o = o
 
 -- a line that is due fits with each setting that it leaves open
-due_fits : (p : Profile) (place : ℕ) (s : KnownBorders) (l : Line) (b : Borders) → passes p (Due place s) ≡ true → IsDue p s place l
+due_fits : (p : Profile) (place : ℕ) (s : Option Borders) (l : Line) (b : Borders) → passes p (Due place s) ≡ true → IsDue p s place l
     → MayBe (settled_by p s place l.kind) b → is_laid_out_at p b place l ≡ true
-due_fits p place (Settled c) l b h d o = subst (λ (x : Borders). is_laid_out_at p x place l ≡ true) o (and_both _ _ d.0 d.1)
-due_fits p place Unsettled l b h d o = and_both _ _ (by (ltb place (settling_place p)) refl o (due_with p Unsettled place l.kind l.number d.0)) d.1
+due_fits p place (Some c) l b h d o = subst (λ (x : Borders). is_laid_out_at p x place l ≡ true) o (and_both _ _ d.0 d.1)
+due_fits p place None l b h d o = and_both _ _ (by (ltb place (settling_place p)) refl o (due_with p None place l.kind l.number d.0)) d.1
   where
     due : Borders → Bool
     due c = due_at p c place l.kind l.number
 
-    by : (t : Bool) → ltb place (settling_place p) ≡ t → MayBe (cond t Unsettled (Settled (cond (eqb l.kind (kind_number VL)) On Off))) b
+    by : (t : Bool) → ltb place (settling_place p) ≡ t → MayBe (cond t None (Some (cond (eqb l.kind (kind_number VL)) On Off))) b
         → (c : Borders) × (due c ≡ true) → due b ≡ true
     by true e o (c, f) =
         let early = ltb-true place (settling_place p) e in
@@ -437,7 +435,7 @@ first_longer p b place ls l h f =
     (simp length-append (omega (arith, f.0)), laid_append p b 0 place ls (l ∷ []) (omega (arith, f.0)) f.1 (and_both _ _ h refl))
 
 -- the lines accepted so far, one line longer
-pub longer : (p : Profile) (past : List Line) (place : ℕ) (s : KnownBorders) (l : Line) → passes p (Due place s) ≡ true → IsDue p s place l
+pub longer : (p : Profile) (past : List Line) (place : ℕ) (s : Option Borders) (l : Line) → passes p (Due place s) ≡ true → IsDue p s place l
     → Traced p past (Due place s) → Traced p (past ++ (l ∷ [])) (Due (suc place) (settled_by p s place l.kind))
 longer p past place s l h d (earlier, ls, e, f) = (
   earlier,
@@ -472,7 +470,7 @@ traced p past j (l ∷ ls) h t =
 
 -- only a line that is due at the last place is answered Complete
 pub ends_only : (p : Profile) (j : Judge) (l : Line) (r : Judged) → Effect p j l r → r.ruling ≡ ruling.Complete
-    → (place : ℕ) × (s : KnownBorders) × (j ≡ Due place s) × (IsDue p s place l) × (last_place p ≤ place)
+    → (place : ℕ) × (s : Option Borders) × (j ≡ Due place s) × (IsDue p s place l) × (last_place p ≤ place)
 ends_only p j l _ wrong_kind e = absurd (true≢false (sym (ap is_complete e)))
 ends_only p j l _ wrong_number e = absurd (true≢false (sym (ap is_complete e)))
 ends_only p j l _ waits e = absurd (true≢false (sym (ap is_complete e)))

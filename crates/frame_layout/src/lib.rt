@@ -149,20 +149,13 @@ impl Borders {
     fn number_due(self, profile: Profile, place: u16, number: u16) -> bool
         ensures { result ≡ number_due profile self place number }
     {
-        if number == place {
-            return true;
-        }
-        let layout = self.layout(profile);
-        place > layout.end
+        number == place || place > self.layout(profile).end
     }
 
     // Whether a line of this kind and number is due at a place.
     pub fn due_at(self, profile: Profile, place: u16, kind: u8, number: u16) -> bool
         ensures { result ≡ due_at profile self place kind number }
     {
-        if self.stands_at(profile, place, kind) {
-            return self.number_due(profile, place, number);
-        }
-        false
+        self.stands_at(profile, place, kind) && self.number_due(profile, place, number)
     }
 }

@@ -1,6 +1,6 @@
 -- The row of a line of a profile 0 frame (02, A1, A2 and A13): what is kept of it. For a picture that is a visible line's pixels, and nothing of any
 -- other; for a comparison it is the line whole, as a list of lines has it.
-use Rattle.std.specs.Prelude.{◌≡◌, Bool, ◌&&◌, cond, List, [], ◌∷◌, ◌++◌, ℕ, ◌+◌, eqb, leb, length, take, drop}
+use Rattle.std.specs.Prelude.{◌≡◌, Bool, ◌&&◌, cond, List, [], ◌∷◌, ◌++◌, ℕ, ◌+◌, eqb, leb, length, take, drop, None, Option, Some}
 use Rattle.line_code.specs.declared.Kind.TheVariants.{VL}
 use Rattle.line_code.specs.LineCode.{kind_number}
 use Rattle.profile.specs.Profile.{width}
@@ -11,7 +11,6 @@ use Rattle.frame_row.specs.declared.Order.{Order}
 use Rattle.frame_row.specs.declared.Order.TheVariants.{AsSent, OddFirst}
 use Rattle.frame_row.specs.declared.Keeping.{Keeping}
 use Rattle.frame_row.specs.declared.Keeping.TheVariants.{VisiblePixels, WholeLines}
-use Rattle.frame_row.specs.declared.Row.{Row}
 
 -- a body's pixels: as sent, or put in order where the head sends odd pixels first
 abbrev pub pixels_of : Order → List ℕ → List ℕ
@@ -40,8 +39,7 @@ row_fits k kept kind body buffer = eqb (length body) width && leb (kept + row_si
 unfoldable pub with_row : Keeping → ℕ → ℕ → ℕ → List ℕ → List ℕ → List ℕ
 with_row k kept place kind body buffer = take kept buffer ++ (kept_row k place kind body ++ drop (kept + row_size k kind) buffer)
 
--- a call that says whether a row fits, puts it where it does, and says where the rows end then
-pub record Keeps (k : Keeping) (kept place kind : ℕ) (body before : List ℕ) (answer : Row) (after : List ℕ) : Type 0 where
-  pub fitting : answer.fits ≡ row_fits k kept kind body before
-  pub ending : answer.end ≡ cond answer.fits (kept + row_size k kind) kept
-  pub leaves : after ≡ cond answer.fits (with_row k kept place kind body before) before
+-- a call that puts a row where it fits, and says where the rows end then
+pub record Keeps (k : Keeping) (kept place kind : ℕ) (body before : List ℕ) (answer : Option ℕ) (after : List ℕ) : Type 0 where
+  pub ending : answer ≡ cond (row_fits k kept kind body before) (Some (kept + row_size k kind)) None
+  pub leaves : after ≡ cond (row_fits k kept kind body before) (with_row k kept place kind body before) before

@@ -3,8 +3,8 @@
 // with its place in the frame for its number.
 //
 // In: what is kept; how many bytes of rows a lent buffer holds; the line's place and kind number; the line buffer, with its body in front. Out:
-// whether the row fits, and where the rows end then: it does not where the line buffer is shorter than 356, or the rows' buffer than the rows
-// with its own, and then nothing changes. Cost: linear in the row.
+// where the rows end then; nothing where the row does not fit, since the line buffer is shorter than 356, or the rows' buffer than the rows with
+// its own, and then nothing changes. Cost: linear in the row.
 
 #![tactic(auto)]
 
@@ -25,20 +25,14 @@ pub enum Order {
 }
 
 // What is kept of a frame: the pixels of its visible lines, in order; or all of its lines, whole.
+// No option of an order: whole lines are a way of keeping, and not the lack of one.
 #[derive(Clone, Copy)]
 pub enum Keeping {
     VisiblePixels(Order),
     WholeLines,
 }
 
-// Whether a row fits after the bytes kept, and where they end then.
-#[derive(Clone, Copy)]
-pub struct Row {
-    pub fits: bool,
-    pub end: usize,
-}
-
-// Puts the row of a line after the bytes kept, where it fits.
+// Puts the row of a line after the bytes kept, where it fits, and says where they end then.
 pub fn keep(
     keeping: Keeping,
     kept: usize,
@@ -46,27 +40,18 @@ pub fn keep(
     kind: u8,
     line: &[u8],
     rows: &mut [u8],
-) -> Row
+) -> Option<usize>
     ensures { Keeps keeping kept place kind (take width line.now) rows.old result rows.new }
 {
     if line.len() < Profile::WIDTH {
-        return Row {
-            fits: false,
-            end: kept,
-        };
+        return None;
     }
     let size = row_size(keeping, kind);
     if has_room(kept, size, rows.len()) {
         put_row(keeping, place, kind, &line[..Profile::WIDTH], rows, kept);
-        return Row {
-            fits: true,
-            end: kept + size,
-        };
+        return Some(kept + size);
     }
-    Row {
-        fits: false,
-        end: kept,
-    }
+    None
 }
 
 // The length of the row of a line of a kind.
@@ -88,13 +73,7 @@ fn row_size(keeping: Keeping, kind: u8) -> usize
 fn has_room(kept: usize, size: usize, room: usize) -> bool
     ensures { result ≡ leb (kept + size) room }
 {
-    if room < kept {
-        return false;
-    }
-    if room - kept < size {
-        return false;
-    }
-    true
+    kept <= room && size <= room - kept
 }
 
 // Puts the row of a line at a place.
@@ -122,7 +101,8 @@ fn put_pixels(order: Order, body: &[u8], rows: &mut [u8], at: usize)
             rows[at..at + Profile::WIDTH].copy_from_slice(body);
         }
         Order::OddFirst => {
-            pixel_order::to_pixels(Kind::VL.number(), body, &mut rows[at..]);
+            // A visible line's whole body, with room for its pixels, is not refused.
+            let _ = pixel_order::to_pixels(Kind::VL.number(), body, &mut rows[at..]);
         }
     }
 }

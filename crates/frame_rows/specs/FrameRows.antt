@@ -1,11 +1,11 @@
 -- The rows of a complete profile 0 frame, gathered from the reader's answers (02, A1, A2 and A13).
-use Rattle.std.specs.Prelude.{◌≡◌, cond, List, ℕ, ◌+◌, take}
+use Rattle.std.specs.Prelude.{◌≡◌, cond, List, ℕ, ◌+◌, take, None, Option, Some, Err, Ok, Result}
+use Rattle.refusal.specs.declared.Refusal.{Refusal}
 use Rattle.refusal.specs.Refusal.{no_room}
 use Rattle.profile.specs.declared.Profile.TheVariants.{VV5404}
 use Rattle.profile.specs.Profile.{width}
 use Rattle.stream.specs.declared.Answer.{Answer}
-use Rattle.frame_handing.specs.declared.Handed.{Handed}
-use Rattle.frame_handing.specs.declared.Handed.TheVariants as hand
+use Rattle.frame_handing.specs.declared.HandedLine.{HandedLine}
 use Rattle.frame_judge.specs.declared.Judge.{Judge}
 use Rattle.frame_judge.specs.declared.Judge.TheVariants.{Waiting, Due}
 use Rattle.frame_judge.specs.declared.Ruling.{Ruling}
@@ -17,8 +17,6 @@ use Rattle.frame_row.specs.declared.Keeping.{Keeping}
 use Rattle.frame_row.specs.FrameRow.{row_size, row_fits, with_row}
 use Rattle.frame_rows.specs.declared.Gatherer.{Gatherer}
 use Rattle.frame_rows.specs.declared.Gathered.{Gathered}
-use Rattle.frame_rows.specs.declared.Progress.{Progress}
-use Rattle.frame_rows.specs.declared.Progress.TheVariants as progress
 
 -- what is handed to the judge, and the line's body
 pub record Shown : Type 0 where
@@ -33,11 +31,15 @@ pub data Output : Type 0 where
   complete : ℕ → List ℕ → Output
   refused : ℕ → Output
 
+-- the program's answer: nothing yet; the length of a complete frame's rows; or a refusal
+abbrev pub Progress : Type 0
+Progress = Result (Option ℕ) Refusal
+
 -- the paper's number and values of each case of the program's answer: the rows are the front of their buffer
 abbrev pub output_of : Progress → List ℕ → Output
-output_of progress.Nothing buffer = nothing
-output_of (progress.Complete n) buffer = complete n (take n buffer)
-output_of (progress.Refused n) buffer = refused n
+output_of (Ok None) buffer = nothing
+output_of (Ok (Some n)) buffer = complete n (take n buffer)
+output_of (Err r) buffer = refused r.0
 
 -- after a call: the gatherer, what is said, and the rows' buffer
 pub record AfterCall : Type 0 where
@@ -110,7 +112,7 @@ abbrev pub by_ruling : Gatherer → Shown → List ℕ → Judge → Ruling → 
 by_ruling s l buffer j ruling.Waiting = quiet (moved s j 0) buffer
 by_ruling s l buffer j ruling.Going = row_kept s j s.kept (place_due s.judge) l.given.kind l.body buffer
 by_ruling s l buffer j ruling.Complete = completed s j (place_due s.judge) l.given.kind l.body buffer
-by_ruling s l buffer j (ruling.Refused n) = refused_by s j n l.given.kind l.body buffer
+by_ruling s l buffer j (ruling.Refused r) = refused_by s j r.0 l.given.kind l.body buffer
 
 -- a line that is handed to the judge
 unfoldable pub handed : Gatherer → Shown → List ℕ → AfterCall
@@ -123,9 +125,9 @@ abbrev pub shown_as : ℕ → ℕ → List ℕ → Shown
 shown_as k n held = record { given = line k n; body = take width held }
 
 -- what is handed to the judge, with the line buffer and the rows' buffer
-abbrev pub handing : Gatherer → Handed → List ℕ → List ℕ → AfterCall
-handing s hand.Nothing held buffer = quiet s buffer
-handing s (hand.Line k n) held buffer = handed s (shown_as k n held) buffer
+abbrev pub handing : Gatherer → Option HandedLine → List ℕ → List ℕ → AfterCall
+handing s None held buffer = quiet s buffer
+handing s (Some l) held buffer = handed s (shown_as l.kind l.number held) buffer
 
 -- an answer taken, with the line buffer as its call left it
 unfoldable pub take_of : Gatherer → Answer → List ℕ → List ℕ → AfterCall

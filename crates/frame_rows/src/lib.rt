@@ -10,15 +10,15 @@
 
 #![tactic(auto)]
 
-ghost use Rattle.std.specs.Prelude.{◌≡◌, take};
+ghost use Rattle.std.specs.Prelude.{◌≡◌, take, Ok, Err, None};
 ghost use Rattle.profile.specs.Profile.{width};
 ghost use Rattle.frame_rows.specs.FrameRows.{fresh, moved, saying, place_due, shown_as, row_kept, completed, after_break, handed, take_of, Gathers};
 
-use frame_handing::Handed;
 use frame_judge::{Judge, Ruling};
 use frame_row::Keeping;
 use line_records::LINE;
 use profile::Profile;
+use refusal::Refusal;
 use stream::Answer;
 
 // The lines of a frame, and the bytes of all of them whole.
@@ -35,12 +35,7 @@ pub struct Gatherer {
 }
 
 // Nothing yet; the length of a complete frame's rows; or a refusal.
-#[derive(Clone, Copy)]
-pub enum Progress {
-    Nothing,
-    Complete(usize),
-    Refused(u8),
-}
+pub type Progress = Result<Option<usize>, Refusal>;
 
 // A gatherer after an answer, and what is said.
 #[derive(Clone, Copy)]
@@ -66,10 +61,9 @@ impl Gatherer {
     pub fn take(self, answer: Answer, line: &[u8], rows: &mut [u8]) -> Gathered
         ensures { Gathers (take_of self answer line.now rows.old) result rows.new }
     {
-        let handed = frame_handing::handed_over(answer);
-        match handed {
-            Handed::Nothing => quiet(self),
-            Handed::Line(kind, number) => self.hand(kind, number, line, rows),
+        match frame_handing::handed_over(answer) {
+            None => quiet(self),
+            Some(handed) => self.hand(handed.kind, handed.number, line, rows),
         }
     }
 
@@ -120,11 +114,10 @@ impl Gatherer {
         ensures { Gathers (row_kept self judge kept place kind (take width line.now) rows.old) result rows.new }
     {
         let keeping = self.keeping;
-        let row = frame_row::keep(keeping, kept, place, kind, line, rows);
-        if row.fits {
-            return quiet(self.moved(judge, row.end));
+        match frame_row::keep(keeping, kept, place, kind, line, rows) {
+            None => refused(self, Refusal::NO_ROOM),
+            Some(end) => quiet(self.moved(judge, end)),
         }
-        refused(self, refusal::NO_ROOM)
     }
 
     // The frame's last line: with its row the frame is complete.
@@ -132,13 +125,14 @@ impl Gatherer {
         ensures { Gathers (completed self judge place kind (take width line.now) rows.old) result rows.new }
     {
         let keeping = self.keeping;
-        let row = frame_row::keep(keeping, self.kept, place, kind, line, rows);
-        if row.fits {
-            let gatherer = self.moved(judge, 0);
-            let progress = Progress::Complete(row.end);
-            return Gathered { gatherer, progress };
+        match frame_row::keep(keeping, self.kept, place, kind, line, rows) {
+            None => refused(self, Refusal::NO_ROOM),
+            Some(end) => {
+                let gatherer = self.moved(judge, 0);
+                let progress = Ok(Some(end));
+                Gathered { gatherer, progress }
+            }
         }
-        refused(self, refusal::NO_ROOM)
     }
 
     // A line that breaks the frame: it may be the first of a new one.
@@ -164,16 +158,16 @@ fn place_due(judge: Judge) -> u16
 
 // A gatherer, and nothing to say yet.
 fn quiet(gatherer: Gatherer) -> Gathered
-    ensures { result ≡ saying gatherer Progress.Nothing }
+    ensures { result ≡ saying gatherer (Ok None) }
 {
-    let progress = Progress::Nothing;
+    let progress = Ok(None);
     Gathered { gatherer, progress }
 }
 
 // A refusal, which leaves the gatherer as it was.
-fn refused(gatherer: Gatherer, number: u8) -> Gathered
-    ensures { result ≡ saying gatherer (Progress.Refused number) }
+fn refused(gatherer: Gatherer, refusal: Refusal) -> Gathered
+    ensures { result ≡ saying gatherer (Err refusal) }
 {
-    let progress = Progress::Refused(number);
+    let progress = Err(refusal);
     Gathered { gatherer, progress }
 }

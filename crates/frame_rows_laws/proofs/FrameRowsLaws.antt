@@ -1,7 +1,7 @@
 -- Laws of the rows: whenever a call says complete, the lines taken end in a whole frame, and the rows are exactly those of its lines.
 -- While the judge is in a frame, the rows kept are those of the lines since the last SOF numbered 0 (`HoldsRows`); `complete_frame` says which lines
 -- those are when the judge says Complete.
-use Rattle.std.specs.Prelude.{◌≡◌, Bool, true, false, cond, List, [], ◌∷◌, ◌++◌, eqb, length, take, drop}
+use Rattle.std.specs.Prelude.{◌≡◌, Bool, true, false, cond, List, [], ◌∷◌, ◌++◌, eqb, length, take, drop, None, Option, Some}
 use Rattle.std.proofs.Math.Path.{refl, subst}
 use Rattle.std.proofs.Common.{sym, ap, ◌∙◌, true≢false, append-nil, append_assoc, arith, eqb-true, leb-true, length-append, length-drop, drop_of_length-le, length-take-le, take_at, drop-cons}
 use Prim.Native.Nat.{ℕ, suc, ◌+◌, ◌*◌, ◌≤◌, ◌<◌}
@@ -14,10 +14,7 @@ use Rattle.profile.specs.declared.Profile.TheVariants.{VV5404}
 use Rattle.profile.specs.Profile.{width}
 use Rattle.frame_layout.specs.declared.Borders.{Borders}
 use Rattle.frame_layout.specs.declared.Borders.TheVariants.{On, Off}
-use Rattle.frame_handing.specs.declared.Handed.{Handed}
-use Rattle.frame_handing.specs.declared.Handed.TheVariants as hand
-use Rattle.frame_judge.specs.declared.KnownBorders.{KnownBorders}
-use Rattle.frame_judge.specs.declared.KnownBorders.TheVariants.{Unsettled}
+use Rattle.frame_handing.specs.declared.HandedLine.{HandedLine}
 use Rattle.frame_judge.specs.declared.Judge.{Judge}
 use Rattle.frame_judge.specs.declared.Judge.TheVariants.{Waiting, Due}
 use Rattle.frame_judge.specs.declared.Judged.{Judged}
@@ -313,10 +310,10 @@ module _ (k : Keeping) (ls : List Shown) (x : AfterCall) (h : HoldsRows k ls x) 
 
   -- The rows, with this line's.
 
-  first_rows : is_first l ≡ true → (s : KnownBorders) (place kept : ℕ) (buffer : List ℕ) → KeptRows k (l ∷ []) place kept buffer → Rows k (ls ++ (l ∷ [])) (Due place s) kept buffer
+  first_rows : is_first l ≡ true → (s : Option Borders) (place kept : ℕ) (buffer : List ℕ) → KeptRows k (l ∷ []) place kept buffer → Rows k (ls ++ (l ∷ [])) (Due place s) kept buffer
   first_rows e s place kept buffer r = subst (λ (own : List Shown). KeptRows k own place kept buffer) (sym (latest_snoc ls l true e)) r
 
-  later_rows : is_first l ≡ false → (s : KnownBorders) (place kept : ℕ) (buffer : List ℕ) → KeptRows k (latest ls ++ (l ∷ [])) place kept buffer
+  later_rows : is_first l ≡ false → (s : Option Borders) (place kept : ℕ) (buffer : List ℕ) → KeptRows k (latest ls ++ (l ∷ [])) place kept buffer
       → Rows k (ls ++ (l ∷ [])) (Due place s) kept buffer
   later_rows e s place kept buffer r = subst (λ (own : List Shown). KeptRows k own place kept buffer) (sym (latest_snoc ls l false e)) r
 
@@ -325,11 +322,11 @@ module _ (k : Keeping) (ls : List Shown) (x : AfterCall) (h : HoldsRows k ls x) 
   passing : passes VV5404 x.gatherer.judge ≡ true
   passing = sym (ap (passes VV5404) h.judge) ∙ reached_passes VV5404 (lines_of ls)
 
-  kept_rows : (place : ℕ) (b : KnownBorders) → x.gatherer.judge ≡ Due place b → Rows k ls (Due place b) x.gatherer.kept x.buffer
+  kept_rows : (place : ℕ) (b : Option Borders) → x.gatherer.judge ≡ Due place b → Rows k ls (Due place b) x.gatherer.kept x.buffer
   kept_rows place b q = subst (λ (j : Judge). Rows k ls j x.gatherer.kept x.buffer) q h.rows
 
   -- a line that breaks no frame is no SOF numbered 0
-  not_first_within : (place : ℕ) (b : KnownBorders) (r : Judged) → x.gatherer.judge ≡ Due place b → called VV5404 x.gatherer.judge l.given ≡ r → is_break r.ruling ≡ false → is_first l ≡ false
+  not_first_within : (place : ℕ) (b : Option Borders) (r : Judged) → x.gatherer.judge ≡ Due place b → called VV5404 x.gatherer.judge l.given ≡ r → is_break r.ruling ≡ false → is_first l ≡ false
   not_first_within place b r q c e = by (is_first l) refl
     where
       by : (t : Bool) → is_first l ≡ t → is_first l ≡ false
@@ -366,10 +363,10 @@ module _ (k : Keeping) (ls : List Shown) (x : AfterCall) (h : HoldsRows k ls x) 
       → HoldsNext k ls l (row_kept x.gatherer begun 0 0 l.given.kind l.body x.buffer)
   opening v f e a =
       going [] 0 0 (gives begun v) e a (no_rows x.gatherer.keeping x.buffer)
-      (λ n buffer r. first_rows f Unsettled 1 n buffer (subst (λ (m : Keeping). KeptRows m (l ∷ []) 1 n buffer) h.keeping r))
+      (λ n buffer r. first_rows f None 1 n buffer (subst (λ (m : Keeping). KeptRows m (l ∷ []) 1 n buffer) h.keeping r))
 
   -- and a line within one
-  mid_frame : (place : ℕ) (b c : KnownBorders) → x.gatherer.judge ≡ Due place b → called VV5404 x.gatherer.judge l.given ≡ gives (Due (place + 1) c) ruling.Going
+  mid_frame : (place : ℕ) (b c : Option Borders) → x.gatherer.judge ≡ Due place b → called VV5404 x.gatherer.judge l.given ≡ gives (Due (place + 1) c) ruling.Going
       → HoldsNext k ls l (row_kept x.gatherer (Due (place + 1) c) x.gatherer.kept (place_due x.gatherer.judge) l.given.kind l.body x.buffer)
   mid_frame place b c q e =
       let s : Gatherer = x.gatherer in
@@ -380,7 +377,7 @@ module _ (k : Keeping) (ls : List Shown) (x : AfterCall) (h : HoldsRows k ls x) 
       (λ n buffer r. later_rows later c (place + 1) n buffer (subst (λ (m : Keeping). KeptRows m (latest ls ++ (l ∷ [])) (place + 1) n buffer) h.keeping r)))
 
   -- a frame's last line
-  ending : (place : ℕ) (b : KnownBorders) → x.gatherer.judge ≡ Due place b → IsDue VV5404 b place l.given → last_place VV5404 ≤ place
+  ending : (place : ℕ) (b : Option Borders) → x.gatherer.judge ≡ Due place b → IsDue VV5404 b place l.given → last_place VV5404 ≤ place
       → called VV5404 x.gatherer.judge l.given ≡ gives Waiting ruling.Complete
       → HoldsNext k ls l (completed x.gatherer Waiting (place_due x.gatherer.judge) l.given.kind l.body x.buffer)
   unfolding completed
@@ -461,7 +458,7 @@ module _ (k : Keeping) (ls : List Shown) (x : AfterCall) (h : HoldsRows k ls x) 
           let z : x.gatherer.kept ≡ 0 = subst (λ (j : Judge). Rows k ls j x.gatherer.kept x.buffer) q h.rows in
           subst (λ (j : Judge). HoldsNext k ls l (row_kept x.gatherer begun x.gatherer.kept (place_due j) l.given.kind l.body x.buffer)) (sym q)
           (subst (λ (n : ℕ). HoldsNext k ls l (row_kept x.gatherer begun n 0 l.given.kind l.body x.buffer)) (sym z) (opening ruling.Going f e refl))
-      by _ (restarts f) e = opening (ruling.Refused not_the_line_due) f e refl
+      by _ (restarts f) e = opening (ruling.Refused (record { 0 = not_the_line_due })) f e refl
       by _ (goes place b q d g) e = mid_frame place b _ q e
       by _ (ends place b q d g) e = ending place b q d g e
 
@@ -476,9 +473,9 @@ pub hands : (x : AfterCall) (g : Given) → Hands x (shown (handed_lines g.answe
 unfolding take_of
 hands x g = by (handed_over g.answer)
   where
-    by : (h : Handed) → Hands x (shown (as_lines h) g.held) (handing x.gatherer h g.held x.buffer)
-    by hand.Nothing = none
-    by (hand.Line k n) = one (shown_as k n g.held)
+    by : (h : Option HandedLine) → Hands x (shown (as_lines h) g.held) (handing x.gatherer h g.held x.buffer)
+    by None = none
+    by (Some l) = one (shown_as l.kind l.number g.held)
 
 -- Calls.
 

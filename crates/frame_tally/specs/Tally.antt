@@ -1,13 +1,11 @@
 -- The frames of a capture, from the answers of the reader's calls (01, 'Frames of profile 0').
-use Rattle.std.specs.Prelude.{Bool, false, cond, ℕ, eqb}
+use Rattle.std.specs.Prelude.{Bool, false, cond, ℕ, eqb, None, Option, Some}
+use Rattle.refusal.specs.declared.Refusal.{Refusal}
 use Rattle.refusal.specs.Refusal.{unfinished_line}
 use Rattle.profile.specs.declared.Profile.{Profile}
 use Rattle.stream.specs.declared.Answer.{Answer}
 use Rattle.stream.specs.declared.Answer.TheVariants as answer
-use Rattle.frame_handing.specs.declared.Handed.{Handed}
-use Rattle.frame_handing.specs.declared.Handed.TheVariants as hand
-use Rattle.frame_judge.specs.declared.KnownBorders.{KnownBorders}
-use Rattle.frame_judge.specs.declared.KnownBorders.TheVariants.{Unsettled}
+use Rattle.frame_handing.specs.declared.HandedLine.{HandedLine}
 use Rattle.frame_judge.specs.declared.Judge.{Judge}
 use Rattle.frame_judge.specs.declared.Judge.TheVariants.{Waiting, Due}
 use Rattle.frame_judge.specs.declared.Ruling.{Ruling}
@@ -19,6 +17,7 @@ use Rattle.frame_tally.specs.declared.Tally.{Tally}
 use Rattle.frame_tally.specs.declared.News.{News}
 use Rattle.frame_tally.specs.declared.News.TheVariants.{Nothing, Complete, Broken, Cut}
 use Rattle.frame_tally.specs.declared.Told.{Told}
+use Rattle.frame_layout.specs.declared.Borders.{Borders}
 
 -- a fresh judge, and nothing counted
 abbrev pub fresh_tally : Profile → Tally
@@ -46,8 +45,8 @@ abbrev pub quiet : Tally → Told
 quiet t = record { tally = t; news = Nothing }
 
 -- the borders of the frame that a judge is in
-abbrev pub borders_of : Judge → KnownBorders
-borders_of Waiting = Unsettled
+abbrev pub borders_of : Judge → Option Borders
+borders_of Waiting = None
 borders_of (Due place s) = s
 
 -- the frame is complete: its borders, and the mark of its last line
@@ -58,8 +57,8 @@ completed t j =
       news = Complete t.frames (borders_of t.judge) t.marks;
     }
 
--- the frame is broken at this mark: the refusal, and the mark's own answer; a judge that is within a frame has opened another
-abbrev pub broken_by : Tally → Judge → ℕ → ℕ → Told
+-- the frame is broken at this mark: the refusal, and the mark's own; a judge that is within a frame has opened another
+abbrev pub broken_by : Tally → Judge → Refusal → Option Refusal → Told
 broken_by t j refusal own =
     record {
       tally = record { profile = t.profile; judge = j; marks = t.marks; frames = opening Waiting j t.frames; complete = t.complete; broken = one_more t.broken };
@@ -67,18 +66,18 @@ broken_by t j refusal own =
     }
 
 -- a refused line: news where it breaks a frame
-unfoldable pub refused_by : Tally → Judge → ℕ → ℕ → Told
-refused_by t j refusal own = cond (breaks_frame refusal) (broken_by t j refusal own) (quiet (moved t t.judge j))
+unfoldable pub refused_by : Tally → Judge → Refusal → Option Refusal → Told
+refused_by t j refusal own = cond (breaks_frame refusal.0) (broken_by t j refusal own) (quiet (moved t t.judge j))
 
 -- by the judge's ruling
-abbrev pub told : Tally → ℕ → Judge → Ruling → Told
+abbrev pub told : Tally → Option Refusal → Judge → Ruling → Told
 told t own j ruling.Waiting = quiet (moved t t.judge j)
 told t own j ruling.Going = quiet (moved t t.judge j)
 told t own j ruling.Complete = completed t j
 told t own j (ruling.Refused refusal) = refused_by t j refusal own
 
--- a line's kind number and number, or kind 0, handed to the judge; and the mark's own answer, 0 for a line
-unfoldable pub handed : Tally → ℕ → ℕ → ℕ → Told
+-- a line's kind number and number, or kind 0, handed to the judge; and the mark's own refusal, which a line has none of
+unfoldable pub handed : Tally → ℕ → ℕ → Option Refusal → Told
 handed t k n own = told t own (judge_of t.profile t.judge k n).judge (judge_of t.profile t.judge k n).ruling
 
 -- An answer.
@@ -88,19 +87,19 @@ abbrev pub marked_by : Tally → Answer → Tally
 marked_by t answer.Nothing = t
 marked_by t (answer.Line f) = marked t
 marked_by t (answer.Gap g) = marked t
-marked_by t (answer.Refused n) = marked t
+marked_by t (answer.Refused r) = marked t
 
--- the refusal that a mark was answered; 0 where it was not refused
-abbrev pub own_answer : Answer → ℕ
-own_answer answer.Nothing = 0
-own_answer (answer.Line f) = 0
-own_answer (answer.Gap g) = 0
-own_answer (answer.Refused n) = n
+-- the refusal that a mark was answered, if it was refused
+abbrev pub own_answer : Answer → Option Refusal
+own_answer answer.Nothing = None
+own_answer (answer.Line f) = None
+own_answer (answer.Gap g) = None
+own_answer (answer.Refused r) = Some r
 
--- what is handed to the judge; and the mark's own answer
-abbrev pub handing : Tally → Handed → ℕ → Told
-handing t hand.Nothing own = quiet t
-handing t (hand.Line k n) own = handed t k n own
+-- what is handed to the judge; and the mark's own refusal
+abbrev pub handing : Tally → Option HandedLine → Option Refusal → Told
+handing t None own = quiet t
+handing t (Some l) own = handed t l.kind l.number own
 
 -- an answer counted
 unfoldable pub take_of : Tally → Answer → Told
@@ -122,7 +121,7 @@ abbrev pub is_unfinished : Answer → Bool
 is_unfinished answer.Nothing = false
 is_unfinished (answer.Line f) = false
 is_unfinished (answer.Gap g) = false
-is_unfinished (answer.Refused n) = eqb n unfinished_line
+is_unfinished (answer.Refused r) = eqb r.0 unfinished_line
 
 -- what the last answer told; and where that is nothing, the frame that is cut off
 abbrev pub ended : Told → News → Told

@@ -1,8 +1,9 @@
 -- Laws of the tally: it counts each mark, it judges a capture as 01 says, a whole frame is counted complete, and a frame is counted complete
 -- or broken exactly when one was told so.
-use Rattle.std.specs.Prelude.{◌≡◌, refl, Bool, true, false, ◌||◌, cond, List, [], ◌∷◌, ◌++◌, ℕ, eqb, ltb}
+use Rattle.std.specs.Prelude.{◌≡◌, refl, Bool, true, false, ◌||◌, cond, List, [], ◌∷◌, ◌++◌, ℕ, eqb, ltb, None, Option, Some}
 use Rattle.std.proofs.Common.{sym, ap, ◌∙◌}
 use Rattle.std.proofs.Math.Bool.{or-true, or-false, or_assoc}
+use Rattle.refusal.specs.declared.Refusal.{Refusal}
 use Rattle.refusal.specs.Refusal.{unfinished_line, bad_state}
 use Rattle.line_code.specs.LineCode.{kind_number}
 use Rattle.profile.specs.declared.Profile.{Profile}
@@ -10,8 +11,7 @@ use Rattle.profile.specs.declared.Profile.TheVariants.{VV5404, VV5300}
 use Rattle.stream.specs.declared.Answer.{Answer}
 use Rattle.stream.specs.declared.Answer.TheVariants as answer
 use Rattle.frame_layout.specs.declared.Borders.{Borders}
-use Rattle.frame_handing.specs.declared.Handed.{Handed}
-use Rattle.frame_handing.specs.declared.Handed.TheVariants as hand
+use Rattle.frame_handing.specs.declared.HandedLine.{HandedLine}
 use Rattle.frame_judge.specs.declared.Judge.{Judge}
 use Rattle.frame_judge.specs.declared.Judge.TheVariants.{Waiting, Due}
 use Rattle.frame_judge.specs.declared.Ruling.{Ruling}
@@ -34,31 +34,31 @@ use Rattle.frame_tally.specs.Answered.{tallied, news_of, with_mark, capture_tall
 
 -- Marks.
 
-told_marks : (t : Tally) (own : ℕ) (j : Judge) (v : Ruling) → (told t own j v).tally.marks ≡ t.marks
+told_marks : (t : Tally) (own : Option Refusal) (j : Judge) (v : Ruling) → (told t own j v).tally.marks ≡ t.marks
 unfolding refused_by
 told_marks t own j ruling.Waiting = refl
 told_marks t own j ruling.Going = refl
 told_marks t own j ruling.Complete = refl
-told_marks t own j (ruling.Refused refusal) = either (breaks_frame refusal)
+told_marks t own j (ruling.Refused refusal) = either (breaks_frame refusal.0)
   where
     either : (b : Bool) → (cond b (broken_by t j refusal own) (quiet (moved t t.judge j))).tally.marks ≡ t.marks
     either true = refl
     either false = refl
 
-handed_marks : (t : Tally) (k n own : ℕ) → (handed t k n own).tally.marks ≡ t.marks
+handed_marks : (t : Tally) (k n : ℕ) (own : Option Refusal) → (handed t k n own).tally.marks ≡ t.marks
 unfolding handed
 handed_marks t k n own = told_marks t own (judge_of t.profile t.judge k n).judge (judge_of t.profile t.judge k n).ruling
 
-handing_marks : (t : Tally) (h : Handed) (own : ℕ) → (handing t h own).tally.marks ≡ t.marks
-handing_marks t hand.Nothing own = refl
-handing_marks t (hand.Line k n) own = handed_marks t k n own
+handing_marks : (t : Tally) (h : Option HandedLine) (own : Option Refusal) → (handing t h own).tally.marks ≡ t.marks
+handing_marks t None own = refl
+handing_marks t (Some l) own = handed_marks t l.kind l.number own
 
 take_marks : (t : Tally) (a : Answer) → (take_of t a).tally.marks ≡ with_mark t.marks a
 unfolding take_of
 take_marks t answer.Nothing = refl
-take_marks t (answer.Line f) = handing_marks (marked t) (handed_over (answer.Line f)) 0
+take_marks t (answer.Line f) = handing_marks (marked t) (handed_over (answer.Line f)) None
 take_marks t (answer.Gap g) = refl
-take_marks t (answer.Refused n) = handing_marks (marked t) (handed_over (answer.Refused n)) n
+take_marks t (answer.Refused r) = handing_marks (marked t) (handed_over (answer.Refused r)) (Some r)
 
 cut_marks : (t : Tally) → (cut_of t).tally.marks ≡ t.marks
 unfolding cut_of
@@ -82,12 +82,12 @@ unfolding close_of
 close_marks t answer.Nothing = taken_marks t answer.Nothing
 close_marks t (answer.Line f) = taken_marks t (answer.Line f)
 close_marks t (answer.Gap g) = taken_marks t (answer.Gap g)
-close_marks t (answer.Refused n) = either (eqb n unfinished_line)
+close_marks t (answer.Refused r) = either (eqb r.0 unfinished_line)
   where
     either : (b : Bool)
-        → (cond b (cut_of (marked t)) (ended (take_of t (answer.Refused n)) (take_of t (answer.Refused n)).news)).tally.marks ≡ one_more t.marks
+        → (cond b (cut_of (marked t)) (ended (take_of t (answer.Refused r)) (take_of t (answer.Refused r)).news)).tally.marks ≡ one_more t.marks
     either true = cut_marks (marked t)
-    either false = taken_marks t (answer.Refused n)
+    either false = taken_marks t (answer.Refused r)
 
 -- every answer but Nothing counts a mark, finish's too
 pub marks_counted : (t : Tally) (a : Answer) → ((take_of t a).tally.marks ≡ with_mark t.marks a) × ((close_of t a).tally.marks ≡ with_mark t.marks a)
@@ -103,7 +103,7 @@ pub record Judges (t : Tally) (ls : List Line) (d : Tally) : Type 0 where
   pub broken : d.broken ≡ counting is_break t.broken (rulings t.profile t.judge ls)
 
 -- the same, by the tally's own parts
-by_told : (t : Tally) (own : ℕ) (j : Judge) (v : Ruling)
+by_told : (t : Tally) (own : Option Refusal) (j : Judge) (v : Ruling)
     → ((told t own j v).tally.profile ≡ t.profile)
     × ((told t own j v).tally.judge ≡ j)
     × ((told t own j v).tally.complete ≡ cond (is_complete v) (one_more t.complete) t.complete)
@@ -112,7 +112,7 @@ unfolding refused_by
 by_told t own j ruling.Waiting = (refl, refl, refl, refl)
 by_told t own j ruling.Going = (refl, refl, refl, refl)
 by_told t own j ruling.Complete = (refl, refl, refl, refl)
-by_told t own j (ruling.Refused refusal) = either (breaks_frame refusal)
+by_told t own j (ruling.Refused refusal) = either (breaks_frame refusal.0)
   where
     either : (breaks : Bool)
         → let d : Told = cond breaks (broken_by t j refusal own) (quiet (moved t t.judge j)) in
@@ -123,22 +123,22 @@ by_told t own j (ruling.Refused refusal) = either (breaks_frame refusal)
 nothing_judged : (t : Tally) → Judges t [] t
 nothing_judged t = record { profile = refl; judge = refl; complete = refl; broken = refl }
 
-one_judged : (t : Tally) (l : Line) (own : ℕ) → Judges t (l ∷ []) (handed (marked t) l.kind l.number own).tally
+one_judged : (t : Tally) (l : Line) (own : Option Refusal) → Judges t (l ∷ []) (handed (marked t) l.kind l.number own).tally
 unfolding handed
 one_judged t l own =
     let h = by_told (marked t) own (called t.profile t.judge l).judge (called t.profile t.judge l).ruling in
     record { profile = h.0; judge = h.1; complete = h.2; broken = h.3 }
 
-handing_judged : (t : Tally) (h : Handed) (own : ℕ) → Judges t (as_lines h) (handing (marked t) h own).tally
-handing_judged t hand.Nothing own = record { profile = refl; judge = refl; complete = refl; broken = refl }
-handing_judged t (hand.Line k n) own = one_judged t (line k n) own
+handing_judged : (t : Tally) (h : Option HandedLine) (own : Option Refusal) → Judges t (as_lines h) (handing (marked t) h own).tally
+handing_judged t None own = record { profile = refl; judge = refl; complete = refl; broken = refl }
+handing_judged t (Some l) own = one_judged t (line l.kind l.number) own
 
 take_judged : (t : Tally) (a : Answer) → Judges t (handed_lines a) (take_of t a).tally
 unfolding take_of
 take_judged t answer.Nothing = nothing_judged t
-take_judged t (answer.Line f) = handing_judged t (handed_over (answer.Line f)) 0
-take_judged t (answer.Gap g) = handing_judged t hand.Nothing 0
-take_judged t (answer.Refused n) = handing_judged t (handed_over (answer.Refused n)) n
+take_judged t (answer.Line f) = handing_judged t (handed_over (answer.Line f)) None
+take_judged t (answer.Gap g) = handing_judged t None None
+take_judged t (answer.Refused r) = handing_judged t (handed_over (answer.Refused r)) (Some r)
 
 rulings_counted : (which : Ruling → Bool) (p : Profile) (j : Judge) (n : ℕ) (ls ms : List Line)
     → counting which n (rulings p j (ls ++ ms)) ≡ counting which (counting which n (rulings p j ls)) (rulings p (after p j ls) ms)
@@ -161,7 +161,7 @@ judged_as_said t (a ∷ w) = then_judged (take_judged t a) (judged_as_said (take
 
 -- a line that the end of the capture cut off (finish's 3) leaves the judge as handing it over does, with 19; it is told as a frame cut off
 pub cut_as_handed : (t : Tally) → passes t.profile t.judge ≡ true
-    → (close_of t (answer.Refused unfinished_line)).tally.judge ≡ after t.profile t.judge (handed_lines (answer.Refused unfinished_line))
+    → (close_of t (answer.Refused (record { 0 = unfinished_line }))).tally.judge ≡ after t.profile t.judge (handed_lines (answer.Refused (record { 0 = unfinished_line })))
 unfolding close_of cut_of judge_of is_broken_line
 cut_as_handed t h = go t.judge refl h
   where
@@ -203,31 +203,31 @@ record Says (complete₀ broken₀ : ℕ) (d : Told) : Type 0 where
 says_nothing : (t : Tally) → Says t.complete t.broken (quiet t)
 says_nothing t = record { complete = sym (or-false _); broken = sym (or-false _) }
 
-says_told : (t : Tally) (own : ℕ) (j : Judge) (v : Ruling) → Says t.complete t.broken (told t own j v)
+says_told : (t : Tally) (own : Option Refusal) (j : Judge) (v : Ruling) → Says t.complete t.broken (told t own j v)
 unfolding refused_by
 says_told t own j ruling.Waiting = says_nothing (moved t t.judge j)
 says_told t own j ruling.Going = says_nothing (moved t t.judge j)
 says_told t own j ruling.Complete = record { complete = counted t.complete ∙ sym (or-true (ltb 0 t.complete)); broken = sym (or-false _) }
-says_told t own j (ruling.Refused refusal) = either (breaks_frame refusal)
+says_told t own j (ruling.Refused refusal) = either (breaks_frame refusal.0)
   where
     either : (b : Bool) → Says t.complete t.broken (cond b (broken_by t j refusal own) (quiet (moved t t.judge j)))
     either true = record { complete = sym (or-false _); broken = counted t.broken ∙ sym (or-true (ltb 0 t.broken)) }
     either false = says_nothing (moved t t.judge j)
 
-says_handed : (t : Tally) (k n own : ℕ) → Says t.complete t.broken (handed t k n own)
+says_handed : (t : Tally) (k n : ℕ) (own : Option Refusal) → Says t.complete t.broken (handed t k n own)
 unfolding handed
 says_handed t k n own = says_told t own (judge_of t.profile t.judge k n).judge (judge_of t.profile t.judge k n).ruling
 
-says_handing : (t : Tally) (h : Handed) (own : ℕ) → Says t.complete t.broken (handing t h own)
-says_handing t hand.Nothing own = says_nothing t
-says_handing t (hand.Line k n) own = says_handed t k n own
+says_handing : (t : Tally) (h : Option HandedLine) (own : Option Refusal) → Says t.complete t.broken (handing t h own)
+says_handing t None own = says_nothing t
+says_handing t (Some l) own = says_handed t l.kind l.number own
 
 says_take : (t : Tally) (a : Answer) → Says t.complete t.broken (take_of t a)
 unfolding take_of
 says_take t answer.Nothing = says_nothing t
-says_take t (answer.Line f) = says_handing (marked t) (handed_over (answer.Line f)) 0
+says_take t (answer.Line f) = says_handing (marked t) (handed_over (answer.Line f)) None
 says_take t (answer.Gap g) = says_nothing (marked t)
-says_take t (answer.Refused n) = says_handing (marked t) (handed_over (answer.Refused n)) n
+says_take t (answer.Refused r) = says_handing (marked t) (handed_over (answer.Refused r)) (Some r)
 
 says_cut : (t : Tally) → Says t.complete t.broken (cut_of t)
 unfolding cut_of

@@ -10,9 +10,10 @@ ghost use Rattle.std.specs.Prelude.{◌≡◌};
 ghost use Rattle.frame_tally.specs.Tally.{fresh_tally, quiet, marked, marked_by, own_answer, borders_of, opening, moved, completed, broken_by, refused_by, handed, take_of, is_unfinished, cut_of, close_of};
 
 use counts::one_more;
-use frame_handing::Handed;
-use frame_judge::{Judge, KnownBorders, Ruling};
+use frame_judge::{Judge, Ruling};
+use frame_layout::Borders;
 use profile::Profile;
+use refusal::Refusal;
 use stream::Answer;
 
 // The profile; the judge; the marks answered; the frames that opened, that were complete, and that broke. A count stops at the greatest u64.
@@ -31,9 +32,9 @@ pub struct Tally {
 pub enum News {
     Nothing,
     // A frame, its borders, and the mark of its last line.
-    Complete(u64, KnownBorders, u64),
-    // A frame; the mark that broke it; 18 or 19; and for 19 that mark's own answer, for 18 a 0.
-    Broken(u64, u64, u8, u8),
+    Complete(u64, Option<Borders>, u64),
+    // A frame; the mark that broke it; 18 or 19; and that mark's own refusal, which only 19 has.
+    Broken(u64, u64, Refusal, Option<Refusal>),
     // A frame that the capture's end cuts off.
     Cut(u64),
 }
@@ -66,10 +67,9 @@ impl Tally {
         ensures { result ≡ take_of self answer }
     {
         let tally = self.marked_by(answer);
-        let handed = frame_handing::handed_over(answer);
-        match handed {
-            Handed::Nothing => quiet(tally),
-            Handed::Line(kind, number) => { tally.hand(kind, number, own_answer(answer)) }
+        match frame_handing::handed_over(answer) {
+            None => quiet(tally),
+            Some(line) => tally.hand(line.kind, line.number, own_answer(answer)),
         }
     }
 
@@ -124,7 +124,7 @@ impl Tally {
     }
 
     // Hands the judge a line, or kind 0 for the mark's own answer.
-    fn hand(self, kind: u8, number: u16, own: u8) -> Told
+    fn hand(self, kind: u8, number: u16, own: Option<Refusal>) -> Told
         ensures { result ≡ handed self kind number own }
     {
         let profile = self.profile;
@@ -136,7 +136,7 @@ impl Tally {
             Ruling::Waiting => quiet(self.moved(before, judge)),
             Ruling::Going => quiet(self.moved(before, judge)),
             Ruling::Complete => self.completed(judge),
-            Ruling::Refused(number) => self.refused(judge, number, own),
+            Ruling::Refused(refusal) => self.refused(judge, refusal, own),
         }
     }
 
@@ -176,19 +176,19 @@ impl Tally {
     }
 
     // The judge refuses: 18 and 19 break the frame.
-    fn refused(self, judge: Judge, number: u8, own: u8) -> Told
-        ensures { result ≡ refused_by self judge number own }
+    fn refused(self, judge: Judge, refusal: Refusal, own: Option<Refusal>) -> Told
+        ensures { result ≡ refused_by self judge refusal own }
     {
-        if frame_judge::breaks_frame(number) {
-            return self.broken_by(judge, number, own);
+        if frame_judge::breaks_frame(refusal) {
+            return self.broken_by(judge, refusal, own);
         }
         let before = self.judge;
         quiet(self.moved(before, judge))
     }
 
     // The frame is broken; another may open at once.
-    fn broken_by(self, judge: Judge, number: u8, own: u8) -> Told
-        ensures { result ≡ broken_by self judge number own }
+    fn broken_by(self, judge: Judge, refusal: Refusal, own: Option<Refusal>) -> Told
+        ensures { result ≡ broken_by self judge refusal own }
     {
         let broken = one_more(self.broken);
         let profile = self.profile;
@@ -201,7 +201,7 @@ impl Tally {
             complete: self.complete,
             broken,
         };
-        let news = News::Broken(self.frames, self.marks, number, own);
+        let news = News::Broken(self.frames, self.marks, refusal, own);
         Told { tally, news }
     }
 
@@ -230,15 +230,15 @@ fn quiet(tally: Tally) -> Told
     Told { tally, news }
 }
 
-// The refusal that a mark was answered; 0 where it was not refused.
-fn own_answer(answer: Answer) -> u8
+// The refusal that a mark was answered, if it was refused.
+fn own_answer(answer: Answer) -> Option<Refusal>
     ensures { result ≡ own_answer answer }
 {
     match answer {
-        Answer::Nothing => 0,
-        Answer::Line(_) => 0,
-        Answer::Gap(_) => 0,
-        Answer::Refused(number) => number,
+        Answer::Nothing => None,
+        Answer::Line(_) => None,
+        Answer::Gap(_) => None,
+        Answer::Refused(refusal) => Some(refusal),
     }
 }
 
@@ -250,16 +250,16 @@ fn is_unfinished(last: Answer) -> bool
         Answer::Nothing => false,
         Answer::Line(_) => false,
         Answer::Gap(_) => false,
-        Answer::Refused(number) => number == refusal::UNFINISHED_LINE,
+        Answer::Refused(refusal) => refusal == Refusal::UNFINISHED_LINE,
     }
 }
 
 // The borders of the frame that a judge is in.
-fn borders(judge: Judge) -> KnownBorders
+fn borders(judge: Judge) -> Option<Borders>
     ensures { result ≡ borders_of judge }
 {
     match judge {
-        Judge::Waiting => KnownBorders::Unsettled,
+        Judge::Waiting => None,
         Judge::Due(_, borders) => borders,
     }
 }

@@ -15,6 +15,7 @@ use line_code::Kind;
 use mark_text::{BODY_PLACE, Kept};
 use period::Nibbles;
 use profile::Profile;
+use refusal::Refusal;
 use stream::{Answer, Before, GapFacts};
 
 // The answer of an end mark, of a gap with this period: 8, or the gap's answer.
@@ -28,7 +29,7 @@ pub fn end_answer(
     ensures { result ≡ answer_for (kept_end profile before period.0 length kept) }
 {
     match before {
-        Before::NoLine => Answer::Refused(refusal::END_WITHOUT_LINE),
+        Before::NoLine => Answer::Refused(Refusal::END_WITHOUT_LINE),
         Before::RefusedLine(kind) => gap_answer(profile, kind, period, length, kept),
         Before::HandedOut(kind) => gap_answer(profile, kind, period, length, kept),
     }
@@ -66,7 +67,7 @@ fn gap_answer(profile: Profile, kind: Kind, period: Nibbles, length: u32, kept: 
     ensures { result ≡ answer_for (kept_gap profile kind period.0 length kept) }
 {
     if kept.stray {
-        return Answer::Refused(refusal::BAD_GAP);
+        return Answer::Refused(Refusal::BAD_GAP);
     }
     match profile {
         Profile::VV5404 => {
@@ -79,7 +80,7 @@ fn gap_answer(profile: Profile, kind: Kind, period: Nibbles, length: u32, kept: 
         }
         Profile::VV5300 => {
             if length < BODY_PLACE {
-                return Answer::Refused(refusal::BAD_GAP);
+                return Answer::Refused(Refusal::BAD_GAP);
             }
             let first = kept.first;
             let second = kept.second;
@@ -91,7 +92,7 @@ fn gap_answer(profile: Profile, kind: Kind, period: Nibbles, length: u32, kept: 
                 };
                 return Answer::Gap(facts);
             }
-            Answer::Refused(refusal::BAD_GAP)
+            Answer::Refused(Refusal::BAD_GAP)
         }
     }
 }

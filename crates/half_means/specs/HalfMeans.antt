@@ -1,15 +1,17 @@
 -- Exact half-line means (02, A10): the sums of two parts of a line's image, each divided by 64, beside the sensor's own means.
-use Rattle.std.specs.Prelude.{Bool, true, false, ◌&&◌, List, [], ◌∷◌, ℕ, ◌+◌, ◌*◌, eqb, ℤ, pos, ◌-ℤ◌, Float, length, take, drop}
+use Rattle.std.specs.Prelude.{Bool, true, false, ◌&&◌, List, [], ◌∷◌, ℕ, ◌+◌, ◌*◌, eqb, ℤ, pos, ◌-ℤ◌, Float, length, take, drop, Result, Ok, Err}
 use Rattle.std.specs.Float.Ieee.{round}
 use Rattle.std.specs.Float.{binary64}
+use Rattle.refusal.specs.declared.Refusal.{Refusal}
 use Rattle.refusal.specs.Refusal.{bad_state, wrong_body_length, byte_not_allowed, not_visible}
 use Rattle.line_code.specs.declared.Kind.TheVariants.{VL}
 use Rattle.line_code.specs.LineCode.{kind_number}
 use Rattle.profile.specs.declared.Profile.TheVariants.{VV5300}
 use Rattle.profile.specs.Profile.{profile_number, body_length, image_start}
 use Rattle.profile.specs.Layout.{rules, fits, gap_fits}
+use Rattle.half_means.specs.declared.Means.{Means}
+use Rattle.half_means.specs.declared.Sums.{Sums}
 use Rattle.half_means.specs.declared.Halves.{Halves}
-use Rattle.half_means.specs.declared.Halves.TheVariants.{Given, Refused}
 
 -- the image places where the halves start, and the pixels of each
 abbrev pub first_place : ℕ
@@ -54,14 +56,18 @@ pub data HalfValues : Type 0 where
   refused : ℕ → HalfValues
 
 -- the paper's number and values of each case of the program's answer
-abbrev pub values_of : Halves → HalfValues
-values_of (Given m s d e) = means m.first m.second s.first s.second d e
-values_of (Refused n) = refused n
+abbrev pub values_of : Result Halves Refusal → HalfValues
+values_of (Ok h) = means h.means.first h.means.second h.sums.first h.sums.second h.first_difference h.second_difference
+values_of (Err r) = refused r.0
+
+-- the program's answer that gives these
+abbrev pub given : Means → Sums → ℤ → ℤ → Result Halves Refusal
+given m s d e = Ok (record { means = m; sums = s; first_difference = d; second_difference = e })
 
 -- the program's answer that says this
-abbrev pub answer_for : HalfValues → Halves
-answer_for (means x y s t d e) = Given (record { first = x; second = y }) (record { first = s; second = t }) d e
-answer_for (refused n) = Refused n
+abbrev pub answer_for : HalfValues → Result Halves Refusal
+answer_for (means x y s t d e) = given (record { first = x; second = y }) (record { first = s; second = t }) d e
+answer_for (refused n) = Err (record { 0 = n })
 
 -- what is said of two sums beside the sensor's two bytes
 unfoldable pub beside_of : ℕ → ℕ → ℕ → ℕ → HalfValues
@@ -81,5 +87,5 @@ half_values profile kind body a b =
     (require (fits (rules VV5300 VL) body && gap_fits VV5300 VL a b) byte_not_allowed (beside_of (first_sum body) (second_sum body) a b))))
 
 -- the program's answer
-unfoldable pub halves_of : ℕ → ℕ → List ℕ → ℕ → ℕ → Halves
+unfoldable pub halves_of : ℕ → ℕ → List ℕ → ℕ → ℕ → Result Halves Refusal
 halves_of profile kind body a b = answer_for (half_values profile kind body a b)

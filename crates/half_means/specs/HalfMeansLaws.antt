@@ -1,9 +1,10 @@
 -- Laws of the answer: what is given is exact, and how far the sums and differences reach.
-use Rattle.std.specs.Prelude.{◌≡◌, Bool, not, cond, List, [], ◌∷◌, ℕ, zero, suc, ◌+◌, ◌-◌, ◌*◌, ◌≤◌, ◌<◌, T, leb, ltb, ℤ, pos, negsuc, ◌-ℤ◌, ◌≤ℤ◌, length, take, drop, replicate}
+use Rattle.std.specs.Prelude.{◌≡◌, Bool, not, cond, List, [], ◌∷◌, ℕ, zero, suc, ◌+◌, ◌-◌, ◌*◌, ◌≤◌, ◌<◌, T, leb, ltb, ℤ, pos, negsuc, ◌-ℤ◌, ◌≤ℤ◌, length, take, drop, replicate, Result, Ok, Err}
 use Rattle.std.proofs.Math.Path.{refl, sym, ap, subst}
 use Rattle.std.proofs.Common.{◌∙◌, true≢false, lt_of_lt_of_le, arith, eq-eqb, leb-true, lit≤, le→leb, ltb→lt, nltb→le}
 use Rattle.std.proofs.Math.Bool.{true, false}
 use Rattle.std.specs.Float.Ieee.Exact.{HasValue}
+use Rattle.refusal.specs.declared.Refusal.{Refusal}
 use Rattle.bits.specs.Every.{and_left, and_right, and_both}
 use Rattle.line_code.specs.declared.Kind.TheVariants.{VL}
 use Rattle.line_code.specs.LineCode.{kind_number}
@@ -16,8 +17,7 @@ use Rattle.profile.specs.Layout as layout
 use Rattle.half_means.specs.declared.Means.{Means}
 use Rattle.half_means.specs.declared.Sums.{Sums}
 use Rattle.half_means.specs.declared.Halves.{Halves}
-use Rattle.half_means.specs.declared.Halves.TheVariants.{Given, Refused}
-use Rattle.half_means.specs.HalfMeans.{half_length, total, first_sum, second_sum, difference, HalfValues, values_of, answer_for, beside_of, require, half_values, halves_of}
+use Rattle.half_means.specs.HalfMeans.{half_length, total, first_sum, second_sum, difference, HalfValues, values_of, given, answer_for, beside_of, require, half_values, halves_of}
 use Rattle.half_means.specs.Sixtyfourths.{exact}
 
 -- the sums stay below this, and the differences between this and its negative (02, A10)
@@ -104,12 +104,12 @@ unfolding half_values require
 passed profile kind body a b p k l f g = simp (eq-eqb _ _ p, eq-eqb _ _ k, eq-eqb _ _ l, f, g)
 
 -- the values tell the program's answer
-pub values_tell : (r : Halves) (v : HalfValues) → values_of r ≡ v → r ≡ answer_for v
+pub values_tell : (r : Result Halves Refusal) (v : HalfValues) → values_of r ≡ v → r ≡ answer_for v
 values_tell r v h = back r ∙ ap answer_for h
   where
-    back : (r : Halves) → r ≡ answer_for (values_of r)
-    back (Given m s d e) = refl
-    back (Refused n) = refl
+    back : (r : Result Halves Refusal) → r ≡ answer_for (values_of r)
+    back (Ok h) = refl
+    back (Err r) = refl
 
 -- what is given of a body, beside the sensor's means
 pub record GivenOf (body : List ℕ) (a b : ℕ) (m : Means) (s : Sums) (d e : ℤ) : Type 0 where
@@ -124,34 +124,34 @@ pub record GivenOf (body : List ℕ) (a b : ℕ) (m : Means) (s : Sums) (d e : �
   pub first_within : Within d
   pub second_within : Within e
 
-abbrev is_given : Halves → Bool
-is_given (Given m s d e) = true
-is_given (Refused n) = false
+abbrev is_given : Result Halves Refusal → Bool
+is_given (Ok h) = true
+is_given (Err r) = false
 
-abbrev means_or : Means → Halves → Means
-means_or m (Given n s d e) = n
-means_or m (Refused n) = m
+abbrev means_or : Means → Result Halves Refusal → Means
+means_or m (Ok h) = h.means
+means_or m (Err r) = m
 
-abbrev sums_or : Sums → Halves → Sums
-sums_or s (Given m t d e) = t
-sums_or s (Refused n) = s
+abbrev sums_or : Sums → Result Halves Refusal → Sums
+sums_or s (Ok h) = h.sums
+sums_or s (Err r) = s
 
-abbrev first_or : ℤ → Halves → ℤ
-first_or z (Given m s d e) = d
-first_or z (Refused n) = z
+abbrev first_or : ℤ → Result Halves Refusal → ℤ
+first_or z (Ok h) = h.first_difference
+first_or z (Err r) = z
 
-abbrev second_or : ℤ → Halves → ℤ
-second_or z (Given m s d e) = e
-second_or z (Refused n) = z
+abbrev second_or : ℤ → Result Halves Refusal → ℤ
+second_or z (Ok h) = h.second_difference
+second_or z (Err r) = z
 
 module _ (m : Means) (s : Sums) (d e : ℤ) where
-  required : (t : Bool) (n : ℕ) (x : HalfValues) → answer_for (require t n x) ≡ Given m s d e → (t ≡ true) × (answer_for x ≡ Given m s d e)
+  required : (t : Bool) (n : ℕ) (x : HalfValues) → answer_for (require t n x) ≡ given m s d e → (t ≡ true) × (answer_for x ≡ given m s d e)
   unfolding require
   required true n x h = (refl, h)
   required false n x h = absurd (true≢false (sym (ap is_given h)))
 
   beside_given : (body : List ℕ) (a b : ℕ) → layout.fits (rules VV5300 VL) body ≡ true → gap_fits VV5300 VL a b ≡ true
-      → answer_for (beside_of (first_sum body) (second_sum body) a b) ≡ Given m s d e → GivenOf body a b m s d e
+      → answer_for (beside_of (first_sum body) (second_sum body) a b) ≡ given m s d e → GivenOf body a b m s d e
   unfolding beside_of
   beside_given body a b f g h =
       let p = first_range body f in
@@ -171,7 +171,7 @@ module _ (m : Means) (s : Sums) (d e : ℤ) where
 
 -- whatever is given is exact
 pub given_exact : (profile kind : ℕ) (body : List ℕ) (a b : ℕ) (m : Means) (s : Sums) (d e : ℤ)
-    → halves_of profile kind body a b ≡ Given m s d e → GivenOf body a b m s d e
+    → halves_of profile kind body a b ≡ given m s d e → GivenOf body a b m s d e
 unfolding halves_of half_values
 given_exact profile kind body a b m s d e h =
     let f : Bool = layout.fits (rules VV5300 VL) body in

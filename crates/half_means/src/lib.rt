@@ -7,13 +7,14 @@
 
 #![tactic(auto)]
 
-ghost use Rattle.std.specs.Prelude.{◌≡◌, ◌≤◌, length};
+ghost use Rattle.std.specs.Prelude.{◌≡◌, ◌≤◌, length, Ok};
 ghost use Rattle.half_means.specs.HalfMeans.{half_length, total, half_at, sixty_fourth, difference, values_of, beside_of, half_values};
 ghost use Rattle.profile.specs.Profile.{body_length};
 ghost use Rattle.profile.specs.declared.Profile.TheVariants as profiles;
 
 use line_code::Kind;
 use profile::Profile;
+use refusal::Refusal;
 
 // The exact means of a line's two halves.
 #[derive(Clone, Copy)]
@@ -29,11 +30,13 @@ pub struct Sums {
     pub second: u16,
 }
 
-// The means and the sums, then the first half's difference and the second's; or a refusal.
+// What is said of a line's two halves: the means, the sums, and the first half's difference and the second's.
 #[derive(Clone, Copy)]
-pub enum Halves {
-    Given(Means, Sums, i32, i32),
-    Refused(u8),
+pub struct Halves {
+    pub means: Means,
+    pub sums: Sums,
+    pub first_difference: i32,
+    pub second_difference: i32,
 }
 
 // The number of the profile that has line means.
@@ -48,29 +51,30 @@ const SECOND: usize = 80;
 pub const HALF: u16 = 64;
 
 // What is said of a line's two halves.
-pub fn of_line(profile: u8, kind: u8, body: &[u8], first: u8, second: u8) -> Halves
+pub fn of_line(profile: u8, kind: u8, body: &[u8], first: u8, second: u8) -> Result<Halves, Refusal>
     ensures { values_of result ≡ half_values profile kind body.now first second }
 {
     if profile != VV5300 {
-        return Halves::Refused(refusal::BAD_STATE);
+        return Err(Refusal::BAD_STATE);
     }
     if kind != Kind::VL.number() {
-        return Halves::Refused(refusal::NOT_VISIBLE);
+        return Err(Refusal::NOT_VISIBLE);
     }
     if body.len() != Profile::VV5300.body_length() {
-        return Halves::Refused(refusal::WRONG_BODY_LENGTH);
+        return Err(Refusal::WRONG_BODY_LENGTH);
     }
     if line_layout::body_fits(Profile::VV5300, Kind::VL, body) {
         if line_layout::gap_fits(Profile::VV5300, Kind::VL, first, second) {
-            return beside(half_sum(body, FIRST), half_sum(body, SECOND), first, second);
+            let halves = beside(half_sum(body, FIRST), half_sum(body, SECOND), first, second);
+            return Ok(halves);
         }
     }
-    Halves::Refused(refusal::BYTE_NOT_ALLOWED)
+    Err(Refusal::BYTE_NOT_ALLOWED)
 }
 
 // What is said of two sums beside the sensor's two means.
 fn beside(s: u16, t: u16, first: u8, second: u8) -> Halves
-    ensures { values_of result ≡ beside_of s t first second }
+    ensures { values_of (Ok result) ≡ beside_of s t first second }
 {
     let means = Means {
         first: mean(s),
@@ -80,7 +84,12 @@ fn beside(s: u16, t: u16, first: u8, second: u8) -> Halves
         first: s,
         second: t,
     };
-    Halves::Given(means, sums, difference(first, s), difference(second, t))
+    Halves {
+        means,
+        sums,
+        first_difference: difference(first, s),
+        second_difference: difference(second, t),
+    }
 }
 
 // The sum divided by 64: an f64 holds both, and the quotient, exactly.
@@ -113,10 +122,8 @@ fn total(half: &[u8]) -> u16
     ensures { result ≡ total half.now }
 {
     let mut sum: u16 = 0;
-    let mut i: usize = 0;
-    while i < half.len() {
-        sum += half[i] as u16;
-        i += 1;
+    for byte in half {
+        sum += *byte as u16;
     }
     sum
 }

@@ -99,6 +99,7 @@ pub fn read_full(source: &mut Source, buf: &mut [u8]) -> usize
     ensures { result ≤ length buf.new }
 {
     let mut done: usize = 0;
+    // Not a for: each turn goes on by what the read brought.
     while done < buf.len() {
         let n = match read(source, &mut buf[done..]) {
             Ok(n) => n,
@@ -225,8 +226,5 @@ fn words(text: &Text) -> usize {
 
 // Whether the number of a failure begins at a place of its text.
 fn begins_number(text: &[u8], place: usize) -> bool {
-    if text.len() < place {
-        return false;
-    }
-    text[place..].starts_with(b" (os error ")
+    place <= text.len() && text[place..].starts_with(b" (os error ")
 }

@@ -57,19 +57,14 @@ impl LeadingLines {
     }
 
     // Whether they are a run of places; where a frame opened after them, up to a frame's last.
+    #[tactic(auto, unfolding(crate::specs::LeadingLines::is_run))]
     pub fn is_run(self, profile: Profile, opened: bool) -> bool
         ensures { result ≡ is_run profile opened self }
     {
-        if self.seen {
-            if 0 < self.blanks {
-                return true;
-            }
-            if place_stands(profile, opened, self.on) {
-                return true;
-            }
-            return place_stands(profile, opened, self.off);
-        }
-        true
+        !self.seen
+            || 0 < self.blanks
+            || place_stands(profile, opened, self.on)
+            || place_stands(profile, opened, self.off)
     }
 }
 

@@ -1,8 +1,7 @@
 -- A lent buffer that a call fills from its front, or refuses to (01, 'How tight the statements are').
-use Rattle.std.specs.Prelude.{◌≡◌, Bool, true, false, List, ◌++◌, ℕ, leb, length, take, drop}
+use Rattle.std.specs.Prelude.{◌≡◌, Bool, true, false, List, ◌++◌, ℕ, leb, length, take, drop, Err, Ok, Result}
 use Rattle.refusal.specs.Refusal.{no_room}
-use Rattle.lent_buffer.specs.declared.Filled.{Filled}
-use Rattle.lent_buffer.specs.declared.Filled.TheVariants as filled
+use Rattle.refusal.specs.declared.Refusal.{Refusal}
 
 -- what a call says: the length used and the bytes there, or a refusal with its number
 pub data Output : Type 0 where
@@ -10,14 +9,14 @@ pub data Output : Type 0 where
   refused : ℕ → Output
 
 -- the paper's number and values of each case of the program's answer: the bytes are the front of the buffer as it is left
-abbrev pub output_of : Filled → List ℕ → Output
-output_of (filled.Length n) buffer = used n (take n buffer)
-output_of (filled.Refused n) buffer = refused n
+abbrev pub output_of : Result ℕ Refusal → List ℕ → Output
+output_of (Ok n) buffer = used n (take n buffer)
+output_of (Err r) buffer = refused r.0
 
 -- the program's answer that says this
-abbrev pub answer_for : Output → Filled
-answer_for (used n bytes) = filled.Length n
-answer_for (refused n) = filled.Refused n
+abbrev pub answer_for : Output → Result ℕ Refusal
+answer_for (used n bytes) = Ok n
+answer_for (refused n) = Err (record { 0 = n })
 
 -- the buffer afterwards: the bytes at its front, and the room beyond them as it was; or nothing written
 abbrev pub buffer_after : Output → List ℕ → List ℕ
@@ -25,7 +24,7 @@ buffer_after (used n bytes) buffer = bytes ++ drop n buffer
 buffer_after (refused n) buffer = buffer
 
 -- a call that answers, and leaves its buffer, as the output says
-pub record Gives (output : Output) (answer : Filled) (before after : List ℕ) : Type 0 where
+pub record Gives (output : Output) (answer : Result ℕ Refusal) (before after : List ℕ) : Type 0 where
   pub says : output_of answer after ≡ output
   pub leaves : after ≡ buffer_after output before
 

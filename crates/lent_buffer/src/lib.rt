@@ -2,8 +2,6 @@
 
 #![tactic(auto)]
 
-#[derive(Clone, Copy)]
-pub enum Filled {
-    Length(usize),
-    Refused(u8),
-}
+use refusal::Refusal;
+
+pub type Filled = Result<usize, Refusal>;

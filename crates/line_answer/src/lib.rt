@@ -11,9 +11,9 @@ ghost use Rattle.stream.specs.Answers.{answer_for};
 ghost use Rattle.line_answer.specs.KeptLine.{kept_body, kept_line};
 
 use line_code::{Kind, Repair};
-use line_number::Decoded;
 use mark_text::{BODY_PLACE, Kept};
 use profile::Profile;
+use refusal::Refusal;
 use stream::{Answer, LineFacts};
 
 // The answer of a line's mark when the next mark's code is complete: 4, 5, or by the body.
@@ -32,11 +32,11 @@ pub fn line_answer(
     if length as usize == wanted {
         let d = line_number::decode(kept.first, kept.second);
         return match d {
-            Decoded::Number(number) => body_answer(profile, kind, start, number, body, next),
-            Decoded::Bad => Answer::Refused(refusal::BAD_NUMBER),
+            Some(number) => body_answer(profile, kind, start, number, body, next),
+            None => Answer::Refused(Refusal::BAD_NUMBER),
         };
     }
-    Answer::Refused(refusal::WRONG_LENGTH)
+    Answer::Refused(Refusal::WRONG_LENGTH)
 }
 
 // 6, 7, or the line.
@@ -52,7 +52,7 @@ fn body_answer(
 {
     let n = profile.body_length();
     if body.len() < n {
-        return Answer::Refused(refusal::BAD_BODY);
+        return Answer::Refused(Refusal::BAD_BODY);
     }
     if line_layout::body_fits(profile, kind, &body[..n]) {
         let reading = line_code::read(next);
@@ -66,7 +66,7 @@ fn body_answer(
             };
             return Answer::Line(facts);
         }
-        return Answer::Refused(refusal::NO_END_OF_LINE);
+        return Answer::Refused(Refusal::NO_END_OF_LINE);
     }
-    Answer::Refused(refusal::BAD_BODY)
+    Answer::Refused(Refusal::BAD_BODY)
 }

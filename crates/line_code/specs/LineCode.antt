@@ -1,5 +1,5 @@
 -- Line codes (01, 'Marks and line codes'): the byte 1 C2 C1 C0 P3 P2 P1 P0.
-use Rattle.std.specs.Prelude.{Bool, true, false, ◌&&◌, cond, ℕ, zero, suc, ◌+◌, ◌-◌, ◌*◌, ◌/◌, ◌%◌, eqb, ltb}
+use Rattle.std.specs.Prelude.{Bool, true, false, ◌&&◌, cond, ℕ, zero, suc, ◌+◌, ◌-◌, ◌*◌, ◌/◌, ◌%◌, eqb, ltb, None, Option, Some}
 use Rattle.bits.specs.Bits.{bit, flipped}
 use Rattle.line_code.specs.declared.Kind.{Kind}
 use Rattle.line_code.specs.declared.Kind.TheVariants.{BL, BK, VL, SOF, EOF}
@@ -9,8 +9,6 @@ use Rattle.line_code.specs.declared.Repair.{Repair}
 use Rattle.line_code.specs.declared.Repair.TheVariants.{Clean, Bit}
 use Rattle.line_code.specs.declared.Reading.{Reading}
 use Rattle.line_code.specs.declared.Reading.TheVariants.{Says, Damaged}
-use Rattle.line_code.specs.declared.LineKind.{LineKind}
-use Rattle.line_code.specs.declared.LineKind.TheVariants.{NotLine, LineOf}
 
 -- the paper's number of a line kind, 1 to 5
 abbrev pub kind_number : Kind → ℕ
@@ -21,10 +19,10 @@ kind_number SOF = 4
 kind_number EOF = 5
 
 -- the kind with a number, if it has one
-unfoldable pub kind_numbered : ℕ → LineKind
+unfoldable pub kind_numbered : ℕ → Option Kind
 kind_numbered n =
-    cond (eqb n 1) (LineOf BL)
-    (cond (eqb n 2) (LineOf BK) (cond (eqb n 3) (LineOf VL) (cond (eqb n 4) (LineOf SOF) (cond (eqb n 5) (LineOf EOF) NotLine))))
+    cond (eqb n 1) (Some BL)
+    (cond (eqb n 2) (Some BK) (cond (eqb n 3) (Some VL) (cond (eqb n 4) (Some SOF) (cond (eqb n 5) (Some EOF) None))))
 
 -- the code C2 C1 C0 of a meaning, 0 to 7
 abbrev pub code_of : Meaning → ℕ
@@ -38,9 +36,9 @@ unfoldable pub reserved_of : ℕ → Meaning
 reserved_of c = cond (eqb c 6) ReservedEC ReservedF1
 
 -- a line, if the code is a kind's number, else the meaning given
-abbrev pub line_or : LineKind → Meaning → Meaning
-line_or (LineOf k) m = Line k
-line_or NotLine m = m
+abbrev pub line_or : Option Kind → Meaning → Meaning
+line_or (Some k) m = Line k
+line_or None m = m
 
 -- the meaning of a code C2 C1 C0
 unfoldable pub meaning_of : ℕ → Meaning
@@ -87,16 +85,16 @@ unfoldable pub reading_of : ℕ → Reading
 reading_of b = cond (clean b) (Says (meaning_of (code_bits b)) Clean) (repaired_in 8 b)
 
 -- the line kind that a meaning names
-abbrev pub kind_meant : Meaning → LineKind
-kind_meant EndOfLine = NotLine
-kind_meant (Line k) = LineOf k
-kind_meant ReservedEC = NotLine
-kind_meant ReservedF1 = NotLine
+abbrev pub kind_meant : Meaning → Option Kind
+kind_meant EndOfLine = None
+kind_meant (Line k) = Some k
+kind_meant ReservedEC = None
+kind_meant ReservedF1 = None
 
 -- the line kind of a clean or repaired code
-abbrev pub kind_of : Reading → LineKind
+abbrev pub kind_of : Reading → Option Kind
 kind_of (Says m r) = kind_meant m
-kind_of Damaged = NotLine
+kind_of Damaged = None
 
 -- the meaning is end of line
 abbrev pub end_meant : Meaning → Bool

@@ -1,6 +1,6 @@
 -- Laws of line codes: which bytes are clean, which are repaired to which, how many of each; and demand 2's flipped bits.
 -- Each is one test, computed at all 256 bytes or at all flips of the eight clean ones, and a law that gives the rule at each.
-use Rattle.std.specs.Prelude.{◌≡◌, refl, Bool, true, false, ◌||◌, not, ℕ, ◌+◌, ◌*◌, ◌/◌, ◌%◌, ◌<◌, ◌≤◌, eqb, ltb}
+use Rattle.std.specs.Prelude.{◌≡◌, refl, Bool, true, false, ◌||◌, not, ℕ, ◌+◌, ◌*◌, ◌/◌, ◌%◌, ◌<◌, ◌≤◌, eqb, ltb, None}
 use Rattle.std.proofs.Common.{sym, ap, subst, ◌∙◌, true≢false, arith, eqb-true, eq-eqb, ne_eqb, lt-ltb, ltb-true, ltb-false}
 use Rattle.std.specs.Bool.{beq}
 use Rattle.std.proofs.lemmas.Bool.{not-true}
@@ -15,7 +15,6 @@ use Rattle.line_code.specs.declared.Repair.{Repair}
 use Rattle.line_code.specs.declared.Repair.TheVariants.{Clean, Bit}
 use Rattle.line_code.specs.declared.Reading.{Reading}
 use Rattle.line_code.specs.declared.Reading.TheVariants.{Says, Damaged}
-use Rattle.line_code.specs.declared.LineKind.TheVariants.{NotLine}
 use Rattle.line_code.specs.LineCode.{kind_number, kind_numbered, code_of, reserved_of, meaning_of, clean_byte, reading_of, repair_number, repair_numbered, reading_number, reading_numbered, kind_of, is_end, is_clean, is_repaired, is_damaged}
 
 -- The code of a meaning.
@@ -182,7 +181,7 @@ two_damaged m i j h g d =
     (ne_eqb i j d))
 
 -- so they are never read as a line kind
-pub two_flips : (m : Meaning) (i j : ℕ) → i < 8 → j < 8 → (i ≡ j → ⊥) → kind_of (reading_of (flipped (flipped (clean_byte m) i) j)) ≡ NotLine
+pub two_flips : (m : Meaning) (i j : ℕ) → i < 8 → j < 8 → (i ≡ j → ⊥) → kind_of (reading_of (flipped (flipped (clean_byte m) i) j)) ≡ None
 two_flips m i j h g d = ap kind_of (two_damaged m i j h g d)
 
 -- Codes that end in F.

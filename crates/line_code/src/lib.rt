@@ -6,7 +6,7 @@
 #![tactic(auto)]
 
 ghost use Rattle.std.specs.Prelude.{◌≡◌, ◌%◌, ◌<◌};
-ghost use Rattle.line_code.specs.LineCode.{meaning_of, reserved_of, kind_meant, end_meant, clean_byte, reading_of, reading_numbered, repair_number, repair_numbered, kind_of, is_end, repair_of, is_bit, kind_number, kind_numbered};
+ghost use Rattle.line_code.specs.LineCode.{meaning_of, kind_meant, end_meant, clean_byte, reading_of, reading_numbered, repair_number, repair_numbered, kind_of, is_end, repair_of, is_bit, kind_number, kind_numbered};
 ghost use Rattle.line_code.specs.Parts.{entry_at, RowHolds};
 ghost use Rattle.line_code.specs.declared.Meaning.TheVariants.{Line};
 
@@ -29,25 +29,19 @@ pub enum Meaning {
     ReservedF1,
 }
 
-// What was repaired of a code: nothing, or the bit of this number, 0 to 7.
+// What was repaired of a code: nothing, or the bit of this number, 0 to 7. No option of a bit: `Says m Clean` reads in each definition and law as
+// the paper has it, and `Says m None` would not.
 #[derive(Clone, Copy)]
 pub enum Repair {
     Clean,
     Bit(u8),
 }
 
-// How a code byte reads.
+// How a code byte reads. No option of a pair: definitions and laws go by both parts, and their patterns can't take a pair apart.
 #[derive(Clone, Copy)]
 pub enum Reading {
     Says(Meaning, Repair),
     Damaged,
-}
-
-// A line kind, where there is one.
-#[derive(Clone, Copy)]
-pub enum LineKind {
-    NotLine,
-    LineOf(Kind),
 }
 
 impl Kind {
@@ -65,6 +59,7 @@ impl Kind {
     }
 
     // The clean byte that starts a line of this kind.
+    #[tactic(auto, unfolding(crate::specs::LineCode::clean_byte))]
     pub fn clean_byte(self) -> u8
         ensures { result ≡ clean_byte (Line self) }
     {
@@ -78,25 +73,18 @@ impl Kind {
     }
 
     // The kind with this number: none but 1 to 5 have one.
-    pub fn numbered(n: u8) -> LineKind
+    #[tactic(auto, unfolding(crate::specs::LineCode::kind_numbered))]
+    pub fn numbered(n: u8) -> Option<Kind>
         ensures { result ≡ kind_numbered n }
     {
-        if n == 1 {
-            return LineKind::LineOf(Kind::BL);
+        match n {
+            1 => Some(Kind::BL),
+            2 => Some(Kind::BK),
+            3 => Some(Kind::VL),
+            4 => Some(Kind::SOF),
+            5 => Some(Kind::EOF),
+            _ => None,
         }
-        if n == 2 {
-            return LineKind::LineOf(Kind::BK);
-        }
-        if n == 3 {
-            return LineKind::LineOf(Kind::VL);
-        }
-        if n == 4 {
-            return LineKind::LineOf(Kind::SOF);
-        }
-        if n == 5 {
-            return LineKind::LineOf(Kind::EOF);
-        }
-        LineKind::NotLine
     }
 }
 
@@ -119,10 +107,7 @@ impl Repair {
     pub fn is_bit(self) -> bool
         ensures { result ≡ is_bit self }
     {
-        match self {
-            Repair::Clean => false,
-            Repair::Bit(_) => true,
-        }
+        matches!(self, Repair::Bit(_))
     }
 
     // The repair as a number: 0 for none, else one more than the bit's.
@@ -138,12 +123,12 @@ impl Repair {
 
 impl Reading {
     // The line kind, of a clean or repaired code.
-    pub fn kind(self) -> LineKind
+    pub fn kind(self) -> Option<Kind>
         ensures { result ≡ kind_of self }
     {
         match self {
             Reading::Says(m, _) => kind_of(m),
-            Reading::Damaged => LineKind::NotLine,
+            Reading::Damaged => None,
         }
     }
 
@@ -229,69 +214,57 @@ fn entry(row: u64, place: u8) -> u8
 }
 
 // The reading with a number.
+#[tactic(auto, unfolding(crate::specs::LineCode::reading_numbered))]
 fn reading_numbered(n: u8) -> Reading
     ensures { result ≡ reading_numbered n }
 {
     let code = n % 16;
     if code < 8 {
-        let m = meaning_of(code);
-        let r = repair_numbered(n / 16);
-        return Reading::Says(m, r);
+        Reading::Says(meaning_of(code), repair_numbered(n / 16))
+    } else {
+        Reading::Damaged
     }
-    Reading::Damaged
 }
 
 // The repair with a number.
+#[tactic(auto, unfolding(crate::specs::LineCode::repair_numbered))]
 fn repair_numbered(n: u8) -> Repair
     ensures { result ≡ repair_numbered n }
 {
-    if n == 0 {
-        return Repair::Clean;
+    match n {
+        0 => Repair::Clean,
+        _ => Repair::Bit(n - 1),
     }
-    Repair::Bit(n - 1)
 }
 
 // The meaning with a code number.
+#[tactic(auto, unfolding(crate::specs::LineCode::meaning_of, crate::specs::LineCode::kind_numbered, crate::specs::LineCode::reserved_of))]
 fn meaning_of(code: u8) -> Meaning
     ensures { result ≡ meaning_of code }
 {
-    if code == 0 {
-        return Meaning::EndOfLine;
-    }
-    let k = Kind::numbered(code);
-    match k {
-        LineKind::LineOf(kind) => Meaning::Line(kind),
-        LineKind::NotLine => reserved(code),
+    match code {
+        0 => Meaning::EndOfLine,
+        1 => Meaning::Line(Kind::BL),
+        2 => Meaning::Line(Kind::BK),
+        3 => Meaning::Line(Kind::VL),
+        4 => Meaning::Line(Kind::SOF),
+        5 => Meaning::Line(Kind::EOF),
+        6 => Meaning::ReservedEC,
+        _ => Meaning::ReservedF1,
     }
 }
 
-fn reserved(code: u8) -> Meaning
-    ensures { result ≡ reserved_of code }
-{
-    if code == 6 {
-        return Meaning::ReservedEC;
-    }
-    Meaning::ReservedF1
-}
-
-fn kind_of(m: Meaning) -> LineKind
+fn kind_of(m: Meaning) -> Option<Kind>
     ensures { result ≡ kind_meant m }
 {
     match m {
-        Meaning::EndOfLine => LineKind::NotLine,
-        Meaning::Line(k) => LineKind::LineOf(k),
-        Meaning::ReservedEC => LineKind::NotLine,
-        Meaning::ReservedF1 => LineKind::NotLine,
+        Meaning::Line(k) => Some(k),
+        Meaning::EndOfLine | Meaning::ReservedEC | Meaning::ReservedF1 => None,
     }
 }
 
 fn says_end(m: Meaning) -> bool
     ensures { result ≡ end_meant m }
 {
-    match m {
-        Meaning::EndOfLine => true,
-        Meaning::Line(_) => false,
-        Meaning::ReservedEC => false,
-        Meaning::ReservedF1 => false,
-    }
+    matches!(m, Meaning::EndOfLine)
 }

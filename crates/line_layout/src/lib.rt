@@ -22,8 +22,7 @@ pub fn rule_at(profile: Profile, kind: Kind, place: usize) -> Rule
 {
     match kind {
         Kind::BL => Rule::Filler,
-        Kind::BK => pixel_at(profile, place),
-        Kind::VL => pixel_at(profile, place),
+        Kind::BK | Kind::VL => pixel_at(profile, place),
         Kind::SOF => register_at(profile, place),
         Kind::EOF => average_at(profile, place),
     }
@@ -36,12 +35,9 @@ pub fn body_fits(profile: Profile, kind: Kind, body: &[u8]) -> bool
     if body.len() != profile.body_length() {
         return false;
     }
-    let mut i: usize = 0;
-    while i < body.len() {
+    for (i, b) in body.iter().enumerate() {
         let rule = rule_at(profile, kind, i);
-        if rule.allows(body[i]) {
-            i += 1;
-        } else {
+        if !rule.allows(*b) {
             return false;
         }
     }
@@ -55,11 +51,10 @@ pub fn gap_fits(profile: Profile, kind: Kind, first: u8, second: u8) -> bool
     match profile {
         Profile::VV5404 => both_are(Profile::NULL, first, second),
         Profile::VV5300 => match kind {
-            Kind::BL => both_are(Profile::FILLER, first, second),
-            Kind::BK => both_are(Profile::FILLER, first, second),
             Kind::VL => both_pixels(first, second),
-            Kind::SOF => both_are(Profile::FILLER, first, second),
-            Kind::EOF => both_are(Profile::FILLER, first, second),
+            Kind::BL | Kind::BK | Kind::SOF | Kind::EOF => {
+                both_are(Profile::FILLER, first, second)
+            }
         },
     }
 }
@@ -152,18 +147,12 @@ fn at_even(place: usize, rule: Rule) -> Rule
 fn both_are(x: u8, a: u8, b: u8) -> bool
     ensures { result ≡ both_are x a b }
 {
-    if a == x {
-        return b == x;
-    }
-    false
+    a == x && b == x
 }
 
 // Whether both bytes are pixels or means.
 fn both_pixels(a: u8, b: u8) -> bool
     ensures { result ≡ both_pixels a b }
 {
-    if profile::is_pixel(a) {
-        return profile::is_pixel(b);
-    }
-    false
+    profile::is_pixel(a) && profile::is_pixel(b)
 }

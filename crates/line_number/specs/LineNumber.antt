@@ -1,10 +1,6 @@
 -- Line numbers (01, 'Line numbers'): 12 bits, split into two 6-bit values, high first.
-use Rattle.std.specs.Prelude.{Bool, ◌&&◌, cond, ℕ, ◌+◌, ◌*◌, ◌/◌, ◌%◌, eqb, leb, ltb}
+use Rattle.std.specs.Prelude.{Bool, ◌&&◌, cond, ℕ, ◌+◌, ◌*◌, ◌/◌, ◌%◌, eqb, leb, ltb, None, Option, Some}
 use Rattle.std.specs.Int.Count.{ones}
-use Rattle.line_number.specs.declared.Decoded.{Decoded}
-use Rattle.line_number.specs.declared.Decoded.TheVariants.{Number, Bad}
-use Rattle.line_number.specs.declared.Encoded.{Encoded}
-use Rattle.line_number.specs.declared.Encoded.TheVariants.{Bytes, TooLarge}
 
 -- the greatest line number
 abbrev pub greatest : ℕ
@@ -22,10 +18,14 @@ number_good b = ltb b 128 && eqb (ones b % 2) 1
 abbrev pub number_from : ℕ → ℕ → ℕ
 number_from high low = 64 * (high / 2) + low / 2
 
+-- a number's two bytes, high six bits first
+abbrev pub two_bytes : ℕ → ℕ → Option (ℕ × ℕ)
+two_bytes high low = Some (high, low)
+
 -- a number as two bytes, the high one first
-abbrev pub encode_of : ℕ → Encoded
-encode_of n = cond (leb n greatest) (Bytes (number_byte (n / 64)) (number_byte (n % 64))) TooLarge
+abbrev pub encode_of : ℕ → Option (ℕ × ℕ)
+encode_of n = cond (leb n greatest) (two_bytes (number_byte (n / 64)) (number_byte (n % 64))) None
 
 -- the number of two bytes, or bad
-abbrev pub decode_of : ℕ → ℕ → Decoded
-decode_of high low = cond (number_good high && number_good low) (Number (number_from high low)) Bad
+abbrev pub decode_of : ℕ → ℕ → Option ℕ
+decode_of high low = cond (number_good high && number_good low) (Some (number_from high low)) None

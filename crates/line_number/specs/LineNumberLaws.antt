@@ -1,13 +1,11 @@
 -- Laws of line numbers: what is encoded decodes to itself and nothing else decodes, and a number byte with one bit flipped is refused.
-use Rattle.std.specs.Prelude.{◌≡◌, refl, Bool, true, false, not, cond, ℕ, ◌*◌, ◌+◌, ◌/◌, ◌%◌, ◌<◌, ◌≤◌, eqb, ltb}
+use Rattle.std.specs.Prelude.{◌≡◌, refl, Bool, true, false, not, cond, ℕ, ◌*◌, ◌+◌, ◌/◌, ◌%◌, ◌<◌, ◌≤◌, eqb, ltb, None, Some}
 use Rattle.std.proofs.Common.{sym, ap, true≢false, arith, ltb-true, eqb-true, le-leb}
 use Rattle.std.proofs.lemmas.Bool.{not-true}
 use Rattle.std.specs.Int.Count.{ones, ones_in}
 use Rattle.bits.specs.Bits.{flipped}
 use Rattle.bits.specs.Every.{and_left, and_right, every, each}
-use Rattle.line_number.specs.declared.Decoded.TheVariants.{Number, Bad}
-use Rattle.line_number.specs.declared.Encoded.TheVariants.{Bytes}
-use Rattle.line_number.specs.LineNumber.{greatest, number_byte, number_good, encode_of, decode_of}
+use Rattle.line_number.specs.LineNumber.{greatest, number_byte, number_good, two_bytes, encode_of, decode_of}
 
 -- a test that is asked for only where another passes
 then : (a b : Bool) → cond a b true ≡ true → a ≡ true → b ≡ true
@@ -47,19 +45,19 @@ one_flip b i h l g =
 
 -- Numbers.
 
-pub decode_encode : (n : ℕ) → n ≤ greatest → decode_of (number_byte (n / 64)) (number_byte (n % 64)) ≡ Number n
+pub decode_encode : (n : ℕ) → n ≤ greatest → decode_of (number_byte (n / 64)) (number_byte (n % 64)) ≡ Some n
 decode_encode n h =
     let high : n / 64 < 64 = omega arith in
     let low : n % 64 < 64 = omega arith in
     simp (byte_good (n / 64) high, byte_good (n % 64) low)
-    (ap Number (omega (arith, byte_value (n / 64) high, byte_value (n % 64) low)))
+    (ap Some (omega (arith, byte_value (n / 64) high, byte_value (n % 64) low)))
 
-known : (t : Bool) (m n : ℕ) → cond t (Number m) Bad ≡ Number n → (t ≡ true) × (m ≡ n)
+known : (t : Bool) (m n : ℕ) → cond t (Some m) None ≡ Some n → (t ≡ true) × (m ≡ n)
 known true m n h = (refl, cc)
 known false m n h = (cc, cc)
 
 -- bytes that decode to a number are those that it is encoded as
-pub decoded : (a b n : ℕ) → decode_of a b ≡ Number n → (n ≤ greatest) × (encode_of n ≡ Bytes a b)
+pub decoded : (a b n : ℕ) → decode_of a b ≡ Some n → (n ≤ greatest) × (encode_of n ≡ two_bytes a b)
 decoded a b n h =
     let k = known _ _ _ h in
     let p = good_byte a (and_left (number_good a) (number_good b) k.0) in
@@ -70,8 +68,16 @@ decoded a b n h =
     let low : n % 64 ≡ b / 2 = omega arith in
     (l, simp (le-leb n greatest l, high, low, ← p.1, ← q.1))
 
-pub decode_injective : (a b c d n : ℕ) → decode_of a b ≡ Number n → decode_of c d ≡ Number n → (a ≡ c) × (b ≡ d)
+-- a number's bytes are known from the answer
+pub bytes_apart : (a b c d : ℕ) → two_bytes a b ≡ two_bytes c d → (a ≡ c) × (b ≡ d)
+bytes_apart a b c d h =
+    let p : ℕ × ℕ = (a, b) in
+    let q : ℕ × ℕ = (c, d) in
+    let e : p ≡ q = cc in
+    (ap (λ (p : ℕ × ℕ). p.0) e, ap (λ (p : ℕ × ℕ). p.1) e)
+
+pub decode_injective : (a b c d n : ℕ) → decode_of a b ≡ Some n → decode_of c d ≡ Some n → (a ≡ c) × (b ≡ d)
 decode_injective a b c d n h g =
     let p = (decoded a b n h).1 in
     let q = (decoded c d n g).1 in
-    (cc, cc)
+    bytes_apart _ _ _ _ cc

@@ -8,48 +8,34 @@
 ghost use Rattle.std.specs.Prelude.{◌≡◌, ◌<◌};
 ghost use Rattle.line_number.specs.LineNumber.{number_byte, number_good, encode_of, decode_of};
 
-// Two number bytes, read.
-#[derive(Clone, Copy)]
-pub enum Decoded {
-    Number(u16),
-    Bad,
-}
-
-// A number's two bytes, or none.
-#[derive(Clone, Copy)]
-pub enum Encoded {
-    Bytes(u8, u8),
-    TooLarge,
-}
-
 // The greatest line number.
 pub const GREATEST: u16 = 4095;
 
 // The values of six bits, those of a number byte.
 const SIX_BITS: u16 = 64;
 
-// The number's two bytes: TooLarge above 4095.
-pub fn encode(number: u16) -> Encoded
+// The number's two bytes, high six bits first: none above 4095.
+pub fn encode(number: u16) -> Option<(u8, u8)>
     ensures { result ≡ encode_of number }
 {
     if GREATEST < number {
-        return Encoded::TooLarge;
+        return None;
     }
     let high = number_byte((number / SIX_BITS) as u8);
     let low = number_byte((number % SIX_BITS) as u8);
-    Encoded::Bytes(high, low)
+    Some((high, low))
 }
 
-// The number of two bytes: Bad if either of them is no number byte.
-pub fn decode(high: u8, low: u8) -> Decoded
+// The number of two bytes: none if either of them is no number byte.
+pub fn decode(high: u8, low: u8) -> Option<u16>
     ensures { result ≡ decode_of high low }
 {
     if is_good(high) {
         if is_good(low) {
-            return Decoded::Number((high / 2) as u16 * SIX_BITS + (low / 2) as u16);
+            return Some((high / 2) as u16 * SIX_BITS + (low / 2) as u16);
         }
     }
-    Decoded::Bad
+    None
 }
 
 // Whether a byte is a number byte.

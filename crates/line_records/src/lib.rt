@@ -8,7 +8,7 @@
 #![tactic(auto)]
 
 ghost use Rattle.std.specs.Prelude.{◌≡◌, not, ◌≤◌, ◌<◌, length};
-ghost use Rattle.line_records.specs.Lines.{head_size, no_line, front_line, headed_lines, rises, numbers_small, kinds_known, line_end, Next};
+ghost use Rattle.line_records.specs.Lines.{head_size, no_line, front_line, headed_lines, rises, numbers_small, kinds_known, Next};
 
 use line_code::Kind;
 use profile::Profile;
@@ -29,14 +29,15 @@ pub fn some_falls(list: &[u8]) -> bool
     ensures { rises (headed_lines list.now) ≡ not result }
 {
     let mut least: usize = 0;
-    let mut i: usize = 0;
-    while HEAD <= list.len() - i {
-        let n = number(&list[i..]);
+    for line in list.chunks(LINE) {
+        if line.len() < HEAD {
+            return false;
+        }
+        let n = number(line);
         if n < least {
             return true;
         }
         least = n + 1;
-        i = line_end(i, list.len());
     }
     false
 }
@@ -45,32 +46,17 @@ pub fn some_falls(list: &[u8]) -> bool
 pub fn some_number_past(list: &[u8]) -> bool
     ensures { numbers_small (headed_lines list.now) ≡ not result }
 {
-    let mut i: usize = 0;
-    while HEAD <= list.len() - i {
-        if GREATEST < number(&list[i..]) {
-            return true;
-        }
-        i = line_end(i, list.len());
-    }
-    false
+    list.chunks(LINE)
+        .any(|line| HEAD <= line.len() && GREATEST < number(line))
 }
 
 // Whether a kind is not 1 to 5.
 pub fn some_kind_bad(list: &[u8]) -> bool
     ensures { kinds_known (headed_lines list.now) ≡ not result }
 {
-    let mut i: usize = 0;
-    while HEAD <= list.len() - i {
-        let kind = list[i];
-        if kind < Kind::BL.number() {
-            return true;
-        }
-        if Kind::EOF.number() < kind {
-            return true;
-        }
-        i = line_end(i, list.len());
-    }
-    false
+    list.chunks(LINE).any(|line| {
+        HEAD <= line.len() && (line[0] < Kind::BL.number() || Kind::EOF.number() < line[0])
+    })
 }
 
 // The number that a list starts with, or more than any where it has no line.
@@ -81,17 +67,6 @@ pub fn next_number(list: &[u8]) -> usize
         return NO_LINE;
     }
     number(list)
-}
-
-// The place where the line at a place ends: the next line's, or the list's end.
-fn line_end(place: usize, size: usize) -> usize
-    requires { place ≤ size }
-    ensures { result ≡ line_end place size }
-{
-    if size - place < LINE {
-        return size;
-    }
-    place + LINE
 }
 
 // The number of the line at the front.

@@ -58,6 +58,7 @@ impl FrameLister {
             let mut findings = self.findings;
             let mut used: usize = 0;
             let mut at = from;
+            // Not a for: each turn goes on by what the run took.
             while lister_laws::goes_on(input.len(), at, list_news::ROOM, out.len() - used) {
                 let t = capture_bytes::run(head, &mut body, input, at, &mut line);
                 head = t.head;

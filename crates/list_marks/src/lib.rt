@@ -54,6 +54,7 @@ impl MarkLister {
             let mut marks = self.marks;
             let mut used: usize = 0;
             let mut at = from;
+            // Not a for: each turn goes on by what the run took.
             while lister_laws::goes_on(input.len(), at, list_rows::ROW, out.len() - used) {
                 let t = capture_bytes::run(head, &mut body, input, at, &mut line);
                 head = t.head;

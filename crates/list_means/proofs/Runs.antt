@@ -1,4 +1,5 @@
 -- A lister of means goes by what its reader answers: so what every lister does run by run, it does.
+use Rattle.std.specs.Prelude.{Option, None, Some}
 use mathlib.Core.Path.{◌≡◌, refl, ◌∙◌, ap, ap₂}
 use mathlib.Core.Bool.{true, false, ◌&&◌}
 use mathlib.Core.List.{List, []}
@@ -20,15 +21,13 @@ use Rattle.reader_laws.specs.ByRuns.{took}
 use Rattle.mean_rows.specs.MeanRows.{means_room}
 use Rattle.text.specs.Put.{Put}
 use Rattle.lister_laws.proofs.RunLaws.{ByReader, Along, ran, head_is, body_is, answer_is, line_is, along_next, along_end}
-use Rattle.mean_gap.specs.declared.Awaits.{Awaits}
-use Rattle.mean_gap.specs.declared.Awaits.TheVariants as awaits
 use Rattle.list_means.specs.declared.MeanLister.{MeanLister}
 use Rattle.list_means.specs.declared.MeansListed.{MeansListed}
 use Rattle.mean_gap.specs.AwaitedGap.{awaits_after}
 use Rattle.list_means.specs.MeanLister.{answer_row, text_of, with_outcome, outcome_text, after_nibble, nibble_text, means_lists, listed_of, ListsMeans}
 
 -- a lister whose parts are these
-abbrev pub lister : Head → List ℕ → List ℕ → Awaits → MeanLister
+abbrev pub lister : Head → List ℕ → List ℕ → Option ℕ → MeanLister
 lister h body line w = record { reader = record { head = h; body = body }; line = line; awaits = w }
 
 abbrev pub reading : MeanLister → Reader → MeanLister
@@ -47,10 +46,10 @@ unfolding awaits_after
 quiet_next l r = refl
 
 -- no answer has no text
-pub quiet_text : (w : Awaits) (line : List ℕ) → text_of w answers.Nothing line ≡ []
+pub quiet_text : (w : Option ℕ) (line : List ℕ) → text_of w answers.Nothing line ≡ []
 unfolding text_of answer_row
-quiet_text awaits.Line line = refl
-quiet_text (awaits.Gap n) line = refl
+quiet_text None line = refl
+quiet_text (Some n) line = refl
 
 abbrev pub by_reader : ByReader means_lists
 by_reader =
@@ -68,12 +67,12 @@ by_reader =
     }
 
 -- what a run gives, and what is made of its answer
-module _ {l : MeanLister} {bytes d : List ℕ} {from at : ℕ} {h : Head} {body line : List ℕ} {w : Awaits} {used : ℕ} {after : List ℕ}
+module _ {l : MeanLister} {bytes d : List ℕ} {from at : ℕ} {h : Head} {body line : List ℕ} {w : Option ℕ} {used : ℕ} {after : List ℕ}
     (p : Along by_reader l bytes d from at (lister h body line w) used after) (known : (i : ℕ) → get_or bytes i 0 < 256)
     (more : (ltb (at / 2) (length bytes) && leb means_room (length after - used)) ≡ true) (full : length body ≡ longest)
     {n : ℕ} (n_full : n ≡ longest) {r : RunStepped} {body' line' : List ℕ}
     (e : LentRunGives h.profile (lent_run_of h body (drop at (nibbles bytes)) n) r body' line line') where
-  pub means_next : {w' : Awaits} {used' : ℕ} {after' : List ℕ} → w' ≡ awaits_after w r.answer → Put after used (text_of w r.answer line') used' after'
+  pub means_next : {w' : Option ℕ} {used' : ℕ} {after' : List ℕ} → w' ≡ awaits_after w r.answer → Put after used (text_of w r.answer line') used' after'
       → Along by_reader l bytes d from (at + r.taken) (lister r.head body' line' w') used' after'
   means_next {w'} told put =
       let reader_then = (ran p known more full n_full e).reader in
@@ -81,7 +80,7 @@ module _ {l : MeanLister} {bytes d : List ℕ} {from at : ℕ} {h : Head} {body 
       let l_is = line_is p known more full n_full e in
       along_next p known more full n_full e
       (ap₂ (λ (y : Head) (z : List ℕ). lister y z line' w') (head_is p known more full n_full e) (body_is p known more full n_full e)
-      ∙ ap₂ (λ (y : List ℕ) (z : Awaits). record { reader = reader_then; line = y; awaits = z }) l_is (told ∙ ap (awaits_after w) a_is))
+      ∙ ap₂ (λ (y : List ℕ) (z : Option ℕ). record { reader = reader_then; line = y; awaits = z }) l_is (told ∙ ap (awaits_after w) a_is))
       (ap₂ (text_of w) a_is l_is)
       put
 

@@ -1,5 +1,5 @@
 -- A table of half-line means of a VV5300 capture (02, A10): a row for each visible line, and how far a lent buffer lasts.
-use Rattle.std.specs.Prelude.{◌≡◌, cond, List, [], ℕ, ltb, length, take, replicate}
+use Rattle.std.specs.Prelude.{◌≡◌, cond, List, [], ℕ, ltb, length, take, replicate, Option, None, Some}
 use Rattle.line_code.specs.declared.Kind.TheVariants.{VL}
 use Rattle.line_code.specs.LineCode.{kind_number}
 use Rattle.profile.specs.declared.Profile.TheVariants.{VV5300}
@@ -14,15 +14,13 @@ use Rattle.text.specs.Put.{on_front}
 use Rattle.lister_laws.specs.Lists.{Lists, taken_from, ListedText, listed_up_to}
 use Rattle.half_means.specs.HalfMeans.{halves_of}
 use Rattle.mean_rows.specs.MeanRows.{refused_row, means_row, means_room}
-use Rattle.mean_gap.specs.declared.Awaits.{Awaits}
-use Rattle.mean_gap.specs.declared.Awaits.TheVariants as awaits
 use Rattle.mean_gap.specs.AwaitedGap.{awaits_after}
 use Rattle.list_means.specs.declared.MeanLister.{MeanLister}
 use Rattle.list_means.specs.declared.MeansListed.{MeansListed}
 
 -- a fresh VV5300 reader, an empty line buffer, and a line awaited
 abbrev pub fresh_lister : MeanLister
-fresh_lister = record { reader = fresh_reader VV5300; line = replicate longest 0; awaits = awaits.Line }
+fresh_lister = record { reader = fresh_reader VV5300; line = replicate longest 0; awaits = None }
 
 -- What an answer brings.
 
@@ -37,12 +35,12 @@ unfoldable pub answer_row : ℕ → Answer → List ℕ → List ℕ
 answer_row number answer.Nothing line = []
 answer_row number (answer.Line f) line = []
 answer_row number (answer.Gap g) line = gap_row number g line
-answer_row number (answer.Refused n) line = refused_row number n
+answer_row number (answer.Refused r) line = refused_row number r.0
 
 -- the text of an answer, by what is awaited
-unfoldable pub text_of : Awaits → Answer → List ℕ → List ℕ
-text_of awaits.Line a line = []
-text_of (awaits.Gap number) a line = answer_row number a line
+unfoldable pub text_of : Option ℕ → Answer → List ℕ → List ℕ
+text_of None a line = []
+text_of (Some number) a line = answer_row number a line
 
 -- One nibble.
 
@@ -91,7 +89,7 @@ last_text l = text_of l.awaits (answer_for (finish_of l.reader).outcome) l.line
 unfoldable pub finished_of : MeanLister → ℕ → ListedText MeanLister
 finished_of l room =
     cond (ltb room means_room) (record { lister = l; taken = 0; text = [] })
-    (record { lister = record { reader = (finish_of l.reader).reader; line = l.line; awaits = awaits.Line }; taken = 0; text = last_text l })
+    (record { lister = record { reader = (finish_of l.reader).reader; line = l.line; awaits = None }; taken = 0; text = last_text l })
 
 -- what a call gives back, as one sentence: the lister and the count as the definition has them, and its text at the front of the buffer
 pub record ListsMeans (g : ListedText MeanLister) (r : MeansListed) (before after : List ℕ) : Type 0 where

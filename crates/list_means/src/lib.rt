@@ -10,7 +10,7 @@
 ghost use Rattle.std.specs.Prelude.{◌≡◌, ◌+◌, ◌≤◌, length, drop};
 ghost use Rattle.profile.specs.Profile.{longest};
 ghost use Rattle.stream.specs.Written.{nibbles};
-ghost use Rattle.text.specs.Put.{Put};
+ghost use Rattle.text.specs.Put.{Put, AtFront};
 ghost use Rattle.mean_rows.specs.MeanRows.{means_row, means_room};
 ghost use Rattle.list_means.specs.MeanLister.{fresh_lister, gap_row, answer_row, text_of, listed_of, finished_of, ListsMeans};
 
@@ -19,7 +19,9 @@ use line_code::Kind;
 use mean_gap::Awaits;
 use profile::Profile;
 use reader::Reader;
+use refusal::Refusal;
 use stream::{Answer, GapFacts};
+use text::Page;
 
 // A reader, the line buffer that it is lent, and what is awaited of its answers.
 #[derive(Clone, Copy)]
@@ -44,7 +46,7 @@ impl MeanLister {
     {
         let reader = Reader::fresh(Profile::VV5300);
         let line = [0u8; Profile::LONGEST];
-        let awaits = Awaits::Line;
+        let awaits = None;
         MeanLister {
             reader,
             line,
@@ -64,6 +66,7 @@ impl MeanLister {
             let mut awaits = self.awaits;
             let mut used: usize = 0;
             let mut at = from;
+            // Not a for: each turn goes on by what the run took.
             while lister_laws::goes_on(input.len(), at, mean_rows::ROOM, out.len() - used) {
                 let t = capture_bytes::run(head, &mut body, input, at, &mut line);
                 head = t.head;
@@ -110,7 +113,7 @@ impl MeanLister {
         let awaited = self.awaits;
         let used = put_text(awaited, answer, &line, out, 0);
         let reader = fed.reader;
-        let awaits = Awaits::Line;
+        let awaits = None;
         let lister = MeanLister {
             reader,
             line,
@@ -130,8 +133,8 @@ fn put_text(awaits: Awaits, answer: Answer, line: &[u8], out: &mut [u8], at: usi
     ensures { Put out.old at (text_of awaits answer line.now) result out.new }
 {
     match awaits {
-        Awaits::Line => at,
-        Awaits::Gap(number) => put_answer(number, answer, line, out, at),
+        None => at,
+        Some(number) => put_answer(number, answer, line, out, at),
     }
 }
 
@@ -144,7 +147,7 @@ fn put_answer(number: u16, answer: Answer, line: &[u8], out: &mut [u8], at: usiz
         Answer::Nothing => at,
         Answer::Line(_) => at,
         Answer::Gap(gap) => put_gap(number, gap, line, out, at),
-        Answer::Refused(n) => put_row(number, 0, 0, Halves::Refused(n), out, at),
+        Answer::Refused(refusal) => put_row(number, 0, 0, Err(refusal), out, at),
     }
 }
 
@@ -158,9 +161,25 @@ fn put_gap(number: u16, gap: GapFacts, line: &[u8], out: &mut [u8], at: usize) -
 }
 
 // A row has room.
-fn put_row(number: u16, first: u8, second: u8, halves: Halves, out: &mut [u8], at: usize) -> usize
+fn put_row(
+    number: u16,
+    first: u8,
+    second: u8,
+    halves: Result<Halves, Refusal>,
+    out: &mut [u8],
+    at: usize,
+) -> usize
     requires { at + means_room ≤ length out.old }
     ensures { Put out.old at (means_row number first second halves) result out.new }
 {
-    mean_rows::put_row(number, first, second, halves, out, at)
+    at + row(number, first, second, halves, &mut out[at..])
+}
+
+fn row(number: u16, first: u8, second: u8, halves: Result<Halves, Refusal>, out: &mut [u8]) -> usize
+    requires { means_room ≤ length out.old }
+    ensures { AtFront (means_row number first second halves) result out.old out.new }
+{
+    let mut page = Page::new(out);
+    mean_rows::put_row(number, first, second, halves, &mut page);
+    page.used
 }

@@ -1,20 +1,20 @@
 -- What is told of frames: the line on the news of one frame.
-use Rattle.std.specs.Prelude.{cond, List, [], ◌∷◌, ◌++◌, ℕ, eqb, ltb}
+use Rattle.std.specs.Prelude.{cond, List, [], ◌∷◌, ◌++◌, ℕ, eqb, ltb, None, Option, Some}
+use Rattle.refusal.specs.declared.Refusal.{Refusal}
 use Rattle.refusal.specs.Refusal.{not_the_line_due, broken_line}
 use Rattle.text.specs.Text.{ascii, newline, decimal}
 use Rattle.frame_layout.specs.declared.Borders.TheVariants.{On, Off}
-use Rattle.frame_judge.specs.declared.KnownBorders.{KnownBorders}
-use Rattle.frame_judge.specs.declared.KnownBorders.TheVariants.{Unsettled, Settled}
 use Rattle.frame_tally.specs.declared.News.{News}
 use Rattle.frame_tally.specs.declared.News.TheVariants.{Nothing, Complete, Broken, Cut}
+use Rattle.frame_layout.specs.declared.Borders.{Borders}
 
 -- Words.
 
 -- on, off, or unsettled, which no complete frame is
-abbrev pub borders_word : KnownBorders → List ℕ
-borders_word Unsettled = ascii "unsettled"
-borders_word (Settled On) = ascii "on"
-borders_word (Settled Off) = ascii "off"
+abbrev pub borders_word : Option Borders → List ℕ
+borders_word None = ascii "unsettled"
+borders_word (Some On) = ascii "on"
+borders_word (Some Off) = ascii "off"
 
 -- a frame by its number
 abbrev pub frame_words : ℕ → List ℕ
@@ -23,8 +23,13 @@ frame_words frame = ascii "frame " ++ decimal frame
 -- Lines.
 
 -- the line on a complete frame
-unfoldable pub complete_line : ℕ → KnownBorders → ℕ → List ℕ
+unfoldable pub complete_line : ℕ → Option Borders → ℕ → List ℕ
 complete_line frame b mark = frame_words frame ++ (ascii " complete, borders " ++ (borders_word b ++ (ascii ", last line at mark " ++ decimal mark)))
+
+-- a mark's own answer by its number; 0 where it was not refused
+abbrev pub own_number : Option Refusal → ℕ
+own_number None = 0
+own_number (Some r) = r.0
 
 -- a broken line, with the mark's own answer
 abbrev pub broken_line_words : ℕ → List ℕ
@@ -43,7 +48,7 @@ broken_line_of frame mark refusal own =
 unfoldable pub news_line : News → List ℕ
 news_line Nothing = []
 news_line (Complete frame b mark) = complete_line frame b mark ++ (newline ∷ [])
-news_line (Broken frame mark refusal own) = broken_line_of frame mark refusal own ++ (newline ∷ [])
+news_line (Broken frame mark refusal own) = broken_line_of frame mark refusal.0 (own_number own) ++ (newline ∷ [])
 news_line (Cut frame) = frame_words frame ++ ascii " cut off by the end of the capture\n"
 
 -- Lines in a buffer.

@@ -1,20 +1,19 @@
 -- How long the lines on frames can be.
-use Rattle.std.specs.Prelude.{Bool, true, false, cond, [], ℕ, ◌≤◌, eqb, length}
+use Rattle.std.specs.Prelude.{Bool, true, false, cond, [], ℕ, ◌≤◌, eqb, length, None, Option, Some}
 use Rattle.std.proofs.Common.{arith, length-append}
 use Rattle.refusal.specs.Refusal.{not_the_line_due, broken_line}
 use Rattle.text.specs.Text.{ascii}
 use Rattle.text.specs.TextLaws.{decimal_short}
 use Rattle.frame_layout.specs.declared.Borders.TheVariants.{On, Off}
-use Rattle.frame_judge.specs.declared.KnownBorders.{KnownBorders}
-use Rattle.frame_judge.specs.declared.KnownBorders.TheVariants.{Unsettled, Settled}
 use Rattle.frame_tally.specs.declared.News.{News}
 use Rattle.frame_tally.specs.declared.News.TheVariants.{Nothing, Complete, Broken, Cut}
-use Rattle.list_news.specs.NewsLines.{borders_word, broken_line_words, reason_words, complete_line, broken_line_of, news_line, news_room}
+use Rattle.list_news.specs.NewsLines.{borders_word, own_number, broken_line_words, reason_words, complete_line, broken_line_of, news_line, news_room}
+use Rattle.frame_layout.specs.declared.Borders.{Borders}
 
-borders_short : (b : KnownBorders) → length (borders_word b) ≤ 9
-borders_short Unsettled = omega arith
-borders_short (Settled On) = omega arith
-borders_short (Settled Off) = omega arith
+borders_short : (b : Option Borders) → length (borders_word b) ≤ 9
+borders_short None = omega arith
+borders_short (Some On) = omega arith
+borders_short (Some Off) = omega arith
 
 reason_short : (refusal own : ℕ) → length (reason_words refusal own) ≤ 50
 unfolding reason_words
@@ -25,7 +24,7 @@ reason_short refusal own = either (eqb refusal not_the_line_due) (eqb refusal br
     either false true = simp length-append (omega (arith, decimal_short own))
     either false false = omega arith
 
-complete_short : (frame : ℕ) (b : KnownBorders) (mark : ℕ) → length (complete_line frame b mark) ≤ 94
+complete_short : (frame : ℕ) (b : Option Borders) (mark : ℕ) → length (complete_line frame b mark) ≤ 94
 unfolding complete_line
 complete_short frame b mark = simp length-append (omega (arith, decimal_short frame, borders_short b, decimal_short mark))
 
@@ -39,5 +38,5 @@ pub news_short : (n : News) → length (news_line n) ≤ news_room
 unfolding news_line
 news_short Nothing = omega arith
 news_short (Complete frame b mark) = simp length-append (omega (arith, complete_short frame b mark))
-news_short (Broken frame mark refusal own) = simp length-append (omega (arith, broken_short frame mark refusal own))
+news_short (Broken frame mark refusal own) = simp length-append (omega (arith, broken_short frame mark refusal.0 (own_number own)))
 news_short (Cut frame) = simp length-append (omega (arith, decimal_short frame))

@@ -5,14 +5,15 @@
 
 #![tactic(auto)]
 
-ghost use Rattle.std.specs.Prelude.{length};
-ghost use Rattle.text.specs.Put.{Puts, AtFront};
-ghost use Rattle.list_news.specs.NewsLines.{frame_words, borders_word, broken_line_words, reason_words, complete_line, broken_line_of, news_line, news_if_room};
+ghost use Rattle.std.specs.Prelude.{◌≡◌, length};
+ghost use Rattle.text.specs.Pages.{Writes};
+ghost use Rattle.text.specs.Put.{AtFront};
+ghost use Rattle.list_news.specs.NewsLines.{frame_words, borders_word, own_number, broken_line_words, reason_words, complete_line, broken_line_of, news_line, news_if_room};
 
-use frame_judge::KnownBorders;
 use frame_layout::Borders;
 use frame_tally::News;
-use text::{put, put_decimal};
+use refusal::Refusal;
+use text::Page;
 
 // The bytes that no line on a frame exceeds.
 pub const ROOM: usize = 144;
@@ -24,80 +25,97 @@ pub fn news(news: News, out: &mut [u8]) -> usize
     if out.len() < ROOM {
         return 0;
     }
+    let mut page = Page::new(out);
+    put_line(news, &mut page);
+    page.used
+}
+
+fn put_line(news: News, page: &mut Page<'_>)
+    ensures { Writes (news_line news) page.old page.new }
+{
     match news {
-        News::Nothing => 0,
+        News::Nothing => {}
         News::Complete(frame, borders, mark) => {
-            let at = put_complete(frame, borders, mark, out);
-            put(b"\n", out, at)
+            put_complete(frame, borders, mark, page);
+            page.put(b"\n");
         }
         News::Broken(frame, mark, refusal, own) => {
-            let at = put_broken(frame, mark, refusal, own, out);
-            put(b"\n", out, at)
+            put_broken(frame, mark, refusal, own, page);
+            page.put(b"\n");
         }
         News::Cut(frame) => {
-            let at = put_frame(frame, out);
-            put(b" cut off by the end of the capture\n", out, at)
+            put_frame(frame, page);
+            page.put(b" cut off by the end of the capture\n");
         }
     }
 }
 
-fn put_complete(frame: u64, borders: KnownBorders, mark: u64, out: &mut [u8]) -> usize
-    ensures { Puts out.old 0 (complete_line frame borders mark) result out.new }
+fn put_complete(frame: u64, borders: Option<Borders>, mark: u64, page: &mut Page<'_>)
+    ensures { Writes (complete_line frame borders mark) page.old page.new }
 {
-    let at = put_frame(frame, out);
-    let at = put(b" complete, borders ", out, at);
-    let at = put_borders(borders, out, at);
-    let at = put(b", last line at mark ", out, at);
-    put_decimal(mark, out, at)
+    put_frame(frame, page);
+    page.put(b" complete, borders ");
+    put_borders(borders, page);
+    page.put(b", last line at mark ");
+    page.put_decimal(mark);
 }
 
-fn put_broken(frame: u64, mark: u64, refusal: u8, own: u8, out: &mut [u8]) -> usize
-    ensures { Puts out.old 0 (broken_line_of frame mark refusal own) result out.new }
+fn put_broken(frame: u64, mark: u64, refusal: Refusal, own: Option<Refusal>, page: &mut Page<'_>)
+    ensures { Writes (broken_line_of frame mark refusal.0 (own_number own)) page.old page.new }
 {
-    let at = put_frame(frame, out);
-    let at = put(b" broken at mark ", out, at);
-    let at = put_decimal(mark, out, at);
-    let at = put(b": ", out, at);
-    let at = put_decimal(refusal as u64, out, at);
-    put_reason(refusal, own, out, at)
+    put_frame(frame, page);
+    page.put(b" broken at mark ");
+    page.put_decimal(mark);
+    page.put(b": ");
+    page.put_decimal(refusal.0 as u64);
+    put_reason(refusal, own, page);
 }
 
-fn put_frame(frame: u64, out: &mut [u8]) -> usize
-    ensures { Puts out.old 0 (frame_words frame) result out.new }
+fn put_frame(frame: u64, page: &mut Page<'_>)
+    ensures { Writes (frame_words frame) page.old page.new }
 {
-    let at = put(b"frame ", out, 0);
-    put_decimal(frame, out, at)
+    page.put(b"frame ");
+    page.put_decimal(frame);
 }
 
-fn put_borders(borders: KnownBorders, out: &mut [u8], at: usize) -> usize
-    ensures { Puts out.old at (borders_word borders) result out.new }
+fn put_borders(borders: Option<Borders>, page: &mut Page<'_>)
+    ensures { Writes (borders_word borders) page.old page.new }
 {
     match borders {
-        KnownBorders::Unsettled => put(b"unsettled", out, at),
-        KnownBorders::Settled(borders) => match borders {
-            Borders::On => put(b"on", out, at),
-            Borders::Off => put(b"off", out, at),
+        None => page.put(b"unsettled"),
+        Some(borders) => match borders {
+            Borders::On => page.put(b"on"),
+            Borders::Off => page.put(b"off"),
         },
     }
 }
 
 // Why a frame broke.
-fn put_reason(refusal: u8, own: u8, out: &mut [u8], at: usize) -> usize
-    ensures { Puts out.old at (reason_words refusal own) result out.new }
+fn put_reason(refusal: Refusal, own: Option<Refusal>, page: &mut Page<'_>)
+    ensures { Writes (reason_words refusal.0 (own_number own)) page.old page.new }
 {
-    if refusal == refusal::NOT_THE_LINE_DUE {
-        return put(b", not the line due", out, at);
+    if refusal == Refusal::NOT_THE_LINE_DUE {
+        return page.put(b", not the line due");
     }
-    if refusal == refusal::BROKEN_LINE {
-        return put_broken_line(own, out, at);
+    if refusal == Refusal::BROKEN_LINE {
+        return put_broken_line(own, page);
     }
-    at
 }
 
-fn put_broken_line(own: u8, out: &mut [u8], at: usize) -> usize
-    ensures { Puts out.old at (broken_line_words own) result out.new }
+fn put_broken_line(own: Option<Refusal>, page: &mut Page<'_>)
+    ensures { Writes (broken_line_words (own_number own)) page.old page.new }
 {
-    let at = put(b", a broken line (its answer: ", out, at);
-    let at = put_decimal(own as u64, out, at);
-    put(b")", out, at)
+    page.put(b", a broken line (its answer: ");
+    page.put_decimal(own_number(own) as u64);
+    page.put(b")");
+}
+
+// A mark's own answer by its number, as the line on a frame tells it; 0 where it was not refused.
+fn own_number(own: Option<Refusal>) -> u8
+    ensures { result ≡ own_number own }
+{
+    match own {
+        None => 0,
+        Some(refusal) => refusal.0,
+    }
 }

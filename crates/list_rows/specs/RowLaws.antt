@@ -31,4 +31,4 @@ unfolding row_of refused_words
 row_short mark Nothing = omega arith
 row_short mark (Line f) = simp length-append (omega (arith, decimal_short mark, line_short f))
 row_short mark (Gap g) = simp length-append (omega (arith, decimal_short mark))
-row_short mark (Refused n) = simp length-append (omega (arith, decimal_short mark, decimal_short n))
+row_short mark (Refused r) = simp length-append (omega (arith, decimal_short mark, decimal_short r.0))

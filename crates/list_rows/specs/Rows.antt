@@ -49,7 +49,7 @@ unfoldable pub row_of : ℕ → Answer → List ℕ
 row_of mark Nothing = []
 row_of mark (Line f) = row_with mark (line_words f)
 row_of mark (Gap g) = row_with mark gap_words
-row_of mark (Refused n) = row_with mark (refused_words n)
+row_of mark (Refused r) = row_with mark (refused_words r.0)
 
 -- Rows in a buffer.
 

@@ -6,12 +6,13 @@
 #![tactic(auto)]
 
 ghost use Rattle.std.specs.Prelude.{length};
-ghost use Rattle.text.specs.Put.{Puts, AtFront};
+ghost use Rattle.text.specs.Pages.{Writes};
+ghost use Rattle.text.specs.Put.{AtFront};
 ghost use Rattle.list_rows.specs.Rows.{header_row, kind_word, note_word, gap_words, line_words, refused_words, row_with, row_of, row_if_room};
 
 use line_code::Kind;
 use stream::{Answer, LineFacts};
-use text::{put, put_decimal};
+use text::Page;
 
 // The bytes that no row exceeds.
 pub const ROW: usize = 64;
@@ -23,7 +24,9 @@ pub fn header(out: &mut [u8]) -> usize
     if out.len() < ROW {
         return 0;
     }
-    put(b"mark answer number note\n", out, 0)
+    let mut page = Page::new(out);
+    page.put(b"mark answer number note\n");
+    page.used
 }
 
 // Puts the row of a mark, counted from 1, and its answer at the front of a buffer: no row where there is no answer.
@@ -33,68 +36,77 @@ pub fn row(mark: u64, answer: Answer, out: &mut [u8]) -> usize
     if out.len() < ROW {
         return 0;
     }
+    let mut page = Page::new(out);
+    put_row(mark, answer, &mut page);
+    page.used
+}
+
+fn put_row(mark: u64, answer: Answer, page: &mut Page<'_>)
+    ensures { Writes (row_of mark answer) page.old page.new }
+{
     match answer {
-        Answer::Nothing => 0,
-        Answer::Line(facts) => line_row(mark, facts, out),
-        Answer::Gap(_) => gap_row(mark, out),
-        Answer::Refused(number) => refused_row(mark, number as u64, out),
+        Answer::Nothing => {}
+        Answer::Line(facts) => line_row(mark, facts, page),
+        Answer::Gap(_) => gap_row(mark, page),
+        Answer::Refused(refusal) => refused_row(mark, refusal.0 as u64, page),
     }
 }
 
-fn line_row(mark: u64, facts: LineFacts, out: &mut [u8]) -> usize
-    ensures { Puts out.old 0 (row_with mark (line_words facts)) result out.new }
+fn line_row(mark: u64, facts: LineFacts, page: &mut Page<'_>)
+    ensures { Writes (row_with mark (line_words facts)) page.old page.new }
 {
-    let at = put_decimal(mark, out, 0);
-    let at = put(b" ", out, at);
-    let at = put_line(facts, out, at);
-    put(b"\n", out, at)
+    page.put_decimal(mark);
+    page.put(b" ");
+    put_line(facts, page);
+    page.put(b"\n");
 }
 
-fn gap_row(mark: u64, out: &mut [u8]) -> usize
-    ensures { Puts out.old 0 (row_with mark gap_words) result out.new }
+fn gap_row(mark: u64, page: &mut Page<'_>)
+    ensures { Writes (row_with mark gap_words) page.old page.new }
 {
-    let at = put_decimal(mark, out, 0);
-    put(b" GAP - ok\n", out, at)
+    page.put_decimal(mark);
+    page.put(b" GAP - ok\n");
 }
 
-fn refused_row(mark: u64, number: u64, out: &mut [u8]) -> usize
-    ensures { Puts out.old 0 (row_with mark (refused_words number)) result out.new }
+fn refused_row(mark: u64, number: u64, page: &mut Page<'_>)
+    ensures { Writes (row_with mark (refused_words number)) page.old page.new }
 {
-    let at = put_decimal(mark, out, 0);
-    let at = put(b" REFUSED - ", out, at);
-    let at = put_decimal(number, out, at);
-    put(b"\n", out, at)
+    page.put_decimal(mark);
+    page.put(b" REFUSED - ");
+    page.put_decimal(number);
+    page.put(b"\n");
 }
 
 // What a row says of a line: kind, number, note.
-fn put_line(facts: LineFacts, out: &mut [u8], at: usize) -> usize
-    ensures { Puts out.old at (line_words facts) result out.new }
+fn put_line(facts: LineFacts, page: &mut Page<'_>)
+    ensures { Writes (line_words facts) page.old page.new }
 {
     let kind = facts.kind;
-    let at = put_kind(kind, out, at);
-    let at = put(b" ", out, at);
-    let at = put_decimal(facts.number as u64, out, at);
-    let at = put(b" ", out, at);
-    put_note(facts.is_repaired(), out, at)
+    put_kind(kind, page);
+    page.put(b" ");
+    page.put_decimal(facts.number as u64);
+    page.put(b" ");
+    put_note(facts.is_repaired(), page);
 }
 
-fn put_kind(kind: Kind, out: &mut [u8], at: usize) -> usize
-    ensures { Puts out.old at (kind_word kind) result out.new }
+fn put_kind(kind: Kind, page: &mut Page<'_>)
+    ensures { Writes (kind_word kind) page.old page.new }
 {
     match kind {
-        Kind::BL => put(b"BL", out, at),
-        Kind::BK => put(b"BK", out, at),
-        Kind::VL => put(b"VL", out, at),
-        Kind::SOF => put(b"SOF", out, at),
-        Kind::EOF => put(b"EOF", out, at),
+        Kind::BL => page.put(b"BL"),
+        Kind::BK => page.put(b"BK"),
+        Kind::VL => page.put(b"VL"),
+        Kind::SOF => page.put(b"SOF"),
+        Kind::EOF => page.put(b"EOF"),
     }
 }
 
-fn put_note(repaired: bool, out: &mut [u8], at: usize) -> usize
-    ensures { Puts out.old at (note_word repaired) result out.new }
+fn put_note(repaired: bool, page: &mut Page<'_>)
+    ensures { Writes (note_word repaired) page.old page.new }
 {
     if repaired {
-        return put(b"repaired", out, at);
+        page.put(b"repaired");
+    } else {
+        page.put(b"clean");
     }
-    put(b"clean", out, at)
 }

@@ -1,11 +1,11 @@
 -- An open mark is judged by the reading of its code, and so is what it is to the next one.
+use Rattle.std.specs.Prelude.{Option as Optional}
 use mathlib.Core.Path.{◌≡◌, refl, sym, ap, ap₂, ◌∙◌}
 use mathlib.Core.Bool.{Bool}
 use mathlib.Core.List.{List}
 use mathlib.Core.Option.{Option, none}
 use Prim.Native.Nat.{ℕ}
 use Rattle.line_code.specs.declared.Reading.{Reading}
-use Rattle.line_code.specs.declared.LineKind.{LineKind}
 use Rattle.line_code.specs.LineCode.{reading_of, kind_of}
 use Rattle.profile.specs.declared.Profile.{Profile}
 use Rattle.stream.specs.declared.Before.{Before}
@@ -18,6 +18,7 @@ use Rattle.stream.specs.AnswersLaws.{line_said}
 use Rattle.stream.specs.Stream.{kind_at, before_by}
 use Rattle.mark_text.specs.declared.Kept.{Kept}
 use Rattle.mark_answer.specs.KeptAnswer.{kept_answer, kept_by_reading}
+use Rattle.line_code.specs.declared.Kind.{Kind}
 
 pub by_reading_lem : (p : Profile) (len : ℕ) (t : Kept) (body : List ℕ) (next : Option ℕ) {m : Mark} {before : Before} {code : ℕ} {r : Reading}
     → m ≡ Open before code → r ≡ reading_of code → kept_answer p m len t body next ≡ kept_by_reading p before r len t body next
@@ -25,7 +26,7 @@ unfolding kept_answer
 by_reading_lem p len t body next e f = rw (e, f)
 
 -- what the mark is to the next one, by that reading and the answer
-pub left_by_lem : (o : Outcome) {m : Mark} {before : Before} {code : ℕ} {r : Reading} {k : LineKind} {a : Answer} {handed : Bool}
+pub left_by_lem : (o : Outcome) {m : Mark} {before : Before} {code : ℕ} {r : Reading} {k : Optional Kind} {a : Answer} {handed : Bool}
     → m ≡ Open before code → r ≡ reading_of code → k ≡ kind_of r → a ≡ answer_for o → handed ≡ is_line_answer a
     → before_by k handed ≡ before_by (kind_at m) (is_line o)
 left_by_lem o e f g h i = ap₂ before_by (g ∙ ap kind_of f ∙ sym (ap kind_at e)) (i ∙ ap is_line_answer h ∙ line_said o)

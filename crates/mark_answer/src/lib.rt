@@ -17,6 +17,7 @@ use line_code::{Meaning, Reading, Repair};
 use mark_text::Kept;
 use period::Nibbles;
 use profile::Profile;
+use refusal::Refusal;
 use stream::{Answer, Before, Mark};
 
 // An open mark that the next one closes: its answer, and what it is to that one.
@@ -65,7 +66,7 @@ pub fn at_finish(profile: Profile, mark: Mark, length: u32, kept: Kept) -> Answe
             let reading = line_code::read(code);
             match reading {
                 Reading::Says(m, _) => last_answer(profile, before, m, length, kept),
-                Reading::Damaged => Answer::Refused(refusal::DAMAGED_CODE),
+                Reading::Damaged => Answer::Refused(Refusal::DAMAGED_CODE),
             }
         }
     }
@@ -87,7 +88,7 @@ fn reading_answer(
         Reading::Says(m, repair) => meaning_answer(
             profile, before, m, repair, length, kept, body, next,
         ),
-        Reading::Damaged => Answer::Refused(refusal::DAMAGED_CODE),
+        Reading::Damaged => Answer::Refused(Refusal::DAMAGED_CODE),
     }
 }
 
@@ -111,8 +112,8 @@ fn meaning_answer(
         Meaning::Line(kind) => line_answer::line_answer(
             profile, kind, start, length, kept, body, next,
         ),
-        Meaning::ReservedEC => Answer::Refused(refusal::RESERVED_CODE),
-        Meaning::ReservedF1 => Answer::Refused(refusal::RESERVED_CODE),
+        Meaning::ReservedEC => Answer::Refused(Refusal::RESERVED_CODE),
+        Meaning::ReservedF1 => Answer::Refused(Refusal::RESERVED_CODE),
     }
 }
 
@@ -124,8 +125,8 @@ fn last_answer(profile: Profile, before: Before, m: Meaning, length: u32, kept: 
             let period = Nibbles(0);
             gap_answer::end_answer(profile, before, period, length, kept)
         }
-        Meaning::Line(_) => Answer::Refused(refusal::UNFINISHED_LINE),
-        Meaning::ReservedEC => Answer::Refused(refusal::RESERVED_CODE),
-        Meaning::ReservedF1 => Answer::Refused(refusal::RESERVED_CODE),
+        Meaning::Line(_) => Answer::Refused(Refusal::UNFINISHED_LINE),
+        Meaning::ReservedEC => Answer::Refused(Refusal::RESERVED_CODE),
+        Meaning::ReservedF1 => Answer::Refused(Refusal::RESERVED_CODE),
     }
 }

@@ -42,7 +42,7 @@ abbrev pub refusal_in : Answer → ℕ
 refusal_in answer.Nothing = 0
 refusal_in (answer.Line f) = 0
 refusal_in (answer.Gap g) = 0
-refusal_in (answer.Refused n) = n
+refusal_in (answer.Refused r) = r.0
 
 -- with its answer: its place in the capture is counted without the four bytes of the end of line before it
 abbrev pub located : Finder → Answer → Located

@@ -25,11 +25,11 @@ use text::put;
 #[derive(Clone, Copy)]
 pub struct Located {
     pub profile: Profile,
-    // The number of the kind of the mark before it, 0 for none.
+    // The number of the kind of the mark before it, 0 for none: no Option of the kind, since reason::explain takes this number.
     pub before: u8,
     // Its own number, counted from 1 as a listing does.
     pub number: u64,
-    // The number that the reader refuses it with, 0 for a good line or gap.
+    // The number that the reader refuses it with, 0 for a good line or gap: no Option, since why_words::put_explained takes it.
     pub refusal: u8,
     // The place in the capture of the byte that it begins in, and whether it begins at the byte's low nibble.
     pub place: u64,
@@ -214,16 +214,11 @@ pub fn carry(buf: &mut [u8], n: usize)
 }
 
 // Whether a mark is asked for: the one with the number wanted, or, where that is 0, any that is refused. Mark 0 is none of the capture's.
+#[tactic(auto, unfolding(crate::specs::MarkFinder::is_wanted))]
 pub fn is_wanted(mark: Located, wanted: u64) -> bool
     ensures { result ≡ is_wanted mark wanted }
 {
-    if mark.number == 0 {
-        return false;
-    }
-    if wanted == 0 {
-        return 0 < mark.refusal;
-    }
-    mark.number == wanted
+    mark.number != 0 && (mark.number == wanted || (wanted == 0 && 0 < mark.refusal))
 }
 
 // Puts the bytes of a piece from one place up to another behind the first n of those held, as far as there is room, and gives how many are
@@ -264,7 +259,7 @@ fn refusal_in(answer: Answer) -> u8
         Answer::Nothing => 0,
         Answer::Line(_) => 0,
         Answer::Gap(_) => 0,
-        Answer::Refused(number) => number,
+        Answer::Refused(refusal) => refusal.0,
     }
 }
 

@@ -101,14 +101,9 @@ fn byte_at(from: u32, place: u32, nibble: u8, byte: u8) -> u8
     byte
 }
 
+#[tactic(auto, unfolding(crate::specs::MarkText::stray_at))]
 fn stray_at(profile: Profile, place: u32, nibble: u8, stray: bool) -> bool
     ensures { result ≡ stray_at profile place nibble stray }
 {
-    if stray {
-        return true;
-    }
-    if profile.gap_start() <= place {
-        return nibble != 15;
-    }
-    false
+    stray || (profile.gap_start() <= place && nibble != 15)
 }

@@ -10,12 +10,8 @@ ghost use Rattle.mean_gap.specs.AwaitedGap.{after_line, awaits_after};
 use line_code::Kind;
 use stream::{Answer, LineFacts};
 
-// What is awaited: a visible line; or the gap of the visible line with this number.
-#[derive(Clone, Copy)]
-pub enum Awaits {
-    Line,
-    Gap(u16),
-}
+// The number of the visible line whose gap is awaited; where there is none, a visible line is awaited.
+pub type Awaits = Option<u16>;
 
 // What is awaited after an answer.
 pub fn after(awaits: Awaits, answer: Answer) -> Awaits
@@ -24,8 +20,8 @@ pub fn after(awaits: Awaits, answer: Answer) -> Awaits
     match answer {
         Answer::Nothing => awaits,
         Answer::Line(facts) => after_line(facts),
-        Answer::Gap(_) => Awaits::Line,
-        Answer::Refused(_) => Awaits::Line,
+        Answer::Gap(_) => None,
+        Answer::Refused(_) => None,
     }
 }
 
@@ -34,10 +30,10 @@ fn after_line(facts: LineFacts) -> Awaits
 {
     let kind = facts.kind;
     match kind {
-        Kind::BL => Awaits::Line,
-        Kind::BK => Awaits::Line,
-        Kind::VL => Awaits::Gap(facts.number),
-        Kind::SOF => Awaits::Line,
-        Kind::EOF => Awaits::Line,
+        Kind::BL => None,
+        Kind::BK => None,
+        Kind::VL => Some(facts.number),
+        Kind::SOF => None,
+        Kind::EOF => None,
     }
 }

@@ -1,10 +1,10 @@
 -- The rows of a table of half-line means (02, A10): a row for each visible line.
-use Rattle.std.specs.Prelude.{cond, List, [], ◌∷◌, ◌++◌, ℕ, zero, suc, ◌*◌, ◌/◌, ◌%◌, eqb, ℤ, pos, negsuc}
+use Rattle.std.specs.Prelude.{cond, List, [], ◌∷◌, ◌++◌, ℕ, zero, suc, ◌*◌, ◌/◌, ◌%◌, eqb, ℤ, pos, negsuc, Result, Ok, Err}
+use Rattle.refusal.specs.declared.Refusal.{Refusal}
 use Rattle.refusal.specs.Refusal.{bad_gap}
 use Rattle.text.specs.Text.{ascii, space, newline, digit, decimal}
 use Rattle.half_means.specs.declared.Sums.{Sums}
 use Rattle.half_means.specs.declared.Halves.{Halves}
-use Rattle.half_means.specs.declared.Halves.TheVariants.{Given, Refused}
 use Rattle.half_means.specs.HalfMeans.{half_length, difference}
 
 -- Numbers.
@@ -74,9 +74,9 @@ unfoldable pub refused_row : ℕ → ℕ → List ℕ
 refused_row number n = decimal number ++ (ascii " refused: " ++ (decimal n ++ (gap_refusal_words n ++ (newline ∷ []))))
 
 -- the row of a visible line, with the sensor's means and what is said of its halves
-unfoldable pub means_row : ℕ → ℕ → ℕ → Halves → List ℕ
-means_row number a b (Given m s d e) = given_row number a b s
-means_row number a b (Refused n) = refused_row number n
+unfoldable pub means_row : ℕ → ℕ → ℕ → Result Halves Refusal → List ℕ
+means_row number a b (Ok h) = given_row number a b h.sums
+means_row number a b (Err r) = refused_row number r.0
 
 -- the bytes that no row exceeds
 abbrev pub means_room : ℕ

@@ -1,17 +1,17 @@
 -- Laws of the rows: how long they can be, and that what they say of a line is exact.
-use Rattle.std.specs.Prelude.{◌≡◌, refl, Bool, true, false, cond, List, [], ◌∷◌, ◌++◌, ℕ, zero, suc, ◌+◌, ◌-◌, ◌*◌, ◌/◌, ◌%◌, ◌≤◌, ◌<◌, ◌^◌, ltb, eqb, ℤ, pos, negsuc, ◌-ℤ◌, Float, length}
+use Rattle.std.specs.Prelude.{◌≡◌, refl, Bool, true, false, cond, List, [], ◌∷◌, ◌++◌, ℕ, zero, suc, ◌+◌, ◌-◌, ◌*◌, ◌/◌, ◌%◌, ◌≤◌, ◌<◌, ◌^◌, ltb, eqb, ℤ, pos, negsuc, ◌-ℤ◌, Float, length, Result, Ok, Err}
 use Rattle.std.proofs.Common.{sym, ap, ap₂, subst, ◌∙◌, mul_assoc, mul_right_comm, arith, lt-ltb, le-ltb, length-append}
 use Rattle.std.specs.Float.{nan, inf, fin}
 use Rattle.std.specs.Float.Ieee.{up, down}
 use Rattle.std.specs.Float.Ieee.Exact.{HasValue}
+use Rattle.refusal.specs.declared.Refusal.{Refusal}
 use Rattle.refusal.specs.Refusal.{bad_gap}
 use Rattle.text.specs.Text.{ascii, space, newline, digit, digits, decimal}
 use Rattle.text.specs.TextLaws.{decimal_short}
 use Rattle.half_means.specs.declared.Means.{Means}
 use Rattle.half_means.specs.declared.Sums.{Sums}
 use Rattle.half_means.specs.declared.Halves.{Halves}
-use Rattle.half_means.specs.declared.Halves.TheVariants.{Given, Refused}
-use Rattle.half_means.specs.HalfMeans.{half_length, first_sum, second_sum, difference, halves_of}
+use Rattle.half_means.specs.HalfMeans.{half_length, first_sum, second_sum, difference, given, halves_of}
 use Rattle.half_means.specs.HalfMeansLaws.{given_exact}
 use Rattle.mean_rows.specs.MeanRows.{places, minus_sign, signed, millionths, whole_part, fraction, mean_text, start_words, means_words, differences_words, given_row, gap_refusal_words, refused_row, means_row, means_room}
 
@@ -39,22 +39,22 @@ reason_short n = either (eqb n bad_gap)
     either false = omega arith
 
 -- no row is longer than the room that is asked for it
-pub row_short : (number a b : ℕ) (h : Halves) → length (means_row number a b h) ≤ means_room
+pub row_short : (number a b : ℕ) (h : Result Halves Refusal) → length (means_row number a b h) ≤ means_room
 unfolding means_row given_row start_words means_words differences_words refused_row
-row_short number a b (Given m s d e) =
+row_short number a b (Ok h) =
     simp length-append (
     omega (
       arith,
       decimal_short number,
       decimal_short a,
       decimal_short b,
-      mean_short s.first,
-      mean_short s.second,
-      signed_short (difference a s.first),
-      signed_short (difference b s.second),
+      mean_short h.sums.first,
+      mean_short h.sums.second,
+      signed_short (difference a h.sums.first),
+      signed_short (difference b h.sums.second),
     )
     )
-row_short number a b (Refused n) = simp length-append (omega (arith, decimal_short number, decimal_short n, reason_short n))
+row_short number a b (Err r) = simp length-append (omega (arith, decimal_short number, decimal_short r.0, reason_short r.0))
 
 -- Signs.
 
@@ -147,7 +147,7 @@ pub record Tells (row : List ℕ) (number a b : ℕ) (m : Means) (d e : ℤ) : T
 
 -- whatever is given of a line, its row tells
 pub row_tells : (number profile kind : ℕ) (body : List ℕ) (a b : ℕ) (m : Means) (s : Sums) (d e : ℤ)
-    → halves_of profile kind body a b ≡ Given m s d e → Tells (means_row number a b (Given m s d e)) number a b m d e
+    → halves_of profile kind body a b ≡ given m s d e → Tells (means_row number a b (given m s d e)) number a b m d e
 unfolding means_row given_row means_words differences_words
 row_tells number profile kind body a b m s d e h =
     let g = given_exact profile kind body a b m s d e h in

@@ -5,11 +5,11 @@
 
 #![tactic(auto)]
 
-use command::Input;
 use command_words::Asked;
-use host_calls::Source;
 use list_means::MeanLister;
+use piecewise::{Listed, Lister};
 use profile::Profile;
+use text::Page;
 
 fn main(rt: HostRuntime) {
     let asked = command::sensor_and_file(rt);
@@ -22,158 +22,61 @@ fn main(rt: HostRuntime) {
 
 // Whether all words were understood, and no other sensor was named.
 fn is_for_means(asked: Asked) -> bool {
-    let profile = asked.profile;
-    if asked.named {
-        match profile {
-            Profile::VV5404 => {
-                return false;
-            }
-            Profile::VV5300 => {}
-        }
-    }
-    asked.understood
+    let other = asked.named && matches!(asked.profile, Profile::VV5404);
+    asked.understood && !other
 }
 
-// Writes the table of the file at a place among the arguments, or of standard input for 0.
+// Writes the table of the file at a place among the arguments, or of standard input for 0, and says so where no row has come.
 fn table(rt: HostRuntime, file: usize) {
-    let mut name = [0u8; host_calls::ROOM];
-    let Input { source, length } = command::open_capture(rt, file, &mut name);
-    let Some(mut source) = source else {
-        return;
+    let fresh = Rows {
+        lister: MeanLister::new(),
+        come: false,
     };
-    if name.len() < length {
-        return;
-    }
-    write_rows(rt, &mut source, &name[..length]);
-}
-
-// Writes the whole table. Its first piece is read before the header is written: an input that can't be read is told, and nothing is listed.
-fn write_rows(rt: HostRuntime, source: &mut Source, name: &[u8]) {
-    let mut buf = [0u8; host_calls::LARGE_ROOM];
-    let Some(n) = host_calls::read_or_tell(rt, source, name, &mut buf) else {
-        return;
-    };
-    if write_header(rt) {
-        list_from(rt, &buf[..n], source, name);
+    if let Some(end) = piecewise::list_capture(rt, fresh, file) {
+        if !end.come {
+            command::complain(
+                rt,
+                b"no visible line of a VV5300 was read: list vv5300 shows what came\n",
+            );
+        }
     }
 }
 
-fn write_header(rt: HostRuntime) -> bool {
-    let mut out = [0u8; host_calls::ROOM];
-    let used = mean_rows::put_header(&mut out, 0);
-    if out.len() < used {
-        return false;
-    }
-    write(rt, &out[..used])
-}
-
-// Lists an input of which the first piece has been read.
-fn list_from(rt: HostRuntime, piece: &[u8], source: &mut Source, name: &[u8]) {
-    let lister = MeanLister::new();
-    let begun = list_piece(rt, lister, false, piece);
-    let end = list_rest(rt, begun, source, name);
-    if end.failed {
-        return;
-    }
-    let lister = end.lister;
-    write_end(rt, lister, end.rows);
-}
-
-// Writes the last row, and says so where no row has come.
-fn write_end(rt: HostRuntime, lister: MeanLister, rows: bool) {
-    let mut out = [0u8; host_calls::ROOM];
-    let last = lister.finish(&mut out);
-    let used = last.used;
-    write(rt, &out[..used]);
-    if rows {
-        return;
-    }
-    if used == 0 {
-        command::complain(
-            rt,
-            b"no visible line of a VV5300 was read: list vv5300 shows what came\n",
-        );
-    }
-}
-
-// A lister, whether a row has come, whether to go on, and whether a read or a write has failed.
+// The names of the columns, and a row for each visible line; and whether a row has come.
 #[derive(Clone, Copy)]
-struct Turn {
+struct Rows {
     lister: MeanLister,
-    rows: bool,
-    more: bool,
-    failed: bool,
+    come: bool,
 }
 
-// Lists the rest of an input. Nothing says that an input ends, so the loop counts its turns, to a number that no run reaches.
-fn list_rest(rt: HostRuntime, begun: Turn, source: &mut Source, name: &[u8]) -> Turn {
-    let mut turn = begun;
-    for _ in 0..u64::MAX {
-        let l = turn.lister;
-        if turn.more {
-            turn = list_some(rt, l, turn.rows, source, name);
-        } else {
-            return turn;
+impl Lister for Rows {
+    fn head(self, out: &mut [u8]) -> usize {
+        let mut page = Page::new(out);
+        mean_rows::put_header(&mut page);
+        page.used
+    }
+
+    fn list(self, piece: &[u8], from: usize, out: &mut [u8]) -> Listed<Rows> {
+        let done = self.lister.list(piece, from, out);
+        Listed {
+            lister: Rows {
+                lister: done.lister,
+                come: self.come || 0 < done.used,
+            },
+            taken: done.taken,
+            used: done.used,
         }
     }
-    turn
-}
 
-// Reads once, and lists what came.
-fn list_some(
-    rt: HostRuntime,
-    lister: MeanLister,
-    rows: bool,
-    source: &mut Source,
-    name: &[u8],
-) -> Turn {
-    let mut buf = [0u8; host_calls::LARGE_ROOM];
-    let Some(n) = host_calls::read_or_tell(rt, source, name, &mut buf) else {
-        return failed(lister, rows);
-    };
-    list_piece(rt, lister, rows, &buf[..n])
-}
-
-// Lists a piece, nibble after nibble, and writes its text as often as it fills the buffer. An empty piece is the input's end.
-fn list_piece(rt: HostRuntime, lister: MeanLister, before: bool, piece: &[u8]) -> Turn {
-    let mut out = [0u8; host_calls::LARGE_ROOM];
-    let mut l = lister;
-    let mut rows = before;
-    let mut at: usize = 0;
-    while at < 2 * piece.len() {
-        let done = l.list(piece, at, &mut out);
-        let used = done.used;
-        l = done.lister;
-        if used > 0 {
-            rows = true;
-        }
-        if write(rt, &out[..used]) {
-            if done.taken == 0 {
-                return failed(l, rows);
-            }
-            at += done.taken;
-        } else {
-            return failed(l, rows);
+    fn finish(self, out: &mut [u8]) -> Listed<Rows> {
+        let last = self.lister.finish(out);
+        Listed {
+            lister: Rows {
+                lister: last.lister,
+                come: self.come || 0 < last.used,
+            },
+            taken: last.taken,
+            used: last.used,
         }
     }
-    Turn {
-        lister: l,
-        rows,
-        more: 0 < piece.len(),
-        failed: false,
-    }
-}
-
-fn failed(lister: MeanLister, rows: bool) -> Turn {
-    Turn {
-        lister,
-        rows,
-        more: false,
-        failed: true,
-    }
-}
-
-// Writes a text, or says why it cannot.
-fn write(rt: HostRuntime, text: &[u8]) -> bool {
-    host_calls::print_or_tell(rt, text)
 }

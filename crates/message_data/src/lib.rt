@@ -24,10 +24,7 @@ pub fn runs_past(increment: bool, index: u8, bytes: &[u8]) -> bool
     if LAST_INDEX < index {
         return 0 < bytes.len();
     }
-    if increment {
-        return ((REGISTERS - index) as usize) < bytes.len();
-    }
-    false
+    increment && ((REGISTERS - index) as usize) < bytes.len()
 }
 
 // The index that data leaves.
@@ -62,16 +59,14 @@ pub fn some_differs(registers: &[u8; 128], increment: bool, index: u8, bytes: &[
     ensures { result ≡ some_differs increment index bytes.now registers.now }
 {
     let mut at = index;
-    let mut i: usize = 0;
-    while i < bytes.len() {
+    for byte in bytes {
         if LAST_INDEX < at {
             return false;
         }
-        if differs(registers, at, bytes[i]) {
+        if differs(registers, at, *byte) {
             return true;
         }
         at = next(increment, at);
-        i += 1;
     }
     false
 }
@@ -82,11 +77,9 @@ fn put_all(registers: &mut [u8; 128], increment: bool, index: u8, bytes: &[u8])
     ensures { registers.new ≡ stored increment index bytes.now registers.old }
 {
     let mut at = index;
-    let mut i: usize = 0;
-    while i < bytes.len() {
-        put(registers, at, bytes[i]);
+    for byte in bytes {
+        put(registers, at, *byte);
         at = next(increment, at);
-        i += 1;
     }
 }
 
@@ -117,11 +110,5 @@ fn differs(registers: &[u8; 128], index: u8, byte: u8) -> bool
     requires { index ≤ last_index }
     ensures { result ≡ differs registers.now index byte }
 {
-    if FIRST_SETTABLE <= index {
-        if registers[index as usize] == byte {
-            return false;
-        }
-        return true;
-    }
-    false
+    FIRST_SETTABLE <= index && registers[index as usize] != byte
 }

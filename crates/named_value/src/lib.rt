@@ -12,44 +12,25 @@ ghost use Rattle.named_value.specs.Number.{is_blank, past_blanks, ends_word, fir
 const NO_NUMBER: u32 = 65536;
 
 // Whether a character is a space, a tab or a carriage return.
+#[tactic(auto, unfolding(crate::specs::Number::is_blank))]
 pub fn is_blank(c: u8) -> bool
     ensures { result ≡ is_blank c }
 {
-    if c == b' ' {
-        return true;
-    }
-    if c == b'\t' {
-        return true;
-    }
-    c == b'\r'
+    matches!(c, b' ' | b'\t' | b'\r')
 }
 
 // Whether a line's first word is this one.
 pub fn begins(line: &[u8], word: &[u8]) -> bool
     ensures { result ≡ first_word_is word.now line.now }
 {
-    let mut i: usize = 0;
-    while i < word.len() {
-        if line.len() <= i {
-            return false;
-        }
-        if line[i] == word[i] {
-            i += 1;
-        } else {
-            return false;
-        }
-    }
-    ends_word(line, i)
+    line.starts_with(word) && ends_word(line, word.len())
 }
 
 // Whether a word of a line may end before a place: the line ends there, or a blank stands there.
 fn ends_word(line: &[u8], at: usize) -> bool
     ensures { result ≡ ends_word (drop at line.now) }
 {
-    if line.len() <= at {
-        return true;
-    }
-    is_blank(line[at])
+    line.len() <= at || is_blank(line[at])
 }
 
 // The value that stands in a line after a name of a length, and blanks.
@@ -69,15 +50,12 @@ pub fn value(line: &[u8], at: usize) -> u32
 fn past_blanks(line: &[u8], at: usize) -> usize
     ensures { drop result line.now ≡ past_blanks (drop at line.now) }
 {
-    let mut i = at;
-    while i < line.len() {
-        if is_blank(line[i]) {
-            i += 1;
-        } else {
+    for i in at..line.len() {
+        if !is_blank(line[i]) {
             return i;
         }
     }
-    i
+    line.len()
 }
 
 // The number that a line is from a place on, up to 65,535.
@@ -88,10 +66,8 @@ pub fn number(line: &[u8], at: usize) -> u32
         return NO_NUMBER;
     }
     let mut n: u32 = 0;
-    let mut i = at;
-    while i < line.len() {
-        n = digit_onto(n, line[i]);
-        i += 1;
+    for c in &line[at..] {
+        n = digit_onto(n, *c);
     }
     n
 }

@@ -1,11 +1,10 @@
 -- Line periods (02, A7): nibbles and pixel periods, two units.
-use Rattle.std.specs.Prelude.{cond, ℕ, ◌/◌, ◌%◌, eqb}
+use Rattle.std.specs.Prelude.{cond, ℕ, ◌/◌, ◌%◌, eqb, None, Option as Optional, Some}
 use Rattle.std.proofs.Math.Option.{Option, none, some}
 use Rattle.period.specs.declared.Nibbles.{Nibbles}
-use Rattle.period.specs.declared.WholePeriods.{WholePeriods}
-use Rattle.period.specs.declared.WholePeriods.TheVariants.{Of, Odd}
 use Rattle.period.specs.declared.Rate.{Rate}
 use Rattle.period.specs.declared.Rate.TheVariants.{Thirty, TwentyFive, Unnamed}
+use Rattle.period.specs.declared.Periods.{Periods}
 
 -- the largest count of nibbles that is told: a larger one is held there
 abbrev pub most_nibbles : ℕ
@@ -13,9 +12,9 @@ most_nibbles = 65535
 
 -- the paper's values of the program's answers: how many periods, none where that is not whole; how many frames a second, none where a period
 -- is unnamed
-abbrev pub periods_in : WholePeriods → Option ℕ
-periods_in (Of p) = some p.0
-periods_in Odd = none
+abbrev pub periods_in : Optional Periods → Option ℕ
+periods_in (Some p) = some p.0
+periods_in None = none
 
 -- frames a second, of a period with a name
 abbrev pub frames_in : Rate → Option ℕ

@@ -14,13 +14,6 @@ pub struct Nibbles(pub u16);
 #[derive(Clone, Copy)]
 pub struct Periods(pub u16);
 
-// A count of nibbles in periods: an odd one is none.
-#[derive(Clone, Copy)]
-pub enum WholePeriods {
-    Of(Periods),
-    Odd,
-}
-
 // The frames a second that a line period is named after.
 #[derive(Clone, Copy)]
 pub enum Rate {
@@ -33,16 +26,16 @@ impl Nibbles {
     // The largest count: a larger one is held there.
     pub const MOST: u16 = 65535;
 
-    // In whole periods.
-    pub fn whole(self) -> WholePeriods
+    // In whole periods: an odd count is none.
+    pub fn whole(self) -> Option<Periods>
         ensures { periods_in result ≡ whole_of self }
     {
         let n = self.0;
         if n % 2 == 0 {
             let periods = Periods(n / 2);
-            return WholePeriods::Of(periods);
+            return Some(periods);
         }
-        WholePeriods::Odd
+        None
     }
 
     // Its name as a line period.

@@ -1,25 +1,14 @@
--- Pixels and a file's start are judged byte by byte.
-use mathlib.Core.Path.{◌≡◌}
-use mathlib.Core.Bool.{true, ◌&&◌}
-use mathlib.Core.List.{List}
-use Prim.Native.Nat.{ℕ, ◌+◌, ◌<◌, ◌≤◌}
-use native.Mathlib.Numerals.{add-one}
-use lib.Dec.{eqb}
-use lib.ListN.{length, drop, get_or, drop_of_length-le}
-use lib.Seq.{drop-cons}
-use Rattle.profile.specs.Layout.{is_pixel}
-use Rattle.picture_file.specs.PictureFile.{pixels, starts}
+-- A file's start is judged byte by byte, whichever of the two equal bytes is named first.
+use Rattle.std.specs.Prelude.{◌≡◌, refl, ◌&&◌, List, [], ◌∷◌, ℕ, eqb}
+use Rattle.std.specs.List.{starts_with}
+use Rattle.std.proofs.Common.{sym, ap, ◌∙◌}
+use Rattle.std.proofs.lemmas.Bool.Decides.{same_from_decides, Decides-eqb}
+use Rattle.picture_file.specs.PictureFile.{starts}
 
-module _ (bytes : List ℕ) (i : ℕ) where
-  pub pixels_step : i < length bytes → pixels (drop i bytes) ≡ (is_pixel (get_or bytes i 0) && pixels (drop (i + 1) bytes))
-  pixels_step h = rw (add-one, drop-cons bytes i 0)
+eqb_turned : (a b : ℕ) → eqb a b ≡ eqb b a
+eqb_turned a b = same_from_decides (eqb a b) (eqb b a) (Decides-eqb a b) (λ e. sym ((Decides-eqb b a).0 e), λ e. (Decides-eqb b a).1 (sym e))
 
-  pub pixels_end : length bytes ≤ i → pixels (drop i bytes) ≡ true
-  pixels_end h = rw (drop_of_length-le bytes)
-
-  pub starts_step : (file : List ℕ) → i < length bytes → i < length file
-      → starts (drop i bytes) (drop i file) ≡ (eqb (get_or file i 0) (get_or bytes i 0) && starts (drop (i + 1) bytes) (drop (i + 1) file))
-  starts_step file h g = rw (add-one, drop-cons bytes i 0, drop-cons file i 0)
-
-  pub starts_end : (file : List ℕ) → length bytes ≤ i → starts (drop i bytes) (drop i file) ≡ true
-  starts_end file h = rw (drop_of_length-le bytes)
+pub starts_with_is : (bytes file : List ℕ) → starts_with eqb file bytes ≡ starts bytes file
+starts_with_is [] file = refl
+starts_with_is (b ∷ bs) [] = refl
+starts_with_is (b ∷ bs) (x ∷ xs) = ap (λ t. t && starts_with eqb xs bs) (eqb_turned b x) ∙ ap (λ t. eqb x b && t) (starts_with_is bs xs)

@@ -10,11 +10,12 @@
 ghost use Rattle.std.specs.Prelude.{◌≡◌, ◌≤◌, ◌%◌, length};
 ghost use Rattle.text.specs.Text.{digit};
 ghost use Rattle.lent_buffer.specs.Filled.{Gives};
-ghost use Rattle.picture_file.specs.PictureFile.{height, size, header, header_length, pixels, starts, write_as, write_of, read_as, read_of};
+ghost use Rattle.picture_file.specs.PictureFile.{height, size, header, pixels, starts, write_as, write_of, read_as, read_of};
 
 use lent_buffer::Filled;
 use picture_file::Format;
 use profile::Profile;
+use refusal::Refusal;
 
 // The rows of a picture with borders on, and off.
 const HEIGHT_ON: usize = 292;
@@ -42,7 +43,7 @@ pub fn write(rows: &[u8], file: &mut [u8]) -> Filled
     if rows.len() == size(Format::Plain) {
         return write_as(Format::Plain, rows, file);
     }
-    Filled::Refused(refusal::WRONG_PICTURE_LENGTH)
+    Err(Refusal::WRONG_PICTURE_LENGTH)
 }
 
 // The rows of this file.
@@ -50,7 +51,7 @@ pub fn read(file: &[u8], rows: &mut [u8]) -> Filled
     ensures { Gives (read_of file.now (length rows.old)) result rows.old rows.new }
 {
     if file.len() < HEADER {
-        return Filled::Refused(refusal::BAD_HEADER);
+        return Err(Refusal::BAD_HEADER);
     }
     let body = &file[HEADER..];
     if heads(Format::Bordered, file) {
@@ -59,7 +60,7 @@ pub fn read(file: &[u8], rows: &mut [u8]) -> Filled
     if heads(Format::Plain, file) {
         return read_as(Format::Plain, body, rows);
     }
-    Filled::Refused(refusal::BAD_HEADER)
+    Err(Refusal::BAD_HEADER)
 }
 
 // The rows of a picture.
@@ -106,19 +107,9 @@ fn header(format: Format) -> [u8; HEADER]
 
 // Whether a file starts with this header.
 fn heads(format: Format, file: &[u8]) -> bool
-    requires { header_length ≤ length file.now }
     ensures { result ≡ starts (header format) file.now }
 {
-    let text = header(format);
-    let mut i: usize = 0;
-    while i < HEADER {
-        if file[i] == text[i] {
-            i += 1;
-        } else {
-            return false;
-        }
-    }
-    true
+    file.starts_with(&header(format))
 }
 
 // The last decimal digit of a number, as a character.
@@ -135,13 +126,13 @@ fn write_as(format: Format, rows: &[u8], file: &mut [u8]) -> Filled
     if all_pixels(rows) {
         let length = HEADER + rows.len();
         if file.len() < length {
-            return Filled::Refused(refusal::NO_ROOM);
+            return Err(Refusal::NO_ROOM);
         }
         file[..HEADER].copy_from_slice(&header(format));
         file[HEADER..length].copy_from_slice(rows);
-        return Filled::Length(length);
+        return Ok(length);
     }
-    Filled::Refused(refusal::BAD_PIXEL)
+    Err(Refusal::BAD_PIXEL)
 }
 
 // What follows a file's header, into rows.
@@ -149,29 +140,21 @@ fn read_as(format: Format, body: &[u8], rows: &mut [u8]) -> Filled
     ensures { Gives (read_as format body.now (length rows.old)) result rows.old rows.new }
 {
     if body.len() != size(format) {
-        return Filled::Refused(refusal::WRONG_PICTURE_LENGTH);
+        return Err(Refusal::WRONG_PICTURE_LENGTH);
     }
     if all_pixels(body) {
         if rows.len() < body.len() {
-            return Filled::Refused(refusal::NO_ROOM);
+            return Err(Refusal::NO_ROOM);
         }
         rows[..body.len()].copy_from_slice(body);
-        return Filled::Length(body.len());
+        return Ok(body.len());
     }
-    Filled::Refused(refusal::BAD_PIXEL)
+    Err(Refusal::BAD_PIXEL)
 }
 
 // Whether each byte is a pixel, 01 to FE.
 fn all_pixels(bytes: &[u8]) -> bool
     ensures { result ≡ pixels bytes.now }
 {
-    let mut i: usize = 0;
-    while i < bytes.len() {
-        if profile::is_pixel(bytes[i]) {
-            i += 1;
-        } else {
-            return false;
-        }
-    }
-    true
+    bytes.iter().all(|b| profile::is_pixel(*b))
 }

@@ -7,7 +7,6 @@
 
 use command_words::{Asked, Usage};
 use frame_row::{Keeping, Order};
-use lent_buffer::Filled;
 use profile::Profile;
 use std::io::{IsTerminal, Write};
 
@@ -49,14 +48,12 @@ fn show(rt: HostRuntime, asked: Asked) {
 
 // Writes the picture, or says why there is none.
 fn show_asked(rt: HostRuntime, asked: Asked) {
-    if asked.output == 0 {
-        if rt.stdout().is_terminal() {
-            command::complain(
-                rt,
-                b"a picture is no text for a terminal: give -o and a name, or send it to a file\n",
-            );
-            return;
-        }
+    if asked.output == 0 && rt.stdout().is_terminal() {
+        command::complain(
+            rt,
+            b"a picture is no text for a terminal: give -o and a name, or send it to a file\n",
+        );
+        return;
     }
     if frame_file::is_same(rt, asked.output, asked.first) {
         command::complain(
@@ -79,11 +76,9 @@ fn order_of(odd: bool) -> Order {
 fn grab(rt: HostRuntime, order: Order, capture: usize, picture: usize) {
     let mut rows = [0u8; pgm::MOST_PIXELS];
     let keeping = Keeping::VisiblePixels(order);
-    let n = frame_file::first_frame(rt, capture, keeping, &mut rows);
-    if n == 0 {
-        return;
+    if let Some(n) = frame_file::first_frame(rt, capture, keeping, &mut rows) {
+        write(rt, &rows[..n], picture);
     }
-    write(rt, &rows[..n], picture);
 }
 
 // Writes the file of these rows.
@@ -91,8 +86,8 @@ fn write(rt: HostRuntime, rows: &[u8], picture: usize) {
     let mut file = [0u8; pgm::LONGEST_FILE];
     let filled = pgm::write(rows, &mut file);
     match filled {
-        Filled::Length(length) => put(rt, &file, length, picture),
-        Filled::Refused(_) => command::complain(rt, b"the frame is no picture\n"),
+        Ok(length) => put(rt, &file, length, picture),
+        Err(_) => command::complain(rt, b"the frame is no picture\n"),
     }
 }
 
@@ -115,11 +110,10 @@ fn save(rt: HostRuntime, file: &[u8], picture: usize) {
         command::tell_no_name(rt, picture);
         return;
     }
-    let mut saving = whole_file::begin(rt, &name[..n]);
-    let Some(made) = &mut saving.file else {
+    let Some(mut saving) = whole_file::begin(rt, &name[..n]) else {
         return;
     };
-    let whole = send(rt, made, &name[..n], file);
+    let whole = send(rt, &mut saving.file, &name[..n], file);
     whole_file::end(rt, saving, &name[..n], whole);
 }
 

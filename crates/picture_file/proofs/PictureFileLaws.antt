@@ -1,19 +1,18 @@
 -- Laws of a picture's file: writing makes, and reading accepts, exactly the files of pictures; rows come back as written; a file that is read
 -- writes back to the same bytes; no two different row lists give one file.
-use Rattle.std.specs.Prelude.{◌≡◌, refl, Bool, true, false, ◌&&◌, cond, List, [], ◌∷◌, ◌++◌, ℕ, ◌+◌, ◌<◌, ◌≤◌, eqb, length, drop}
+use Rattle.std.specs.Prelude.{◌≡◌, refl, Bool, true, false, ◌&&◌, cond, List, [], ◌∷◌, ◌++◌, ℕ, ◌+◌, ◌<◌, ◌≤◌, eqb, length, drop, Ok, Result}
 use Rattle.std.proofs.Common.{sym, ap, ◌∙◌, true≢false, not-suc-le-zero, le_of_suc-le-suc, arith, eqb-true, eq-eqb, lit≤, length-append, length-take, drop_at}
 use Rattle.std.proofs.Math.Bool.{and-false}
 use Rattle.bits.specs.Every.{and_left, and_right}
 use Rattle.text.specs.Text.{ascii, space, newline, decimal}
 use Rattle.refusal.specs.Refusal.{bad_header, wrong_picture_length}
-use Rattle.lent_buffer.specs.declared.Filled.{Filled}
-use Rattle.lent_buffer.specs.declared.Filled.TheVariants as filled
 use Rattle.profile.specs.Profile.{width}
 use Rattle.lent_buffer.specs.Filled.{Output, used, refused, output_of, Gives, require}
 use Rattle.lent_buffer.specs.FilledLaws.{fitted_used, passed, used_fitted}
 use Rattle.picture_file.specs.declared.Format.{Format}
 use Rattle.picture_file.specs.declared.Format.TheVariants.{Bordered, Plain}
 use Rattle.picture_file.specs.PictureFile.{height, size, maxval, three_digits, header, header_length, image_of, pixels, Picture, starts, either, write_as, write_of, read_as, read_of}
+use Rattle.refusal.specs.declared.Refusal.{Refusal}
 
 -- The header.
 
@@ -114,11 +113,11 @@ written_picture rows file room n h =
     record { format = t.format; sized = eqb-true _ _ t.passes; good = p.0; made = (used_fitted (image_of t.format rows) room p.1).0 }
 
 -- the length used is within the buffer
-pub written_within : (rows before after : List ℕ) (room : ℕ) (y : Filled) (n : ℕ) → Gives (write_of rows room) y before after → y ≡ filled.Length n
+pub written_within : (rows before after : List ℕ) (room : ℕ) (y : Result ℕ Refusal) (n : ℕ) → Gives (write_of rows room) y before after → y ≡ Ok n
     → n ≤ length after
 unfolding write_of
 written_within rows before after room y n g e =
-    let t = chosen (λ b. eqb (length rows) (size b)) (λ b. write_as b rows room) _ (sym g.says ∙ ap (λ (x : Filled). output_of x after) e) in
+    let t = chosen (λ b. eqb (length rows) (size b)) (λ b. write_as b rows room) _ (sym g.says ∙ ap (λ (x : Result ℕ Refusal). output_of x after) e) in
     let f = used_fitted (image_of t.format rows) room (passed (pixels rows) _ _ t.gives).1 in
     omega (arith, f.1, ap length f.0, length-take n after)
 

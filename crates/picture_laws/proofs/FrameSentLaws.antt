@@ -1,5 +1,5 @@
 -- A frame as written is found: the reader gives out each line as sent, whatever came before, and the gatherer shows a frame that comes whole.
-use Rattle.std.specs.Prelude.{◌≡◌, refl, Bool, true, false, cond, List, [], ◌∷◌, ◌++◌, map, ℕ, suc, ◌≤◌, length, drop}
+use Rattle.std.specs.Prelude.{◌≡◌, refl, Bool, true, false, cond, List, [], ◌∷◌, ◌++◌, map, ℕ, suc, ◌≤◌, length, drop, None}
 use Rattle.std.proofs.Common.{sym, ap, ap₂, subst, ◌∙◌, true≢false, append_assoc, append-nil, arith, take_at}
 use Rattle.std.proofs.lemmas.List.{map-append}
 use Rattle.refusal.specs.Refusal.{broken_line}
@@ -30,7 +30,6 @@ use Rattle.recovery.proofs.Gaps.{after, back, sent_gap, next_told}
 use Rattle.refinement.specs.Refine.{Follows}
 use Rattle.refinement.specs.RefineLaws.{fresh_follows, feed_steps}
 use Rattle.frame_layout.specs.declared.Borders.{Borders}
-use Rattle.frame_handing.specs.declared.Handed.TheVariants as hand
 use Rattle.frame_judge.specs.declared.Judge.{Judge}
 use Rattle.frame_judge.specs.declared.Judge.TheVariants.{Waiting, Due}
 use Rattle.frame_judge.specs.declared.Judged.{Judged}
@@ -38,7 +37,7 @@ use Rattle.frame_judge.specs.Frame.{passes, refuses, broken_kind, judge_of}
 use Rattle.frame_judge.specs.Calls.{called, IsFrame}
 use Rattle.frame_judge.specs.Calls as calls
 use Rattle.frame_laws.specs.FrameLaws.{reached_passes}
-use Rattle.frame_handing.specs.Handing.{is_broken_line, handed_lines}
+use Rattle.frame_handing.specs.Handing.{is_broken_line, hand, handed_lines}
 use Rattle.picture_file.specs.PictureFile.{size}
 use Rattle.frame_row.specs.declared.Order.{Order}
 use Rattle.frame_row.specs.declared.Keeping.{Keeping}
@@ -172,7 +171,7 @@ outcome_still x (line f body) e h = absurd (let z : ◌≡◌ {A = ℕ} 1 0 = ap
 outcome_still x (gap g) e h = (refl, h)
 outcome_still x (refused n) e h = by (is_broken_line n)
   where
-    by : (b : Bool) → Still (handing x.gatherer (cond b (hand.Line broken_kind 0) hand.Nothing) blank x.buffer)
+    by : (b : Bool) → Still (handing x.gatherer (cond b (hand broken_kind 0) None) blank x.buffer)
     by true = broken_still x.gatherer _ x.buffer h
     by false = (refl, h)
 

@@ -1,5 +1,5 @@
 -- Nibbles of which no line opens a frame: the judge waits all along, and nothing is said.
-use Rattle.std.specs.Prelude.{◌≡◌, refl, Bool, true, false, ◌&&◌, not, cond, List, [], ◌∷◌, ◌++◌, map, ℕ, ◌+◌, ◌*◌, ◌≤◌, eqb, length}
+use Rattle.std.specs.Prelude.{◌≡◌, refl, Bool, true, false, ◌&&◌, not, cond, List, [], ◌∷◌, ◌++◌, map, ℕ, ◌+◌, ◌*◌, ◌≤◌, eqb, length, None, Some}
 use Rattle.std.proofs.Common.{sym, ap, subst, ◌∙◌, true≢false, le-leb}
 use Rattle.std.proofs.Math.Option.{Option, none, some}
 use Rattle.bits.specs.Every.{and_left, and_right, and_both}
@@ -11,7 +11,6 @@ use Rattle.line_code.specs.declared.Reading.{Reading}
 use Rattle.line_code.specs.declared.Reading.TheVariants.{Says, Damaged}
 use Rattle.line_code.specs.declared.Repair.{Repair}
 use Rattle.line_code.specs.LineCode.{kind_number, reading_of, is_end, repair_of}
-use Rattle.line_number.specs.declared.Decoded.TheVariants.{Number, Bad}
 use Rattle.line_number.specs.LineNumber.{greatest, number_good, number_from}
 use Rattle.line_number.specs.LineNumberLaws.{decoded}
 use Rattle.profile.specs.declared.Profile.TheVariants.{VV5404}
@@ -25,7 +24,6 @@ use Rattle.stream.specs.Answers.{facts, Outcome, nothing, line, gap, refused, bu
 use Rattle.stream.specs.Stream.{Completed, not_yet, mark, detect, State, answer_at, advance, step, outcomes}
 use Rattle.recovery.specs.Calls.{LineOut, line_in}
 use Rattle.recovery.specs.Collected.{lines}
-use Rattle.frame_handing.specs.declared.Handed.TheVariants as hand
 use Rattle.frame_judge.specs.declared.Judge.{Judge}
 use Rattle.frame_judge.specs.declared.Judge.TheVariants.{Waiting}
 use Rattle.frame_judge.specs.declared.Judged.{Judged}
@@ -33,7 +31,7 @@ use Rattle.frame_judge.specs.declared.Ruling.TheVariants as ruling
 use Rattle.frame_judge.specs.Frame.{broken_kind, opens, gives, judge_of}
 use Rattle.frame_judge.specs.Calls.{called}
 use Rattle.frame_judge.specs.Calls as judged
-use Rattle.frame_handing.specs.Handing.{is_broken_line}
+use Rattle.frame_handing.specs.Handing.{is_broken_line, hand}
 use Rattle.frame_rows.specs.declared.Gatherer.{Gatherer}
 use Rattle.frame_rows.specs.FrameRows.{Shown, AfterCall, by_ruling, handed, shown_as, handing, take_of}
 use Rattle.frame_rows.specs.FrameRows as rows
@@ -69,7 +67,7 @@ bytes_numbered k r (some (c ∷ a ∷ b ∷ body)) next =
     ended = require (is_end next) no_end_of_line (line (facts k (number_from a b) r (repair_of next)) body)
 
     small : (number_good a && number_good b) ≡ true → number_from a b ≤ greatest
-    small e = (decoded a b (number_from a b) (ap (λ (t : Bool). cond t (Number (number_from a b)) Bad) e)).0
+    small e = (decoded a b (number_from a b) (ap (λ (t : Bool). cond t (Some (number_from a b)) None) e)).0
 
 line_numbered : (k : Kind) (r : Repair) (t : List ℕ) (next : Option ℕ) → Numbered (line_answer VV5404 k r t next)
 line_numbered k r t none = tt
@@ -133,7 +131,7 @@ outcome_waits x (line f body) h e w =
 outcome_waits x (gap g) h e w = (refl, w.1)
 outcome_waits x (refused n) h e w = by (is_broken_line n)
   where
-    by : (b : Bool) → Waits (handing x.gatherer (cond b (hand.Line broken_kind 0) hand.Nothing) blank x.buffer)
+    by : (b : Bool) → Waits (handing x.gatherer (cond b (hand broken_kind 0) None) blank x.buffer)
     by true = handed_waits x.gatherer (shown_as broken_kind 0 blank) x.buffer w.1 refl
     by false = (refl, w.1)
 

@@ -115,7 +115,7 @@ handed_long s l held = by (called VV5404 s.judge l.given).ruling
         either_long (row_fits s.keeping s.kept l.given.kind l.body held)
         (completing s j (s.kept + row_size s.keeping l.given.kind) (with_row s.keeping s.kept (place_due s.judge) l.given.kind l.body held)) (refuses s no_room held)
         (length held) (with_row_length s.keeping s.kept (place_due s.judge) l.given.kind l.body held) refl
-    by (ruling.Refused n) = either_long (breaks_frame n) (after_break s j l.given.kind l.body held) (refuses s n held) (length held) (λ _. broken j) refl
+    by (ruling.Refused r) = either_long (breaks_frame r.0) (after_break s j l.given.kind l.body held) (refuses s r.0 held) (length held) (λ _. broken j) refl
 
 call_long : (x : AfterCall) (g : Given) → length (call x g).buffer ≡ length x.buffer
 call_long x g = by (shown (handed_lines g.answer) g.held) (call x g) (hands x g)

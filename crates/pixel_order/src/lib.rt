@@ -16,6 +16,7 @@ ghost use Rattle.pixel_order.specs.declared.Way.TheVariants.{ToPixels, ToBody};
 use lent_buffer::Filled;
 use line_code::Kind;
 use profile::Profile;
+use refusal::Refusal;
 
 // Which way a line goes: from its body to its pixels, or back.
 #[derive(Clone, Copy)]
@@ -45,16 +46,16 @@ fn reorder(way: Way, kind: u8, from: &[u8], to: &mut [u8]) -> Filled
     ensures { Gives (reorder_of way kind from.now (length to.old)) result to.old to.new }
 {
     if kind != Kind::VL.number() {
-        return Filled::Refused(refusal::NOT_VISIBLE);
+        return Err(Refusal::NOT_VISIBLE);
     }
     if from.len() != Profile::WIDTH {
-        return Filled::Refused(refusal::WRONG_BODY_LENGTH);
+        return Err(Refusal::WRONG_BODY_LENGTH);
     }
     if to.len() < Profile::WIDTH {
-        return Filled::Refused(refusal::NO_ROOM);
+        return Err(Refusal::NO_ROOM);
     }
     put(way, from, to);
-    Filled::Length(Profile::WIDTH)
+    Ok(Profile::WIDTH)
 }
 
 // Puts each byte of a line where this way has it.
@@ -62,10 +63,8 @@ fn put(way: Way, from: &[u8], to: &mut [u8])
     requires { (length from.now ≡ width) × (width ≤ length to.old) }
     ensures { to.new ≡ reordered way from.now ++ drop width to.old }
 {
-    let mut i: usize = 0;
-    while i < Profile::WIDTH {
+    for i in 0..Profile::WIDTH {
         to[i] = from[way.source(i)];
-        i += 1;
     }
 }
 

@@ -1,13 +1,11 @@
 -- The two sensor profiles (01, 'What is built first' and 'Line layout'): each number of a profile, stated once.
-use Rattle.std.specs.Prelude.{cond, ℕ, eqb}
+use Rattle.std.specs.Prelude.{cond, ℕ, eqb, None, Option, Some}
 use Rattle.profile.specs.declared.Profile.{Profile}
 use Rattle.profile.specs.declared.Profile.TheVariants.{VV5404, VV5300}
-use Rattle.profile.specs.declared.Numbered.{Numbered}
-use Rattle.profile.specs.declared.Numbered.TheVariants as numbered
 
 -- the profile with a number: 0 is VV5404, 1 is VV5300, and there are no others
-unfoldable pub profile_numbered : ℕ → Numbered
-profile_numbered n = cond (eqb n 0) (numbered.Profile VV5404) (cond (eqb n 1) (numbered.Profile VV5300) numbered.NoProfile)
+unfoldable pub profile_numbered : ℕ → Option Profile
+profile_numbered n = cond (eqb n 0) (Some VV5404) (cond (eqb n 1) (Some VV5300) None)
 
 -- the paper's number of a profile
 abbrev pub profile_number : Profile → ℕ

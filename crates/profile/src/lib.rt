@@ -16,13 +16,6 @@ pub enum Profile {
     VV5300,
 }
 
-// A profile, where a number has one.
-#[derive(Clone, Copy)]
-pub enum Numbered {
-    Profile(Profile),
-    NoProfile,
-}
-
 // What a place of a body may hold: the filler byte, 01 to FE, or any byte.
 #[derive(Clone, Copy)]
 pub enum Rule {
@@ -41,17 +34,16 @@ impl Profile {
     // The length of the longest body.
     pub const LONGEST: usize = Profile::WIDTH;
 
-    // The profile with this number.
-    pub fn numbered(n: u8) -> Numbered
+    // The profile with this number: none but 0 and 1 have one.
+    #[tactic(auto, unfolding(crate::specs::Profile::profile_numbered))]
+    pub fn numbered(n: u8) -> Option<Profile>
         ensures { result ≡ profile_numbered n }
     {
-        if n == 0 {
-            return Numbered::Profile(Profile::VV5404);
+        match n {
+            0 => Some(Profile::VV5404),
+            1 => Some(Profile::VV5300),
+            _ => None,
         }
-        if n == 1 {
-            return Numbered::Profile(Profile::VV5300);
-        }
-        Numbered::NoProfile
     }
 
     // The bytes of a body.
@@ -112,11 +104,5 @@ impl Rule {
 pub fn is_pixel(byte: u8) -> bool
     ensures { result ≡ is_pixel byte }
 {
-    if byte == 0 {
-        return false;
-    }
-    if byte == 255 {
-        return false;
-    }
-    true
+    byte != 0 && byte != Profile::NULL
 }

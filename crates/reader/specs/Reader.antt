@@ -1,11 +1,9 @@
 -- A reader, its state by value, and what each call does to it. What it means is in stream/specs/Stream.antt; a law joins the two.
-use Rattle.std.specs.Prelude.{Bool, cond, List, [], ℕ, ◌-◌, ◌%◌, eqb, leb, length, replicate}
+use Rattle.std.specs.Prelude.{Bool, cond, List, [], ℕ, ◌-◌, ◌%◌, eqb, leb, length, replicate, None, Option, Some}
 use Rattle.std.proofs.Math.Option.{none, some}
 use Rattle.refusal.specs.Refusal.{not_a_nibble, bad_state, no_room}
 use Rattle.profile.specs.declared.Profile.{Profile}
 use Rattle.profile.specs.declared.Profile.TheVariants.{VV5404}
-use Rattle.profile.specs.declared.Numbered.{Numbered}
-use Rattle.profile.specs.declared.Numbered.TheVariants as numbered
 use Rattle.profile.specs.Profile.{profile_numbered, body_length, longest}
 use Rattle.stream.specs.declared.Mark.TheVariants.{NoMark}
 use Rattle.stream.specs.Answers.{Outcome, nothing, refused, is_line}
@@ -35,9 +33,9 @@ abbrev pub refusing : Reader → ℕ → Took
 refusing r n = record { reader = r; outcome = refused n }
 
 -- creation, by the profile that the number names
-abbrev pub new_for : Numbered → Took
-new_for (numbered.Profile p) = record { reader = fresh_reader p; outcome = nothing }
-new_for numbered.NoProfile = refusing (fresh_reader VV5404) bad_state
+abbrev pub new_for : Option Profile → Took
+new_for (Some p) = record { reader = fresh_reader p; outcome = nothing }
+new_for None = refusing (fresh_reader VV5404) bad_state
 
 -- creation
 abbrev pub new_of : ℕ → Took

@@ -12,11 +12,12 @@ ghost use Rattle.profile.specs.Profile.{body_length, longest};
 ghost use Rattle.stream.specs.Answers.{outcome_of, answer_for, buffer_after, refused};
 ghost use Rattle.reader.specs.Reader.{reader_of, fresh_reader, new_of, taking, take_of, feed_of, finish_of};
 ghost use Rattle.reader.specs.Gives.{CallGives, FeedGives, TakeGives};
-ghost use Rattle.reader.specs.Parts.{completing, copied};
+ghost use Rattle.reader.specs.Parts.{completing};
 
 use mark_text::Kept;
-use profile::{Numbered, Profile};
+use profile::Profile;
 use reader_head::{Head, WINDOW, flush, is_mark, leave_body, leave_kept, open_after, shift, slide};
+use refusal::Refusal;
 use stream::{Answer, Mark};
 
 // A reader: what it keeps goes in and comes back by value.
@@ -47,21 +48,15 @@ impl Reader {
     {
         let found = Profile::numbered(profile);
         match found {
-            Numbered::Profile(p) => {
-                let r = Reader::fresh(p);
-                let a = Answer::Nothing;
-                Fed {
-                    reader: r,
-                    answer: a,
-                }
+            Some(p) => {
+                let reader = Reader::fresh(p);
+                let answer = Answer::Nothing;
+                Fed { reader, answer }
             }
-            Numbered::NoProfile => {
-                let r = Reader::fresh(Profile::VV5404);
-                let a = Answer::Refused(refusal::BAD_STATE);
-                Fed {
-                    reader: r,
-                    answer: a,
-                }
+            None => {
+                let reader = Reader::fresh(Profile::VV5404);
+                let answer = Answer::Refused(Refusal::BAD_STATE);
+                Fed { reader, answer }
             }
         }
     }
@@ -98,7 +93,7 @@ impl Reader {
             let reader = Reader { head, body };
             return Fed { reader, answer };
         }
-        let answer = Answer::Refused(refusal::BAD_STATE);
+        let answer = Answer::Refused(Refusal::BAD_STATE);
         Fed {
             reader: self,
             answer,
@@ -119,7 +114,7 @@ impl Reader {
             let reader = Reader::fresh(p);
             return Fed { reader, answer };
         }
-        let answer = Answer::Refused(refusal::BAD_STATE);
+        let answer = Answer::Refused(Refusal::BAD_STATE);
         Fed {
             reader: self,
             answer,
@@ -133,22 +128,22 @@ pub fn take(h: Head, body: &mut [u8], nibble: u8, buffer: &mut [u8]) -> Stepped
     ensures { TakeGives (take_of (reader_of h body.old) nibble (length buffer.old)) result body.new buffer.old buffer.new }
 {
     if body.len() != Profile::LONGEST {
-        return refuse(h, refusal::BAD_STATE);
+        return refuse(h, Refusal::BAD_STATE);
     }
     if 15 < nibble {
-        return refuse(h, refusal::NOT_A_NIBBLE);
+        return refuse(h, Refusal::NOT_A_NIBBLE);
     }
     let p = h.profile;
     if buffer.len() < p.body_length() {
-        return refuse(h, refusal::NO_ROOM);
+        return refuse(h, Refusal::NO_ROOM);
     }
     taken(h, body, nibble, buffer)
 }
 
-fn refuse(h: Head, number: u8) -> Stepped
-    ensures { (result.head ≡ h) × (result.answer ≡ answer_for (refused number)) }
+fn refuse(h: Head, refusal: Refusal) -> Stepped
+    ensures { (result.head ≡ h) × (result.answer ≡ answer_for (refused refusal.0)) }
 {
-    let answer = Answer::Refused(number);
+    let answer = Answer::Refused(refusal);
     Stepped { head: h, answer }
 }
 
@@ -187,10 +182,7 @@ fn complete(h: Head, body: &[u8], code: u8, buffer: &mut [u8]) -> Stepped
 fn text_length(count: u32) -> u32
     ensures { result ≡ count - 7 }
 {
-    if count < WINDOW {
-        return 0;
-    }
-    count - (WINDOW - 1)
+    count.saturating_sub(WINDOW - 1)
 }
 
 // A line's body goes to the front of the buffer.
@@ -199,21 +191,10 @@ fn hand_out(p: Profile, answer: Answer, body: &[u8], buffer: &mut [u8])
     ensures { buffer.new ≡ buffer_after (outcome_of p answer body.now) buffer.old }
 {
     match answer {
-        Answer::Nothing => {}
-        Answer::Line(_) => copy_front(buffer, body, p.body_length()),
-        Answer::Gap(_) => {}
-        Answer::Refused(_) => {}
-    }
-}
-
-// The first n bytes of one slice go to the front of another.
-fn copy_front(to: &mut [u8], from: &[u8], n: usize)
-    requires { (n ≤ length from.now) × (n ≤ length to.old) }
-    ensures { to.new ≡ copied to.old from.now n }
-{
-    let mut i: usize = 0;
-    while i < n {
-        to[i] = from[i];
-        i += 1;
+        Answer::Line(_) => {
+            let n = p.body_length();
+            buffer[..n].copy_from_slice(&body[..n]);
+        }
+        Answer::Nothing | Answer::Gap(_) | Answer::Refused(_) => {}
     }
 }

@@ -32,30 +32,15 @@ pub struct Head {
 
 impl Head {
     // The reader's own test: constant time, and no look at the body.
+    #[tactic(auto, unfolding(crate::specs::Head::passes))]
     pub fn passes(self) -> bool
         ensures { result ≡ passes self }
     {
-        let count = self.count;
-        let window = self.window;
-        if COUNT_STOP < count {
-            return false;
-        }
-        if is_mark(window) {
-            return false;
-        }
-        let at = self.at;
-        if handed_fits(at) {
-            if window_fits(at, count, window) {
-                let kept = self.kept;
-                if kept.stray {
-                    let p = self.profile;
-                    return p.gap_start() + WINDOW < count;
-                }
-                return true;
-            }
-            return false;
-        }
-        false
+        self.count <= COUNT_STOP
+            && !is_mark(self.window)
+            && handed_fits(self.at)
+            && window_fits(self.at, self.count, self.window)
+            && (!self.kept.stray || self.profile.gap_start() + WINDOW < self.count)
     }
 }
 
@@ -127,17 +112,11 @@ pub fn next_count(count: u32) -> u32
 pub fn shift(h: Head, nibble: u8) -> Head
     ensures { result ≡ shifted h (nibble % 16) }
 {
-    let profile = h.profile;
-    let at = h.at;
-    let count = next_count(h.count);
-    let window = slide(h.window, nibble);
-    let kept = leave_kept(h);
     Head {
-        profile,
-        at,
-        count,
-        window,
-        kept,
+        count: next_count(h.count),
+        window: slide(h.window, nibble),
+        kept: leave_kept(h),
+        ..h
     }
 }
 
@@ -162,10 +141,8 @@ pub fn flush(h: Head) -> Head
     ensures { result ≡ flushed 8 h }
 {
     let mut g = h;
-    let mut i: u32 = 0;
-    while i < WINDOW {
+    for _i in 0..WINDOW {
         g = shift(g, 0);
-        i += 1;
     }
     g
 }
@@ -177,8 +154,7 @@ fn handed_fits(at: Mark) -> bool
     match at {
         Mark::NoMark => true,
         Mark::Open(before, code) => match before {
-            Before::NoLine => true,
-            Before::RefusedLine(_) => true,
+            Before::NoLine | Before::RefusedLine(_) => true,
             Before::HandedOut(_) => line_code::read(code).is_end(),
         },
     }
@@ -197,25 +173,15 @@ fn window_fits(at: Mark, count: u32, window: u32) -> bool
 fn unmarked_fits(count: u32, window: u32) -> bool
     ensures { result ≡ window_fits NoMark count window }
 {
-    if WINDOW < count {
-        return true;
-    }
-    aged(count, window) == 0
+    WINDOW < count || aged(count, window) == 0
 }
 
 fn marked_fits(code: u32, count: u32, window: u32) -> bool
     ensures { (before : Before) → result ≡ window_fits (Open before code) count window }
 {
-    if count < 2 {
-        return false;
-    }
-    if count <= WINDOW {
-        return aged(count - 2, window) == code;
-    }
-    if count == WINDOW + 1 {
-        return aged(WINDOW - 1, window) == code % 16;
-    }
-    true
+    2 <= count
+        && (WINDOW < count || aged(count - 2, window) == code)
+        && (count != WINDOW + 1 || aged(WINDOW - 1, window) == code % 16)
 }
 
 // A window without its k newest nibbles.

@@ -1,13 +1,11 @@
 -- The reader's own test (11) is its facts (Passing.antt); it holds of a fresh reader and goes on to hold whatever is called.
-use Rattle.std.specs.Prelude.{◌≡◌, refl, Bool, true, false, ◌||◌, not, cond, [], ℕ, zero, suc, ◌+◌, ◌*◌, ◌-◌, ◌/◌, ◌%◌, ◌≤◌, ◌<◌, eqb, leb, ltb}
+use Rattle.std.specs.Prelude.{◌≡◌, refl, Bool, true, false, ◌||◌, not, cond, [], ℕ, zero, suc, ◌+◌, ◌*◌, ◌-◌, ◌/◌, ◌%◌, ◌≤◌, ◌<◌, eqb, leb, ltb, None, Option, Some}
 use Rattle.std.proofs.Common.{◌∙◌, ap, sym, subst, true≢false, arith, eqb-true, eq-eqb, ne_eqb, le-leb, leb-true, leb-false, ltb-true, ltb-false, lt-ltb}
 use Rattle.std.proofs.Math.Option.{none, some}
 use Rattle.std.proofs.lemmas.Bool.{lt-leb, not-true}
 use Rattle.bits.specs.Every.{and_left, and_right, and_both}
 use Rattle.bits.specs.Tests.{by_test}
 use Rattle.refusal.specs.Refusal.{not_a_nibble, bad_state, no_room}
-use Rattle.line_code.specs.declared.LineKind.{LineKind}
-use Rattle.line_code.specs.declared.LineKind.TheVariants.{NotLine, LineOf}
 use Rattle.line_code.specs.LineCode.{reading_of, is_end}
 use Rattle.profile.specs.declared.Profile.{Profile}
 use Rattle.profile.specs.Profile.{body_length, gap_start}
@@ -27,6 +25,7 @@ use Rattle.mark_answer.specs.Sound.{Sound, refusal_of}
 use Rattle.mark_answer.specs.SoundLaws.{line_ends, kept_sound, at_most_nine}
 use Rattle.reader_head.specs.HeadLaws.{bump_more}
 use Rattle.reader.specs.ReaderLaws.{take_sound}
+use Rattle.line_code.specs.declared.Kind.{Kind}
 
 -- The test and its facts.
 
@@ -277,10 +276,10 @@ fresh_ok p =
     }
 
 -- a mark that follows a line handed out
-opened_fits : (k : LineKind) (handed : Bool) (code : ℕ) → (handed ≡ true → is_end (reading_of code) ≡ true) → handed_fits (Open (before_by k handed) code) ≡ true
-opened_fits NotLine handed code h = refl
-opened_fits (LineOf k) true code h = h refl
-opened_fits (LineOf k) false code h = refl
+opened_fits : (k : Option Kind) (handed : Bool) (code : ℕ) → (handed ≡ true → is_end (reading_of code) ≡ true) → handed_fits (Open (before_by k handed) code) ≡ true
+opened_fits None handed code h = refl
+opened_fits (Some k) true code h = h refl
+opened_fits (Some k) false code h = refl
 
 opened_ok : (h : Head) (code : ℕ) (handed : Bool) → code < 256 → (handed ≡ true → is_end (reading_of code) ≡ true) → Ok (opened_by h code handed)
 unfolding shows_mark

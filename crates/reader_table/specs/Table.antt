@@ -1,11 +1,10 @@
 -- The table of readers (02, A12): eight places, each free or a technician's, and what each call does. Definitions only.
-use Rattle.std.specs.Prelude.{cond, List, [], ◌∷◌, ℕ, suc, eqb, ltb, length, get_or, set, replicate}
+use Rattle.std.specs.Prelude.{cond, List, [], ◌∷◌, ℕ, suc, eqb, ltb, length, get_or, set, replicate, Err, None, Ok, Option as Optional, Result, Some}
 use Rattle.std.proofs.Math.Option.{Option, none, some}
 use Rattle.refusal.specs.Refusal.{bad_state, no_such_technician, no_place_free, place_not_held}
+use Rattle.refusal.specs.declared.Refusal.{Refusal}
 use Rattle.profile.specs.declared.Profile.{Profile}
 use Rattle.profile.specs.declared.Profile.TheVariants.{VV5404}
-use Rattle.profile.specs.declared.Numbered.{Numbered}
-use Rattle.profile.specs.declared.Numbered.TheVariants as numbered
 use Rattle.profile.specs.Profile.{profile_numbered}
 use Rattle.stream.specs.declared.Answer.{Answer}
 use Rattle.stream.specs.Answers.{nothing, refused, answer_for}
@@ -17,8 +16,6 @@ use Rattle.refinement.specs.Runs.{RunCall, run, one, run_result}
 use Rattle.technician.specs.Technician.{is_technician}
 use Rattle.reader_table.specs.declared.TablePlace.{TablePlace}
 use Rattle.reader_table.specs.declared.ReaderTable.{ReaderTable}
-use Rattle.reader_table.specs.declared.Opening.{Opening}
-use Rattle.reader_table.specs.declared.Opening.TheVariants as opening
 
 -- Places.
 
@@ -67,9 +64,9 @@ pub data Placing : Type 0 where
   not_placed : ℕ → Placing
 
 -- the program's answer that says this
-abbrev pub opening_for : Placing → Opening
-opening_for (at_place i) = opening.At i
-opening_for (not_placed n) = opening.Refused n
+abbrev pub opening_for : Placing → Result ℕ Refusal
+opening_for (at_place i) = Ok i
+opening_for (not_placed n) = Err (record { 0 = n })
 
 -- the table after an opening, and what it is told
 pub record PlaceOpened : Type 0 where
@@ -91,9 +88,9 @@ open_place t who p =
     cond (ltb lowest (length t.places)) (opens_at t who p lowest) (not_opened t no_place_free)
 
 -- an opening, by the profile that the number names; 11 for none
-abbrev pub open_numbered : ReaderTable → ℕ → Numbered → PlaceOpened
-open_numbered t who (numbered.Profile p) = open_place t who p
-open_numbered t who numbered.NoProfile = not_opened t bad_state
+abbrev pub open_numbered : ReaderTable → ℕ → Optional Profile → PlaceOpened
+open_numbered t who (Some p) = open_place t who p
+open_numbered t who None = not_opened t bad_state
 
 -- an opening: 32, 11, 33, or a place
 unfoldable pub open_place_of : ReaderTable → ℕ → ℕ → PlaceOpened

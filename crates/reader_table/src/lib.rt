@@ -15,8 +15,9 @@ ghost use Rattle.refinement.specs.Runs.{run, one};
 ghost use Rattle.reader_table.specs.Table.{empty_table, free_place, place_for, place_at, with_place, lowest_free, open_place_of, open_place, not_opened, call_place_of, close_place_of};
 ghost use Rattle.reader_table.specs.Gives.{OpenGives, PlaceGives, FeedPlaceGives, RunPlaceGives};
 
-use profile::{Numbered, Profile};
+use profile::Profile;
 use reader::Reader;
+use refusal::Refusal;
 use stream::Answer;
 
 // The places of a table: eight readers (02, A12).
@@ -35,18 +36,11 @@ pub struct ReaderTable {
     pub places: [TablePlace; PLACES],
 }
 
-// What an opening is answered: the place, or a refusal number.
-#[derive(Clone, Copy)]
-pub enum Opening {
-    At(usize),
-    Refused(u8),
-}
-
-// A table after an opening, and its answer.
+// A table after an opening, and its answer: the place, or a refusal.
 #[derive(Clone, Copy)]
 pub struct TableOpened {
     pub table: ReaderTable,
-    pub answer: Opening,
+    pub answer: Result<usize, Refusal>,
 }
 
 // A table after a call, and its answer; a close that is not refused answers nothing.
@@ -81,14 +75,12 @@ impl ReaderTable {
         ensures { OpenGives (open_place_of self technician profile) result }
     {
         if technician::is_technician(technician) {
-            let found = Profile::numbered(profile);
-            match found {
-                Numbered::Profile(p) => return self.open_place(technician, p),
-                Numbered::NoProfile => {}
-            }
-            return self.not_opened(refusal::BAD_STATE);
+            return match Profile::numbered(profile) {
+                Some(p) => self.open_place(technician, p),
+                None => self.not_opened(Refusal::BAD_STATE),
+            };
         }
-        self.not_opened(refusal::NO_SUCH_TECHNICIAN)
+        self.not_opened(Refusal::NO_SUCH_TECHNICIAN)
     }
 
     // Takes one nibble into the reader of a place. Refused: 32, 34, and as the reader does.
@@ -96,16 +88,17 @@ impl ReaderTable {
         ensures { FeedPlaceGives (call_place_of self technician place (one (feed nibble buffer.old))) result buffer.new }
     {
         let p = self.place_at(place);
-        let n = technician::denial(technician, p.owner);
-        if n == 0 {
-            let r = p.reader;
-            let f = r.feed(nibble, buffer);
-            let reader = f.reader;
-            let answer = f.answer;
-            let table = self.with_reader(place, technician, reader);
-            return TableFed { table, answer };
+        match technician::denial(technician, p.owner) {
+            None => {
+                let r = p.reader;
+                let f = r.feed(nibble, buffer);
+                let reader = f.reader;
+                let answer = f.answer;
+                let table = self.with_reader(place, technician, reader);
+                TableFed { table, answer }
+            }
+            Some(refusal) => self.refuse(refusal),
         }
-        self.refuse(n)
     }
 
     // Takes a run of nibbles up to the first answer. Refused: 32, 34, and as the reader does.
@@ -113,21 +106,22 @@ impl ReaderTable {
         ensures { RunPlaceGives (call_place_of self technician place (run nibbles.now buffer.old)) result buffer.new }
     {
         let p = self.place_at(place);
-        let n = technician::denial(technician, p.owner);
-        if n == 0 {
-            let r = p.reader;
-            let f = run::run(r, nibbles, buffer);
-            let reader = f.reader;
-            let answer = f.answer;
-            let taken = f.taken;
-            let table = self.with_reader(place, technician, reader);
-            return TableRunFed {
-                table,
-                answer,
-                taken,
-            };
+        match technician::denial(technician, p.owner) {
+            None => {
+                let r = p.reader;
+                let f = run::run(r, nibbles, buffer);
+                let reader = f.reader;
+                let answer = f.answer;
+                let taken = f.taken;
+                let table = self.with_reader(place, technician, reader);
+                TableRunFed {
+                    table,
+                    answer,
+                    taken,
+                }
+            }
+            Some(refusal) => self.not_run(refusal),
         }
-        self.not_run(n)
     }
 
     // Answers the last mark of a place, and leaves it a fresh reader; the place stays its technician's. Refused: 32, 34, and as the reader does.
@@ -135,16 +129,17 @@ impl ReaderTable {
         ensures { PlaceGives (call_place_of self technician place (one done)) result }
     {
         let p = self.place_at(place);
-        let n = technician::denial(technician, p.owner);
-        if n == 0 {
-            let r = p.reader;
-            let f = r.finish();
-            let reader = f.reader;
-            let answer = f.answer;
-            let table = self.with_reader(place, technician, reader);
-            return TableFed { table, answer };
+        match technician::denial(technician, p.owner) {
+            None => {
+                let r = p.reader;
+                let f = r.finish();
+                let reader = f.reader;
+                let answer = f.answer;
+                let table = self.with_reader(place, technician, reader);
+                TableFed { table, answer }
+            }
+            Some(refusal) => self.refuse(refusal),
         }
-        self.refuse(n)
     }
 
     // Frees a place. Refused: 32, 34.
@@ -152,14 +147,15 @@ impl ReaderTable {
         ensures { PlaceGives (close_place_of self technician place) result }
     {
         let p = self.place_at(place);
-        let n = technician::denial(technician, p.owner);
-        if n == 0 {
-            let free = TablePlace::free();
-            let table = self.put_place(place, free);
-            let answer = Answer::Nothing;
-            return TableFed { table, answer };
+        match technician::denial(technician, p.owner) {
+            None => {
+                let free = TablePlace::free();
+                let table = self.put_place(place, free);
+                let answer = Answer::Nothing;
+                TableFed { table, answer }
+            }
+            Some(refusal) => self.refuse(refusal),
         }
-        self.refuse(n)
     }
 
     // A fresh reader of this profile in the lowest free place. Refused: 33.
@@ -170,51 +166,47 @@ impl ReaderTable {
         if place < PLACES {
             let reader = Reader::fresh(profile);
             let table = self.with_reader(place, technician, reader);
-            let answer = Opening::At(place);
-            return TableOpened { table, answer };
+            return TableOpened {
+                table,
+                answer: Ok(place),
+            };
         }
-        self.not_opened(refusal::NO_PLACE_FREE)
+        self.not_opened(Refusal::NO_PLACE_FREE)
     }
 
     // The lowest free place; the count of places where all are taken.
     fn lowest_free(self) -> usize
         ensures { result ≡ lowest_free self.places }
     {
-        let mut i: usize = 0;
-        while i < PLACES {
-            let p = self.places[i];
-            if p.owner == NOBODY {
-                return i;
-            }
-            i += 1;
-        }
-        i
+        self.places
+            .iter()
+            .position(|p| p.owner == NOBODY)
+            .unwrap_or(PLACES)
     }
 
-    fn not_opened(self, number: u8) -> TableOpened
-        ensures { OpenGives (not_opened self number) result }
+    fn not_opened(self, refusal: Refusal) -> TableOpened
+        ensures { OpenGives (not_opened self refusal.0) result }
     {
-        let answer = Opening::Refused(number);
         TableOpened {
             table: self,
-            answer,
+            answer: Err(refusal),
         }
     }
 
-    fn refuse(self, number: u8) -> TableFed
-        ensures { (result.table ≡ self) × (result.answer ≡ answer_for (refused number)) }
+    fn refuse(self, refusal: Refusal) -> TableFed
+        ensures { (result.table ≡ self) × (result.answer ≡ answer_for (refused refusal.0)) }
     {
-        let answer = Answer::Refused(number);
+        let answer = Answer::Refused(refusal);
         TableFed {
             table: self,
             answer,
         }
     }
 
-    fn not_run(self, number: u8) -> TableRunFed
-        ensures { (result.table ≡ self) × (result.answer ≡ answer_for (refused number)) × (result.taken ≡ 0) }
+    fn not_run(self, refusal: Refusal) -> TableRunFed
+        ensures { (result.table ≡ self) × (result.answer ≡ answer_for (refused refusal.0)) × (result.taken ≡ 0) }
     {
-        let answer = Answer::Refused(number);
+        let answer = Answer::Refused(refusal);
         TableRunFed {
             table: self,
             answer,

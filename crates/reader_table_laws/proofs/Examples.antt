@@ -40,13 +40,13 @@ morning : all_told empty_table
     ∷ open_reply (at_place 1)
     ∷ open_reply (not_placed 32)
     ∷ open_reply (not_placed 11)
-    ∷ call_reply (answers.Refused 34) 0 []
+    ∷ call_reply (answers.Refused (record { 0 = 34 })) 0 []
     ∷ call_reply answers.Nothing 0 []
-    ∷ call_reply (answers.Refused 34) 0 (1 ∷ 2 ∷ [])
-    ∷ call_reply (answers.Refused 32) 0 []
-    ∷ call_reply (answers.Refused 34) 0 []
+    ∷ call_reply (answers.Refused (record { 0 = 34 })) 0 (1 ∷ 2 ∷ [])
+    ∷ call_reply (answers.Refused (record { 0 = 32 })) 0 []
+    ∷ call_reply (answers.Refused (record { 0 = 34 })) 0 []
     ∷ call_reply answers.Nothing 0 []
-    ∷ call_reply (answers.Refused 34) 0 []
+    ∷ call_reply (answers.Refused (record { 0 = 34 })) 0 []
     ∷ open_reply (at_place 0)
     ∷ []
 unfolding open_place_of open_place call_place_of close_place_of held_by place_at with_place is_technician profile_numbered finish_of passes shows_mark kept_answer

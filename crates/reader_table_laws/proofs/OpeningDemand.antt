@@ -1,9 +1,8 @@
 -- Demand 3 of each opening, from that of the reader: its calls are those of a reader of its own, so it is cited and not shown anew.
-use Rattle.std.specs.Prelude.{◌≡◌, true, List, ◌++◌, map, ℕ, ◌+◌, length}
+use Rattle.std.specs.Prelude.{◌≡◌, true, List, ◌++◌, map, ℕ, ◌+◌, length, Some}
 use Rattle.std.proofs.Common.{sym, ap, ◌∙◌, subst}
 use Rattle.std.proofs.Math.Option.{some}
 use Rattle.profile.specs.declared.Profile.{Profile}
-use Rattle.profile.specs.declared.Numbered.TheVariants as numbered
 use Rattle.profile.specs.Profile.{profile_numbered}
 use Rattle.stream.specs.Written.{Sent}
 use Rattle.reader.specs.declared.Reader.{Reader}
@@ -120,7 +119,7 @@ module _ (p : Profile) (who : ℕ) (h : is_technician who ≡ true) (i : ℕ) (t
           (ap (calls_of who i) (sym parts) ∙ calls_append who i first rest) d
 
 -- demand 3 of each opening, whatever the table before it
-pub opening_demand_three : (t : ReaderTable) (who n : ℕ) (p : Profile) (i : ℕ) → profile_numbered n ≡ numbered.Profile p
+pub opening_demand_three : (t : ReaderTable) (who n : ℕ) (p : Profile) (i : ℕ) → profile_numbered n ≡ Some p
     → (open_place_of t who n).placing ≡ at_place i
     → OpeningMeetsDemandThree p who i (open_place_of t who n).table
 opening_demand_three t who n p i e f =

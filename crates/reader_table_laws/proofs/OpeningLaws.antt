@@ -1,12 +1,10 @@
 -- The calls of a place are told what the reader that it holds tells them: nobody else's call, and no call of another place, changes it.
-use Rattle.std.specs.Prelude.{◌≡◌, refl, Bool, true, false, cond, List, [], ◌∷◌, ◌++◌, ℕ, eqb, ltb, length, take}
+use Rattle.std.specs.Prelude.{◌≡◌, refl, Bool, true, false, cond, List, [], ◌∷◌, ◌++◌, ℕ, eqb, ltb, length, take, None, Option as Optional, Some}
 use Rattle.std.proofs.Common.{sym, ap, ◌∙◌, true≢false, eqb-true, eq-eqb, ne_eqb}
 use Rattle.std.proofs.Math.Option.{Option, none, some}
 use Rattle.std.proofs.lemmas.Bool.{eqb-false}
 use Rattle.refusal.specs.Refusal.{no_such_technician, no_place_free}
 use Rattle.profile.specs.declared.Profile.{Profile}
-use Rattle.profile.specs.declared.Numbered.{Numbered}
-use Rattle.profile.specs.declared.Numbered.TheVariants as numbered
 use Rattle.profile.specs.Profile.{profile_numbered}
 use Rattle.stream.specs.Answers.{outcome_of}
 use Rattle.reader.specs.declared.Reader.{Reader}
@@ -50,10 +48,10 @@ opened_by_lem t who n j = go (is_technician who) (profile_numbered n) refl
     at p true e = ap (λ (o : Placing). place_in o 0) e
     at p false e = refused_at e
 
-    go : (a : Bool) (m : Numbered) → is_technician who ≡ a → (cond a (open_numbered t who m) (not_opened t no_such_technician)).placing ≡ at_place j
+    go : (a : Bool) (m : Optional Profile) → is_technician who ≡ a → (cond a (open_numbered t who m) (not_opened t no_such_technician)).placing ≡ at_place j
         → (is_technician who ≡ true) × (lowest_free t.places ≡ j)
-    go true (numbered.Profile p) h e = (h, at p (ltb (lowest_free t.places) (length t.places)) e)
-    go true numbered.NoProfile h e = refused_at e
+    go true (Some p) h e = (h, at p (ltb (lowest_free t.places) (length t.places)) e)
+    go true None h e = refused_at e
     go false m h e = refused_at e
 
 in_front_lem : {x y : TableReply} {ts us : List TableReply} → x ≡ y → ts ≡ us → x ∷ ts ≡ y ∷ us
@@ -87,10 +85,10 @@ module _ (who : ℕ) (h : is_technician who ≡ true) (i : ℕ) where
           eqb-false nobody who (somebody who h)
           (sym (lowest_free_lem t) ∙ ap (λ (m : ℕ). (place_at t m).owner) ((opened_by_lem t who n j a).1 ∙ q) ∙ owned t who i r e))
 
-      go : (m : Numbered) (o : Placing) → (open_place_of t who n).placing ≡ o → kept_opened (view who t) m o i ≡ some r
-      go (numbered.Profile p) (at_place j) a = but_other (view who t) j (some (fresh_reader p)) i (apart j a) ∙ e
-      go (numbered.Profile p) (not_placed k) a = e
-      go numbered.NoProfile o a = e
+      go : (m : Optional Profile) (o : Placing) → (open_place_of t who n).placing ≡ o → kept_opened (view who t) m o i ≡ some r
+      go (Some p) (at_place j) a = but_other (view who t) j (some (fresh_reader p)) i (apart j a) ∙ e
+      go (Some p) (not_placed k) a = e
+      go None o a = e
 
   -- a call of the place is the reader's
   pub by_call : (t : ReaderTable) (j : ℕ) (c : RunCall) (r : Reader) → held_by t who i ≡ some r → eqb j i ≡ true
@@ -167,13 +165,13 @@ module _ (who : ℕ) (h : is_technician who ≡ true) (i : ℕ) where
   projected (c ∷ cs) = step_projects c cs (projected cs)
 
 -- an opening that is given a place leaves a fresh reader there
-pub opened_fresh : (t : ReaderTable) (who n : ℕ) (p : Profile) (i : ℕ) → profile_numbered n ≡ numbered.Profile p
+pub opened_fresh : (t : ReaderTable) (who n : ℕ) (p : Profile) (i : ℕ) → profile_numbered n ≡ Some p
     → (open_place_of t who n).placing ≡ at_place i
     → held_by (open_place_of t who n).table who i ≡ some (fresh_reader p)
 opened_fresh t who n p i e f =
     (λ k. opens who (opened_by_lem t who n i f).0 t n k i)
-    ∙ ap (λ (m : Numbered). kept_opened (view who t) m (open_place_of t who n).placing i) e
-    ∙ ap (λ (o : Placing). kept_opened (view who t) (numbered.Profile p) o i) f
+    ∙ ap (λ (m : Optional Profile). kept_opened (view who t) m (open_place_of t who n).placing i) e
+    ∙ ap (λ (o : Placing). kept_opened (view who t) (Some p) o i) f
     ∙ but_same (view who t) i (some (fresh_reader p)) i (eq-eqb i i refl)
 
 -- so it is theirs
@@ -181,15 +179,15 @@ pub opened_theirs : (t : ReaderTable) (who n i : ℕ) → (open_place_of t who n
 unfolding open_place_of
 opened_theirs t who n i f = go (profile_numbered n) refl
   where
-    not_opened_lem : {A : Type 0} (a : Bool) → (cond a (open_numbered t who numbered.NoProfile) (not_opened t no_such_technician)).placing ≡ at_place i → A
+    not_opened_lem : {A : Type 0} (a : Bool) → (cond a (open_numbered t who None) (not_opened t no_such_technician)).placing ≡ at_place i → A
     not_opened_lem true e = refused_at e
     not_opened_lem false e = refused_at e
 
-    go : (m : Numbered) → profile_numbered n ≡ m → is_there (held_by (open_place_of t who n).table who i) ≡ true
-    go (numbered.Profile p) e = ap is_there (opened_fresh t who n p i e f)
-    go numbered.NoProfile e =
+    go : (m : Optional Profile) → profile_numbered n ≡ m → is_there (held_by (open_place_of t who n).table who i) ≡ true
+    go (Some p) e = ap is_there (opened_fresh t who n p i e f)
+    go None e =
         not_opened_lem (is_technician who)
-        (ap (λ (m : Numbered). (cond (is_technician who) (open_numbered t who m) (not_opened t no_such_technician)).placing) (sym e) ∙ f)
+        (ap (λ (m : Optional Profile). (cond (is_technician who) (open_numbered t who m) (not_opened t no_such_technician)).placing) (sym e) ∙ f)
 
 -- What a reader tells says what it took, and what is collected.
 

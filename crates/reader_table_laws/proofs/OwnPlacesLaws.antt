@@ -1,11 +1,9 @@
 -- A technician holds a place exactly when they opened it and have not closed it since; and a call is refused 32 or 34 exactly when it is not of a
 -- place that is held, since a reader itself refuses 1 to 12.
-use Rattle.std.specs.Prelude.{◌≡◌, refl, Bool, true, false, cond, ◌&&◌, ◌||◌, List, [], ◌∷◌, ◌++◌, ℕ, ◌+◌, ◌≤◌, eqb, leb, length, take, drop}
+use Rattle.std.specs.Prelude.{◌≡◌, refl, Bool, true, false, cond, ◌&&◌, ◌||◌, List, [], ◌∷◌, ◌++◌, ℕ, ◌+◌, ◌≤◌, eqb, leb, length, take, drop, None, Option as Optional, Some}
 use Rattle.std.proofs.Common.{sym, ap, ◌∙◌, subst, true≢false, arith, eqb-true, ne_eqb}
 use Rattle.std.proofs.Math.Option.{Option, none, some}
 use Rattle.refusal.specs.Refusal.{not_a_nibble, bad_state, no_room, no_such_technician, place_not_held}
-use Rattle.profile.specs.declared.Numbered.{Numbered}
-use Rattle.profile.specs.declared.Numbered.TheVariants as numbered
 use Rattle.profile.specs.Profile.{profile_numbered, body_length}
 use Rattle.stream.specs.declared.Answer.{Answer}
 use Rattle.stream.specs.declared.Answer.TheVariants as answers
@@ -31,6 +29,7 @@ use Rattle.reader_table_laws.specs.Views.{told_held, kept_held, told_closed, kep
 use Rattle.reader_table_laws.proofs.OpeningLaws.{opened_by_lem, opened_theirs, but_same, by_other, by_opening, by_call, by_elsewhere, by_close}
 use Rattle.reader_table_laws.specs.Reached.{none_in_empty}
 use Rattle.reader_table_laws.specs.OwnPlaces.{is_denial, is_close, closes_in, OpenedIn, OnlyOpened}
+use Rattle.profile.specs.declared.Profile.{Profile}
 
 -- What a reader itself answers is neither 32 nor 34.
 
@@ -130,11 +129,11 @@ module _ (who : ℕ) (h : is_technician who ≡ true) (i : ℕ) where
             opened_since (record { before = []; profile = n; after = cs; has_opening = refl; given = p ∙ ap at_place (sym (eqb-true i j g)); not_closed = f })
         at j r false g p e = kept_open (to_open n) refl e
 
-        go : (m : Numbered) (o : Placing) → (open_place_of t who n).placing ≡ o → is_there (kept_opened (view who t) m o i) ≡ true
+        go : (m : Optional Profile) (o : Placing) → (open_place_of t who n).placing ≡ o → is_there (kept_opened (view who t) m o i) ≡ true
             → Since t (their_call (to_open n) ∷ cs)
-        go (numbered.Profile p) (at_place j) g e = at j (fresh_reader p) (eqb i j) refl g e
-        go (numbered.Profile p) (not_placed k) g e = kept_open (to_open n) refl e
-        go numbered.NoProfile o g e = kept_open (to_open n) refl e
+        go (Some p) (at_place j) g e = at j (fresh_reader p) (eqb i j) refl g e
+        go (Some p) (not_placed k) g e = kept_open (to_open n) refl e
+        go None o g e = kept_open (to_open n) refl e
     own_since (to_read j c) e = kept_open (to_read j c) refl (go (eqb j i) refl)
       where
         here : (o : Option Reader) → held_by t who j ≡ o → eqb j i ≡ true → is_there (kept_held (view who t) j c o i) ≡ true → Theirs t

@@ -1,5 +1,5 @@
 -- A closed place is free again, and opens fresh: the close puts a free place there, and nothing else moves.
-use Rattle.std.specs.Prelude.{◌≡◌, Bool, true, false, cond, [], ltb, length}
+use Rattle.std.specs.Prelude.{◌≡◌, Bool, true, false, cond, [], ltb, length, Some}
 use Rattle.std.proofs.Math.Path.{refl}
 use Rattle.std.proofs.Common.{sym, ap, ◌∙◌, subst, true≢false, arith}
 use Rattle.std.proofs.Math.Option.{Option, none, some}
@@ -7,7 +7,6 @@ use Prim.Native.Nat.{ℕ, ◌<◌}
 use borrow.Author.Tests.{ltb-true, ltb-false, lt-ltb, ne_eqb}
 use Rattle.refusal.specs.Refusal.{no_such_technician}
 use Rattle.profile.specs.declared.Profile.{Profile}
-use Rattle.profile.specs.declared.Numbered.TheVariants as numbered
 use Rattle.profile.specs.Profile.{profile_numbered}
 use Rattle.stream.specs.Answers.{nothing, answer_for, is_answer}
 use Rattle.reader.specs.declared.Reader.{Reader}
@@ -68,7 +67,7 @@ module _ (t : ReaderTable) (i : ℕ) (l : i < length t.places) where
             }))
         go false false e f = let a = ltb-false i lowest e in let b = ltb-false lowest i f in omega (arith, a, b)
 
-    freed_opens : (next n : ℕ) (p : Profile) → is_technician next ≡ true → profile_numbered n ≡ numbered.Profile p
+    freed_opens : (next n : ℕ) (p : Profile) → is_technician next ≡ true → profile_numbered n ≡ Some p
         → open_place_of freed next n ≡ opens_at freed next p i
     unfolding open_place_of open_place
     freed_opens next n p h e = simp (h, e, lowest_again, lt-ltb i (length freed.places) freed_free.is_there)

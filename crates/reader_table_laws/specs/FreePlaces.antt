@@ -1,8 +1,7 @@
 -- Free places of a table, and what an opening and a close do with them (02, A12): definitions only.
-use Rattle.std.specs.Prelude.{◌≡◌, true, ℕ, ◌<◌, length}
+use Rattle.std.specs.Prelude.{◌≡◌, true, ℕ, ◌<◌, length, Some}
 use Rattle.refusal.specs.Refusal.{no_place_free}
 use Rattle.profile.specs.declared.Profile.{Profile}
-use Rattle.profile.specs.declared.Numbered.TheVariants as numbered
 use Rattle.profile.specs.Profile.{profile_numbered}
 use Rattle.reader_table.specs.declared.ReaderTable.{ReaderTable}
 use Rattle.technician.specs.Technician.{is_technician}
@@ -23,7 +22,7 @@ pub data OpensLowest (t : ReaderTable) : Placing → Type 0 where
 pub record ClosedAgain (t : ReaderTable) (who i : ℕ) : Type 0 where
   pub is_free : Free (close_place_of t who i).table i
   pub others_stay : (j : ℕ) → (j ≡ i → ⊥) → place_at (close_place_of t who i).table j ≡ place_at t j
-  pub opens_fresh : (next n : ℕ) (p : Profile) → is_technician next ≡ true → profile_numbered n ≡ numbered.Profile p
+  pub opens_fresh : (next n : ℕ) (p : Profile) → is_technician next ≡ true → profile_numbered n ≡ Some p
       → ((j : ℕ) → j < i → Free t j → ⊥)
       → open_place_of (close_place_of t who i).table next n
       ≡ opens_at (close_place_of t who i).table next p i

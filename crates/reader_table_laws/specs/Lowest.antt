@@ -1,12 +1,10 @@
 -- Openings take the lowest free place, and 33 comes exactly when all are taken; every table that calls reach has eight places.
-use Rattle.std.specs.Prelude.{◌≡◌, refl, Bool, true, false, cond, List, [], ◌∷◌, ℕ, zero, suc, ◌<◌, eqb, ltb, length, get_or}
+use Rattle.std.specs.Prelude.{◌≡◌, refl, Bool, true, false, cond, List, [], ◌∷◌, ℕ, zero, suc, ◌<◌, eqb, ltb, length, get_or, None, Option as Optional, Some}
 use Rattle.std.proofs.Common.{sym, ap, ◌∙◌, subst, not-suc-le-zero, le_of_suc-le-suc, arith, ltb-true, ltb-false, length-set}
 use Rattle.std.proofs.Math.Option.{Option, none, some}
 use Rattle.std.proofs.lemmas.Bool.{eqb-false}
 use Rattle.refusal.specs.Refusal.{no_such_technician, no_place_free}
 use Rattle.profile.specs.declared.Profile.{Profile}
-use Rattle.profile.specs.declared.Numbered.{Numbered}
-use Rattle.profile.specs.declared.Numbered.TheVariants as numbered
 use Rattle.profile.specs.Profile.{profile_numbered}
 use Rattle.reader.specs.declared.Reader.{Reader}
 use Rattle.reader.specs.Reader.{fresh_reader}
@@ -38,9 +36,9 @@ serve_length t who (to_open n) = go (is_technician who) (profile_numbered n)
     at p true = put_length t (lowest_free t.places) (place_for who (fresh_reader p))
     at p false = refl
 
-    go : (a : Bool) (m : Numbered) → length (cond a (open_numbered t who m) (not_opened t no_such_technician)).table.places ≡ length t.places
-    go true (numbered.Profile p) = at p (ltb (lowest_free t.places) (length t.places))
-    go true numbered.NoProfile = refl
+    go : (a : Bool) (m : Optional Profile) → length (cond a (open_numbered t who m) (not_opened t no_such_technician)).table.places ≡ length t.places
+    go true (Some p) = at p (ltb (lowest_free t.places) (length t.places))
+    go true None = refl
     go false m = refl
 serve_length t who (to_read i c) = go (is_technician who) (held_by t who i)
   where
@@ -76,13 +74,13 @@ taken_below (p ∷ ps) i l e = go (eqb p.owner nobody) refl (taken_below ps) i l
 
 -- Openings.
 
-pub opens_lowest : (t : ReaderTable) (who n : ℕ) (p : Profile) → is_technician who ≡ true → profile_numbered n ≡ numbered.Profile p → OpensLowest t (open_place_of t who n).placing
+pub opens_lowest : (t : ReaderTable) (who n : ℕ) (p : Profile) → is_technician who ≡ true → profile_numbered n ≡ Some p → OpensLowest t (open_place_of t who n).placing
 unfolding open_place_of open_place place_at
 opens_lowest t who n p h e =
     subst (OpensLowest t)
     (sym
     (ap (λ (b : Bool). (cond b (open_numbered t who (profile_numbered n)) (not_opened t no_such_technician)).placing) h
-    ∙ ap (λ (m : Numbered). (open_numbered t who m).placing) e))
+    ∙ ap (λ (m : Optional Profile). (open_numbered t who m).placing) e))
     (go (ltb (lowest_free t.places) (length t.places)) refl)
   where
     below : (j : ℕ) → j < lowest_free t.places → Free t j → ⊥

@@ -13,7 +13,7 @@ abbrev pub is_denial : Answer → Bool
 is_denial answers.Nothing = false
 is_denial (answers.Line f) = false
 is_denial (answers.Gap g) = false
-is_denial (answers.Refused n) = eqb n no_such_technician || eqb n place_not_held
+is_denial (answers.Refused r) = eqb r.0 no_such_technician || eqb r.0 place_not_held
 
 -- whether a request is to close the place i
 abbrev pub is_close : ℕ → TableRequest → Bool

@@ -1,11 +1,9 @@
 -- Every reader in a table that calls reach is one that calls of its own reach, from a fresh one; so 11 never comes of it.
-use Rattle.std.specs.Prelude.{◌≡◌, refl, Bool, true, false, cond, List, [], ◌∷◌, ◌++◌, ℕ, zero, suc, eqb, get_or, replicate}
+use Rattle.std.specs.Prelude.{◌≡◌, refl, Bool, true, false, cond, List, [], ◌∷◌, ◌++◌, ℕ, zero, suc, eqb, get_or, replicate, None, Option as Optional, Some}
 use Rattle.std.proofs.Common.{sym, ap, ◌∙◌, subst, arith, eqb-true}
 use Rattle.std.proofs.Math.Option.{Option, none, some}
 use Rattle.refusal.specs.Refusal.{bad_state, no_such_technician, place_not_held}
 use Rattle.profile.specs.declared.Profile.{Profile}
-use Rattle.profile.specs.declared.Numbered.{Numbered}
-use Rattle.profile.specs.declared.Numbered.TheVariants as numbered
 use Rattle.profile.specs.Profile.{profile_numbered}
 use Rattle.stream.specs.Answers.{refused, answer_for}
 use Rattle.mark_answer.specs.Sound.{refusal_of}
@@ -53,10 +51,10 @@ but_own v j x k l i = go (eqb i j)
     go true = l
     go false = k i
 
-opened_own : (v : ℕ → Option Reader) (m : Numbered) (o : Placing) → OwnView v → OwnView (kept_opened v m o)
-opened_own v (numbered.Profile p) (at_place j) k = but_own v j (some (fresh_reader p)) k (fresh_own p)
-opened_own v (numbered.Profile p) (not_placed n) k = k
-opened_own v numbered.NoProfile o k = k
+opened_own : (v : ℕ → Option Reader) (m : Optional Profile) (o : Placing) → OwnView v → OwnView (kept_opened v m o)
+opened_own v (Some p) (at_place j) k = but_own v j (some (fresh_reader p)) k (fresh_own p)
+opened_own v (Some p) (not_placed n) k = k
+opened_own v None o k = k
 
 held_own : (v : ℕ → Option Reader) (j : ℕ) (c : RunCall) (o : Option Reader) → OwnHeld o → OwnView v → OwnView (kept_held v j c o)
 held_own v j c none l k = k

@@ -1,5 +1,5 @@
 -- What a call does to all that a technician holds: another's leaves it, their own changes it as it says.
-use Rattle.std.specs.Prelude.{◌≡◌, Bool, cond, [], ℕ, length}
+use Rattle.std.specs.Prelude.{◌≡◌, Bool, cond, [], ℕ, length, None, Option as Optional, Some}
 use Rattle.std.proofs.Math.Path.{refl, ap}
 use Rattle.std.proofs.Common.{sym, ◌∙◌, true≢false, ltb-true, eq-eqb}
 use Rattle.std.proofs.Math.Bool.{true, false}
@@ -7,8 +7,6 @@ use Rattle.std.proofs.Math.Option.{Option, none, some}
 use Rattle.std.proofs.Math.Dec.{eqb, ltb}
 use Rattle.refusal.specs.Refusal.{no_such_technician, no_place_free, place_not_held}
 use Rattle.profile.specs.declared.Profile.{Profile}
-use Rattle.profile.specs.declared.Numbered.{Numbered}
-use Rattle.profile.specs.declared.Numbered.TheVariants as numbered
 use Rattle.profile.specs.Profile.{profile_numbered}
 use Rattle.stream.specs.Answers.{nothing, refused, answer_for}
 use Rattle.reader.specs.declared.Reader.{Reader}
@@ -42,9 +40,9 @@ module _ (who : ℕ) (h : is_technician who ≡ true) (other : ℕ) (f : eqb oth
           (ap (λ (m : ℕ). eqb m who) (lowest_free_lem t) ∙ somebody who h) f
       at p false = refl
 
-      go : (a : Bool) (m : Numbered) → view who (cond a (open_numbered t other m) (not_opened t no_such_technician)).table ≡ view who t
-      go true (numbered.Profile p) = at p (ltb (lowest_free t.places) (length t.places))
-      go true numbered.NoProfile = refl
+      go : (a : Bool) (m : Optional Profile) → view who (cond a (open_numbered t other m) (not_opened t no_such_technician)).table ≡ view who t
+      go true (Some p) = at p (ltb (lowest_free t.places) (length t.places))
+      go true None = refl
       go false m = refl
 
   other_reads : (i : ℕ) (c : RunCall) → view who (call_place_of t other i c).table ≡ view who t
@@ -95,10 +93,10 @@ kept_closed v i none = v
 kept_closed v i (some r) = but v i none
 
 -- what one holds after an opening
-abbrev pub kept_opened : (ℕ → Option Reader) → Numbered → Placing → ℕ → Option Reader
-kept_opened v (numbered.Profile p) (at_place i) = but v i (some (fresh_reader p))
-kept_opened v (numbered.Profile p) (not_placed k) = v
-kept_opened v numbered.NoProfile o = v
+abbrev pub kept_opened : (ℕ → Option Reader) → Optional Profile → Placing → ℕ → Option Reader
+kept_opened v (Some p) (at_place i) = but v i (some (fresh_reader p))
+kept_opened v (Some p) (not_placed k) = v
+kept_opened v None o = v
 
 module _ (who : ℕ) (h : is_technician who ≡ true) where
   -- what is held where a technician stores a place of their own
@@ -117,7 +115,7 @@ module _ (who : ℕ) (h : is_technician who ≡ true) where
           (cond b
           (opens_at t who p (lowest_free t.places))
           (not_opened t no_place_free)).table
-          ≡ kept_opened (view who t) (numbered.Profile p)
+          ≡ kept_opened (view who t) (Some p)
           (cond b
           (opens_at t who p (lowest_free t.places))
           (not_opened t no_place_free)).placing
@@ -126,13 +124,13 @@ module _ (who : ℕ) (h : is_technician who ≡ true) where
           ∙ ap (λ (o : Option Reader). but (view who t) (lowest_free t.places) o) (mine (fresh_reader p))
       at p false l = refl
 
-      go : (a : Bool) (m : Numbered) → a ≡ true
+      go : (a : Bool) (m : Optional Profile) → a ≡ true
           → view who (cond a (open_numbered t who m) (not_opened t no_such_technician)).table
           ≡ kept_opened (view who t) m (cond a (open_numbered t who m) (not_opened t no_such_technician)).placing
-      go true (numbered.Profile p) e = at p (ltb (lowest_free t.places) (length t.places)) refl
-      go true numbered.NoProfile e = refl
-      go false (numbered.Profile p) e = refl
-      go false numbered.NoProfile e = refl
+      go true (Some p) e = at p (ltb (lowest_free t.places) (length t.places)) refl
+      go true None e = refl
+      go false (Some p) e = refl
+      go false None e = refl
 
   pub reads : (t : ReaderTable) (i : ℕ) (c : RunCall)
       → ((serve t who (to_read i c)).told ≡ told_held (view who t i) c)

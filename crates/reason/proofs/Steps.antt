@@ -1,4 +1,5 @@
 -- One turn of each loop, and what a slice's nibbles are known to be.
+use Rattle.std.specs.Prelude.{Option, None, Some}
 use mathlib.Core.Path.{◌≡◌, refl, ◌∙◌, ap, ap₂, sym, subst}
 use mathlib.Core.Bool.{Bool, true, false, ◌&&◌, cond, true≢false}
 use mathlib.Core.List.{List, [], ◌∷◌}
@@ -9,11 +10,12 @@ use native.Mathlib.Numerals.{add-one}
 use lib.Dec.{eqb, leb, ltb}
 use lib.ListN.{length, take, drop, get_or, length-drop, drop_of_length-le}
 use lib.Seq.{drop-cons, take-length}
-use borrow.Author.Tests.{eqb-true, eqb-false, eq-eqb, ne_eqb, leb-true, le-leb, lt-leb, ltb-true, ltb-false}
+use borrow.Author.Tests.{eq-eqb, ne_eqb, leb-true, le-leb, lt-leb, ltb-true, ltb-false}
+use Rattle.std.specs.Bool.{MatchBool}
+use Rattle.std.specs.List.{AllWithin, HoldsAt, starts_with}
 use Rattle.bits.specs.Every.{and_left, and_right, and_both}
 use Rattle.refusal.specs.Refusal.{not_a_nibble, bad_kind, no_mark_first}
 use Rattle.line_code.specs.declared.Kind.{Kind}
-use Rattle.line_code.specs.declared.LineKind.{LineKind}
 use Rattle.line_code.specs.LineCode.{kind_numbered}
 use Rattle.line_number.specs.LineNumber.{number_good}
 use Rattle.profile.specs.declared.Profile.{Profile}
@@ -24,8 +26,6 @@ use Rattle.profile.specs.Layout.{allows, rules}
 use Rattle.profile.specs.LayoutLaws.{rules_length}
 use Rattle.stream.specs.Answers.{line_nibbles}
 use Rattle.stream.specs.Nibbles.{nibbles_only}
-use Rattle.reason.specs.declared.Next.{Next}
-use Rattle.reason.specs.declared.Next.TheVariants.{Finish, Code}
 use Rattle.reason.specs.declared.Reason.{Reason}
 use Rattle.reason.specs.declared.Reason.TheVariants.{GoodGap, WrongLength, BadNumber, BadBody, BadGap, ShortGap, Refused}
 use Rattle.reason.specs.Explanation.{code_after, code_at, is_code, begins_mark, next_mark, pair_at, bytes_in, number_reason, body_reason, line_from_number, line_reason, gap_rule, stray_reason, two_bytes_reason, reason_of, after_opener, first_reason, last_kind, run_reason}
@@ -33,17 +33,28 @@ use Rattle.reason.specs.ExplanationLaws.{begun, bytes_length, bytes_body}
 
 -- Nibbles.
 
-pub nibbles_step : (w : List ℕ) (i : ℕ) → i < length w → nibbles_only (drop i w) ≡ (leb (get_or w i 0) 15 && nibbles_only (drop (i + 1) w))
-nibbles_step w i h = rw (add-one, drop-cons w i 0)
-
-pub nibbles_end : (w : List ℕ) (i : ℕ) → length w ≤ i → nibbles_only (drop i w) ≡ true
-nibbles_end w i h = rw (drop_of_length-le w)
-
 -- each is at most 15
 pub nibble_small : (w : List ℕ) → nibbles_only w ≡ true → (i : ℕ) → get_or w i 0 < 16
 nibble_small [] h i = omega arith
 nibble_small (n ∷ w) h zero = let k = leb-true n 15 (and_left (leb n 15) (nibbles_only w) h) in omega arith
 nibble_small (n ∷ w) h (suc i) = nibble_small w (and_right (leb n 15) (nibbles_only w) h) i
+
+nibbles_all : (w : List ℕ) → AllWithin (λ x. x ≤ 15) w 0 (length w) → nibbles_only w ≡ true
+nibbles_all [] h = refl
+nibbles_all (n ∷ w) h =
+    and_both (leb n 15) (nibbles_only w) (le-leb n 15 (h 0 0 (omega arith) (omega arith))) (nibbles_all w (λ k d low high. h (suc k) d (omega arith) (omega arith)))
+
+nibbles_not : (w : List ℕ) (k : ℕ) → HoldsAt (λ x. 15 < x) w k → nibbles_only w ≡ false
+nibbles_not w k h = go (nibbles_only w) refl
+  where
+    go : (b : Bool) → nibbles_only w ≡ b → b ≡ false
+    go true e = let small = nibble_small w e k in let large = h 0 in absurd (omega arith)
+    go false e = refl
+
+-- what trying each tells
+pub nibbles_tried : (r : Bool) (w : List ℕ) → MatchBool r (AllWithin (λ x. x ≤ 15) w 0 (length w)) ((k : ℕ) × (k < length w) × HoldsAt (λ x. 15 < x) w k) → r ≡ nibbles_only w
+nibbles_tried true w h = sym (nibbles_all w h)
+nibbles_tried false w h = sym (nibbles_not w h.0 h.2)
 
 nibbles_drop : (k : ℕ) (w : List ℕ) → nibbles_only w ≡ true → nibbles_only (drop k w) ≡ true
 nibbles_drop zero w h = h
@@ -58,36 +69,23 @@ nibbles_take (suc k) (n ∷ w) h =
 
 -- Marks.
 
-eqb_turned : (a b : ℕ) → eqb a b ≡ eqb b a
-eqb_turned a b = go (eqb b a) refl
-  where
-    go : (x : Bool) → eqb b a ≡ x → eqb a b ≡ x
-    go true e = eq-eqb a b (sym (eqb-true b a e))
-    go false e = ne_eqb a b (λ q. eqb-false b a e (sym q))
-
 -- of eight nibbles or more
-pub begins_long : (u : List ℕ) → 8 ≤ length u
-    → begins_mark u
-    ≡ (eqb (get_or u 0 0) 15 && (eqb (get_or u 1 0) 15 && (eqb (get_or u 2 0) 15 && (eqb (get_or u 3 0) 15 && (eqb (get_or u 4 0) 0 && eqb (get_or u 5 0) 0)))))
+pub begins_starts : (u : List ℕ) → 8 ≤ length u → begins_mark u ≡ starts_with eqb u (15 ∷ 15 ∷ 15 ∷ 15 ∷ 0 ∷ 0 ∷ [])
 unfolding code_at
-begins_long [] h = absurd (omega arith)
-begins_long (n₀ ∷ []) h = absurd (omega arith)
-begins_long (n₀ ∷ n₁ ∷ []) h = absurd (omega arith)
-begins_long (n₀ ∷ n₁ ∷ n₂ ∷ []) h = absurd (omega arith)
-begins_long (n₀ ∷ n₁ ∷ n₂ ∷ n₃ ∷ []) h = absurd (omega arith)
-begins_long (n₀ ∷ n₁ ∷ n₂ ∷ n₃ ∷ n₄ ∷ []) h = absurd (omega arith)
-begins_long (n₀ ∷ n₁ ∷ n₂ ∷ n₃ ∷ n₄ ∷ n₅ ∷ []) h = absurd (omega arith)
-begins_long (n₀ ∷ n₁ ∷ n₂ ∷ n₃ ∷ n₄ ∷ n₅ ∷ x ∷ []) h = absurd (omega arith)
-begins_long (n₀ ∷ n₁ ∷ n₂ ∷ n₃ ∷ n₄ ∷ n₅ ∷ x ∷ y ∷ w) h =
+begins_starts [] h = absurd (omega arith)
+begins_starts (n₀ ∷ []) h = absurd (omega arith)
+begins_starts (n₀ ∷ n₁ ∷ []) h = absurd (omega arith)
+begins_starts (n₀ ∷ n₁ ∷ n₂ ∷ []) h = absurd (omega arith)
+begins_starts (n₀ ∷ n₁ ∷ n₂ ∷ n₃ ∷ []) h = absurd (omega arith)
+begins_starts (n₀ ∷ n₁ ∷ n₂ ∷ n₃ ∷ n₄ ∷ []) h = absurd (omega arith)
+begins_starts (n₀ ∷ n₁ ∷ n₂ ∷ n₃ ∷ n₄ ∷ n₅ ∷ []) h = absurd (omega arith)
+begins_starts (n₀ ∷ n₁ ∷ n₂ ∷ n₃ ∷ n₄ ∷ n₅ ∷ x ∷ []) h = absurd (omega arith)
+begins_starts (n₀ ∷ n₁ ∷ n₂ ∷ n₃ ∷ n₄ ∷ n₅ ∷ x ∷ y ∷ w) h =
     six (eqb 15 n₀) (eqb 15 n₁) (eqb 15 n₂) (eqb 15 n₃) (eqb 0 n₄) (eqb 0 n₅)
-    ∙ ap₂ (λ a b. a && b) (eqb_turned 15 n₀)
-    (ap₂ (λ a b. a && b) (eqb_turned 15 n₁)
-    (ap₂ (λ a b. a && b) (eqb_turned 15 n₂)
-    (ap₂ (λ a b. a && b) (eqb_turned 15 n₃) (ap₂ (λ a b. a && b) (eqb_turned 0 n₄) (eqb_turned 0 n₅)))))
   where
     six : (b₀ b₁ b₂ b₃ b₄ b₅ : Bool)
         → is_code (code_after (cond b₀ (cond b₁ (cond b₂ (cond b₃ (cond b₄ (cond b₅ (some (x ∷ y ∷ w)) none) none) none) none) none) none))
-        ≡ (b₀ && (b₁ && (b₂ && (b₃ && (b₄ && b₅)))))
+        ≡ (b₀ && (b₁ && (b₂ && (b₃ && (b₄ && (b₅ && true))))))
     six false b₁ b₂ b₃ b₄ b₅ = refl
     six true false b₂ b₃ b₄ b₅ = refl
     six true true false b₃ b₄ b₅ = refl
@@ -96,24 +94,19 @@ begins_long (n₀ ∷ n₁ ∷ n₂ ∷ n₃ ∷ n₄ ∷ n₅ ∷ x ∷ y ∷ w
     six true true true true true false = refl
     six true true true true true true = refl
 
--- all but the last of them right
-pub begins_last : (u : List ℕ) → 8 ≤ length u → get_or u 0 0 ≡ 15 → get_or u 1 0 ≡ 15 → get_or u 2 0 ≡ 15 → get_or u 3 0 ≡ 15 → get_or u 4 0 ≡ 0
-    → begins_mark u ≡ eqb (get_or u 5 0) 0
-begins_last u h e₀ e₁ e₂ e₃ e₄ = begins_long u h ∙ simp (e₀, e₁, e₂, e₃, e₄)
-
 -- the code of a mark
-pub code_there : (u : List ℕ) → begins_mark u ≡ true → code_at u ≡ Code (pair_at u 6)
+pub code_there : (u : List ℕ) → begins_mark u ≡ true → code_at u ≡ Some (pair_at u 6)
 unfolding code_at
 code_there u h =
     let g = begun u h in
-    ap code_at g.is ∙ ap (λ (l : List ℕ). Code (pair_at l 6)) (sym g.is)
+    ap code_at g.is ∙ ap (λ (l : List ℕ). Some (pair_at l 6)) (sym g.is)
 
-pub code_absent : (u : List ℕ) → begins_mark u ≡ false → code_at u ≡ Finish
+pub code_absent : (u : List ℕ) → begins_mark u ≡ false → code_at u ≡ None
 code_absent u h = go (code_at u) refl h
   where
-    go : (c : Next) → code_at u ≡ c → is_code c ≡ false → c ≡ Finish
-    go Finish e k = refl
-    go (Code c) e k = absurd (true≢false k)
+    go : (c : Option ℕ) → code_at u ≡ c → is_code c ≡ false → c ≡ None
+    go None e k = refl
+    go (Some c) e k = absurd (true≢false k)
 
 pub next_step : (w : List ℕ) (i : ℕ) → i < length w → next_mark (drop i w) ≡ cond (begins_mark (drop i w)) 0 (suc (next_mark (drop (i + 1) w)))
 next_step w i h = rw (add-one, drop-cons w i 0)
@@ -148,11 +141,11 @@ drop_two w r h f = go (ltb r 2) refl
 
 -- Lines.
 
-pub line_long : (p : Profile) (k : Kind) (t : List ℕ) (c : ℕ) → length t ≡ line_nibbles p → line_reason p k t (Code c) ≡ line_from_number p k t c
+pub line_long : (p : Profile) (k : Kind) (t : List ℕ) (c : ℕ) → length t ≡ line_nibbles p → line_reason p k t (Some c) ≡ line_from_number p k t c
 unfolding line_reason
 line_long p k t c h = ap (λ (b : Bool). cond b (line_from_number p k t c) (WrongLength (length t) (line_nibbles p))) (eq-eqb (length t) (line_nibbles p) h)
 
-pub line_wrong : (p : Profile) (k : Kind) (t : List ℕ) (c : ℕ) → (length t ≡ line_nibbles p → ⊥) → line_reason p k t (Code c) ≡ WrongLength (length t) (line_nibbles p)
+pub line_wrong : (p : Profile) (k : Kind) (t : List ℕ) (c : ℕ) → (length t ≡ line_nibbles p → ⊥) → line_reason p k t (Some c) ≡ WrongLength (length t) (line_nibbles p)
 unfolding line_reason
 line_wrong p k t c h = ap (λ (b : Bool). cond b (line_from_number p k t c) (WrongLength (length t) (line_nibbles p))) (ne_eqb (length t) (line_nibbles p) h)
 
@@ -238,18 +231,18 @@ module _ (k : Kind) (g : List ℕ) where
 
 -- Runs.
 
-pub first_of : (p : Profile) (before : LineKind) (w : List ℕ) (c n : ℕ) (next : Next) → c ≡ pair_at w 0 → n ≡ next_mark w → next ≡ code_at (drop n w)
+pub first_of : (p : Profile) (before : Option Kind) (w : List ℕ) (c n : ℕ) (next : Option ℕ) → c ≡ pair_at w 0 → n ≡ next_mark w → next ≡ code_at (drop n w)
     → reason_of p before c (take n w) next ≡ first_reason p before w
 unfolding first_reason
 first_of p before w c n next x y z =
-    ap₂ (λ (a : ℕ) (e : Next). reason_of p before a (take n w) e) x z
+    ap₂ (λ (a : ℕ) (e : Option ℕ). reason_of p before a (take n w) e) x z
     ∙ ap (λ (m : ℕ). reason_of p before (pair_at w 0) (take m w) (code_at (drop m w))) y
 
 module _ (p : Profile) (k : ℕ) (w : List ℕ) where
   abbrev by : Bool → Bool → Bool → Reason
-  by x y z = cond x (cond y (cond z (first_reason p (kind_numbered k) (after_opener w)) (Refused no_mark_first)) (Refused not_a_nibble)) (Refused bad_kind)
+  by x y z = cond x (cond y (cond z (first_reason p (kind_numbered k) (after_opener w)) (Refused (record { 0 = no_mark_first }))) (Refused (record { 0 = not_a_nibble }))) (Refused (record { 0 = bad_kind }))
 
-  pub run_13 : last_kind < k → run_reason p k w ≡ Refused bad_kind
+  pub run_13 : last_kind < k → run_reason p k w ≡ Refused (record { 0 = bad_kind })
   unfolding run_reason
   run_13 h = ap (λ (x : Bool). by x (nibbles_only w) (begins_mark w)) (lt-leb k last_kind h)
 
@@ -258,10 +251,10 @@ module _ (p : Profile) (k : ℕ) (w : List ℕ) where
     unfolding run_reason
     by_kind = ap (λ (x : Bool). by x (nibbles_only w) (begins_mark w)) (le-leb k last_kind h)
 
-    pub run_10 : nibbles_only w ≡ false → run_reason p k w ≡ Refused not_a_nibble
+    pub run_10 : nibbles_only w ≡ false → run_reason p k w ≡ Refused (record { 0 = not_a_nibble })
     run_10 y = by_kind ∙ ap (λ (u : Bool). by true u (begins_mark w)) y
 
-    pub run_36 : nibbles_only w ≡ true → begins_mark w ≡ false → run_reason p k w ≡ Refused no_mark_first
+    pub run_36 : nibbles_only w ≡ true → begins_mark w ≡ false → run_reason p k w ≡ Refused (record { 0 = no_mark_first })
     run_36 y z = by_kind ∙ ap₂ (λ (u v : Bool). by true u v) y z
 
     pub run_first : nibbles_only w ≡ true → begins_mark w ≡ true → run_reason p k w ≡ first_reason p (kind_numbered k) (after_opener w)

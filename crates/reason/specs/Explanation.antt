@@ -1,6 +1,6 @@
 -- Why a mark is answered as it is (02, A9): the reason, of a profile, the kind of the mark before, and a run that begins with the mark.
 -- A text is the nibbles from the mark's code up to the next mark, oldest first.
-use Rattle.std.specs.Prelude.{Bool, true, false, cond, List, [], ◌∷◌, ℕ, suc, ◌+◌, ◌*◌, eqb, leb, length, take, drop, get_or}
+use Rattle.std.specs.Prelude.{Bool, true, false, cond, List, [], ◌∷◌, ℕ, suc, ◌+◌, ◌*◌, eqb, leb, length, take, drop, get_or, None, Option as Optional, Some}
 use Rattle.std.proofs.Math.Option.{Option, none, some}
 use Rattle.refusal.specs.Refusal.{not_a_nibble, bad_state, bad_kind, no_mark_first}
 use Rattle.line_code.specs.declared.Kind.{Kind}
@@ -9,14 +9,10 @@ use Rattle.line_code.specs.declared.Meaning.{Meaning}
 use Rattle.line_code.specs.declared.Meaning.TheVariants.{EndOfLine, Line, ReservedEC, ReservedF1}
 use Rattle.line_code.specs.declared.Reading.{Reading}
 use Rattle.line_code.specs.declared.Reading.TheVariants.{Says, Damaged}
-use Rattle.line_code.specs.declared.LineKind.{LineKind}
-use Rattle.line_code.specs.declared.LineKind.TheVariants.{NotLine, LineOf}
 use Rattle.line_code.specs.LineCode.{kind_numbered, reading_of, is_end}
 use Rattle.line_number.specs.LineNumber.{number_good}
 use Rattle.profile.specs.declared.Profile.{Profile}
 use Rattle.profile.specs.declared.Profile.TheVariants.{VV5404, VV5300}
-use Rattle.profile.specs.declared.Numbered.{Numbered}
-use Rattle.profile.specs.declared.Numbered.TheVariants as numbered
 use Rattle.profile.specs.declared.Rule.{Rule}
 use Rattle.profile.specs.declared.Rule.TheVariants.{Filler, Pixel}
 use Rattle.profile.specs.Profile.{profile_numbered}
@@ -24,8 +20,6 @@ use Rattle.profile.specs.Layout.{allows, rules}
 use Rattle.stream.specs.Answers.{line_nibbles}
 use Rattle.stream.specs.Nibbles.{nibbles_only}
 use Rattle.stream.specs.Stream.{strip}
-use Rattle.reason.specs.declared.Next.{Next}
-use Rattle.reason.specs.declared.Next.TheVariants.{Finish, Code}
 use Rattle.reason.specs.declared.Reason.{Reason}
 use Rattle.reason.specs.declared.Reason.TheVariants.{GoodLine, GoodGap, DamagedCode, ReservedCode, UnfinishedLine, WrongLength, BadNumber, BadBody, NoEndOfLine, EndWithoutLine, BadGap, ShortGap, Refused}
 use Rattle.reason.specs.Sums.{failed_sums}
@@ -37,20 +31,20 @@ abbrev pub opener : List ℕ
 opener = 15 ∷ 15 ∷ 15 ∷ 15 ∷ 0 ∷ 0 ∷ []
 
 -- the code after F F F F 0 0, if two nibbles follow
-abbrev pub code_after : Option (List ℕ) → Next
-code_after none = Finish
-code_after (some []) = Finish
-code_after (some (x ∷ [])) = Finish
-code_after (some (x ∷ y ∷ w)) = Code (16 * x + y)
+abbrev pub code_after : Option (List ℕ) → Optional ℕ
+code_after none = None
+code_after (some []) = None
+code_after (some (x ∷ [])) = None
+code_after (some (x ∷ y ∷ w)) = Some (16 * x + y)
 
 -- the code of the mark that nibbles begin with, if they do
-unfoldable pub code_at : List ℕ → Next
+unfoldable pub code_at : List ℕ → Optional ℕ
 code_at u = code_after (strip opener u)
 
 -- another mark follows
-abbrev pub is_code : Next → Bool
-is_code Finish = false
-is_code (Code c) = true
+abbrev pub is_code : Optional ℕ → Bool
+is_code None = false
+is_code (Some c) = true
 
 -- whether nibbles begin with a mark
 abbrev pub begins_mark : List ℕ → Bool
@@ -98,9 +92,9 @@ abbrev pub line_from_number : Profile → Kind → List ℕ → ℕ → Reason
 line_from_number p k t c = number_reason (pair_at t 2) (pair_at t 4) (line_from_body p k t c)
 
 -- 3 at finish; 4, or by number, body and the next mark's code
-unfoldable pub line_reason : Profile → Kind → List ℕ → Next → Reason
-line_reason p k t Finish = UnfinishedLine
-line_reason p k t (Code c) = cond (eqb (length t) (line_nibbles p)) (line_from_number p k t c) (WrongLength (length t) (line_nibbles p))
+unfoldable pub line_reason : Profile → Kind → List ℕ → Optional ℕ → Reason
+line_reason p k t None = UnfinishedLine
+line_reason p k t (Some c) = cond (eqb (length t) (line_nibbles p)) (line_from_number p k t c) (WrongLength (length t) (line_nibbles p))
 
 -- Gaps: what follows the end code's two nibbles.
 
@@ -132,26 +126,26 @@ gap_reason VV5404 k g = stray_reason g 0
 gap_reason VV5300 k g = two_bytes_reason k g
 
 -- 8, or by the line kind of the mark before
-abbrev pub end_mark_reason : Profile → LineKind → List ℕ → Reason
-end_mark_reason p NotLine g = EndWithoutLine
-end_mark_reason p (LineOf k) g = gap_reason p k g
+abbrev pub end_mark_reason : Profile → Optional Kind → List ℕ → Reason
+end_mark_reason p None g = EndWithoutLine
+end_mark_reason p (Some k) g = gap_reason p k g
 
 -- Any mark.
 
 -- by what the mark's code means
-abbrev pub meaning_reason : Profile → LineKind → Meaning → List ℕ → Next → Reason
+abbrev pub meaning_reason : Profile → Optional Kind → Meaning → List ℕ → Optional ℕ → Reason
 meaning_reason p before EndOfLine t next = end_mark_reason p before (drop 2 t)
 meaning_reason p before (Line k) t next = line_reason p k t next
 meaning_reason p before ReservedEC t next = ReservedCode
 meaning_reason p before ReservedF1 t next = ReservedCode
 
 -- by how the mark's code reads
-abbrev pub reading_reason : Profile → LineKind → Reading → ℕ → List ℕ → Next → Reason
+abbrev pub reading_reason : Profile → Optional Kind → Reading → ℕ → List ℕ → Optional ℕ → Reason
 reading_reason p before (Says m r) c t next = meaning_reason p before m t next
 reading_reason p before Damaged c t next = DamagedCode c (failed_sums c)
 
 -- the reason of a mark's answer: the line kind of the mark before it, its code byte, its text, and the next mark's code
-unfoldable pub reason_of : Profile → LineKind → ℕ → List ℕ → Next → Reason
+unfoldable pub reason_of : Profile → Optional Kind → ℕ → List ℕ → Optional ℕ → Reason
 reason_of p before c t next = reading_reason p before (reading_of c) c t next
 
 -- Runs.
@@ -165,11 +159,11 @@ abbrev pub text_in : List ℕ → List ℕ
 text_in u = take (next_mark u) u
 
 -- what follows a mark's text: the next mark's code, or the end
-abbrev pub next_in : List ℕ → Next
+abbrev pub next_in : List ℕ → Optional ℕ
 next_in u = code_at (drop (next_mark u) u)
 
 -- the reason of the first mark's answer
-unfoldable pub first_reason : Profile → LineKind → List ℕ → Reason
+unfoldable pub first_reason : Profile → Optional Kind → List ℕ → Reason
 first_reason p before u = reason_of p before (pair_at u 0) (text_in u) (next_in u)
 
 -- the greatest kind number
@@ -180,13 +174,13 @@ last_kind = 5
 unfoldable pub run_reason : Profile → ℕ → List ℕ → Reason
 run_reason p k w =
     cond (leb k last_kind)
-    (cond (nibbles_only w) (cond (begins_mark w) (first_reason p (kind_numbered k) (after_opener w)) (Refused no_mark_first)) (Refused not_a_nibble))
-    (Refused bad_kind)
+    (cond (nibbles_only w) (cond (begins_mark w) (first_reason p (kind_numbered k) (after_opener w)) (Refused (record { 0 = no_mark_first }))) (Refused (record { 0 = not_a_nibble })))
+    (Refused (record { 0 = bad_kind }))
 
 -- by the profile that the number names; 11 for none
-abbrev pub profile_reason : Numbered → ℕ → List ℕ → Reason
-profile_reason numbered.NoProfile k w = Refused bad_state
-profile_reason (numbered.Profile p) k w = run_reason p k w
+abbrev pub profile_reason : Optional Profile → ℕ → List ℕ → Reason
+profile_reason None k w = Refused (record { 0 = bad_state })
+profile_reason (Some p) k w = run_reason p k w
 
 -- the answer: of a profile number, the number of the kind of the mark before, and the run
 unfoldable pub explanation : ℕ → ℕ → List ℕ → Reason

@@ -1,10 +1,9 @@
 -- Nibbles that begin with a mark, taken apart; and the bytes of a text at their places.
-use Rattle.std.specs.Prelude.{◌≡◌, refl, Bool, true, false, cond, List, [], ◌∷◌, ◌++◌, ℕ, zero, suc, ◌+◌, ◌*◌, ◌<◌, eqb, length, drop, get_or}
+use Rattle.std.specs.Prelude.{◌≡◌, refl, Bool, true, false, cond, List, [], ◌∷◌, ◌++◌, ℕ, zero, suc, ◌+◌, ◌*◌, ◌<◌, eqb, length, drop, get_or, None}
 use Rattle.std.proofs.Common.{◌∙◌, ap, ap₂, sym, true≢false, arith, not-suc-le-zero, le_of_suc-le-suc, get_or-drop}
 use Rattle.std.proofs.Math.Option.{Option, none, some}
 use Rattle.stream.specs.Stream.{strip}
 use Rattle.stream.specs.TextLaws.{strip_found}
-use Rattle.reason.specs.declared.Next.TheVariants.{Finish}
 use Rattle.reason.specs.Explanation.{opener, code_after, code_at, is_code, begins_mark, pair_at, bytes_in}
 
 -- Marks.
@@ -27,11 +26,11 @@ strip_rest (q ∷ ps) (n ∷ u) rest h = go (eqb q n) h (strip_rest ps u rest)
     go true k f = let e = f k in omega arith
     go false k f = cc
 
-pub code_short : (u : List ℕ) → length u < 8 → code_at u ≡ Finish
+pub code_short : (u : List ℕ) → length u < 8 → code_at u ≡ None
 unfolding code_at
 code_short u h = go (strip opener u) (strip_rest opener u)
   where
-    go : (o : Option (List ℕ)) → ((rest : List ℕ) → o ≡ some rest → length u ≡ length opener + length rest) → code_after o ≡ Finish
+    go : (o : Option (List ℕ)) → ((rest : List ℕ) → o ≡ some rest → length u ≡ length opener + length rest) → code_after o ≡ None
     go none f = refl
     go (some []) f = refl
     go (some (x ∷ [])) f = refl

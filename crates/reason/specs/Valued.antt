@@ -35,7 +35,7 @@ valued (reason.NoEndOfLine code) = numbered no_end_of_line (one_value code)
 valued reason.EndWithoutLine = numbered end_without_line no_values
 valued (reason.BadGap place nibble) = numbered bad_gap (two_values place nibble)
 valued (reason.ShortGap nibbles) = numbered bad_gap (one_value nibbles)
-valued (reason.Refused number) = refused number
+valued (reason.Refused r) = refused r.0
 
 -- what a call says, in the paper's numbers and values: of a profile number, the number of the kind of the mark before, and the run
 unfoldable pub explanation_values : ℕ → ℕ → List ℕ → Valued

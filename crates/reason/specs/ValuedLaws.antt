@@ -18,7 +18,7 @@ reason_for : Valued → Reason
 reason_for good_line = GoodLine
 reason_for good_gap_lem = GoodGap
 reason_for (numbered n values) = with_values n values
-reason_for (refused n) = Refused n
+reason_for (refused n) = Refused (record { 0 = n })
 
 back : (r : Reason) → r ≡ reason_for (valued r)
 unfolding reason_for with_values
@@ -34,7 +34,7 @@ back (NoEndOfLine code) = refl
 back EndWithoutLine = refl
 back (BadGap place nibble) = refl
 back (ShortGap nibbles) = refl
-back (Refused number) = refl
+back (Refused r) = refl
 
 -- two reasons of the same number and values are one
 pub same_reason : (r q : Reason) → valued r ≡ valued q → r ≡ q

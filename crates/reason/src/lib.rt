@@ -14,8 +14,9 @@ ghost use Rattle.reason.specs.Sums.{failed_sums};
 ghost use Rattle.reason.specs.Explanation.{code_at, begins_mark, next_mark, pair_at, next_reason, line_from_body, line_from_number, line_reason, gap_rule, stray_reason, two_bytes_reason, gap_reason, end_mark_reason, meaning_reason, reason_of, first_reason, run_reason};
 ghost use Rattle.reason.specs.Valued.{valued, explanation_values};
 
-use line_code::{Kind, LineKind, Meaning, Reading};
-use profile::{Numbered, Profile, Rule};
+use line_code::{Kind, Meaning, Reading};
+use profile::{Profile, Rule};
+use refusal::Refusal;
 
 // The parity sums of a code byte that fail: an odd count of ones.
 #[derive(Clone, Copy)]
@@ -30,14 +31,7 @@ pub struct FailedSums {
     pub p3: bool,
 }
 
-// The code of the mark that follows, if one does.
-#[derive(Clone, Copy)]
-pub enum Next {
-    Finish,
-    Code(u8),
-}
-
-// Why a mark is answered as it is.
+// Why a mark is answered as it is: one enum, in which a refused call stands beside the reasons of a mark, as in the paper's list.
 #[derive(Clone, Copy)]
 pub enum Reason {
     GoodLine,
@@ -63,7 +57,7 @@ pub enum Reason {
     // 9: the nibbles of a profile 1 gap under two bytes.
     ShortGap(usize),
     // Refused: 11, 13, 10 or 36.
-    Refused(u8),
+    Refused(Refusal),
 }
 
 // The reason of the answer to a run's first mark.
@@ -72,8 +66,8 @@ pub fn explain(profile: u8, before: u8, run: &[u8]) -> Reason
 {
     let numbered = Profile::numbered(profile);
     match numbered {
-        Numbered::NoProfile => Reason::Refused(refusal::BAD_STATE),
-        Numbered::Profile(p) => run_reason(p, before, run),
+        None => Reason::Refused(Refusal::BAD_STATE),
+        Some(p) => run_reason(p, before, run),
     }
 }
 
@@ -82,16 +76,16 @@ fn run_reason(profile: Profile, before: u8, run: &[u8]) -> Reason
     ensures { result ≡ run_reason profile before run.now }
 {
     if LAST_KIND < before {
-        return Reason::Refused(refusal::BAD_KIND);
+        return Reason::Refused(Refusal::BAD_KIND);
     }
     if nibbles_only(run) {
         if begins_mark(run) {
             let kind = Kind::numbered(before);
             return first_reason(profile, kind, &run[OPENER..]);
         }
-        return Reason::Refused(refusal::NO_MARK_FIRST);
+        return Reason::Refused(Refusal::NO_MARK_FIRST);
     }
-    Reason::Refused(refusal::NOT_A_NIBBLE)
+    Reason::Refused(Refusal::NOT_A_NIBBLE)
 }
 
 // The nibbles of F F F F 0 0.
@@ -109,64 +103,37 @@ const LAST_KIND: u8 = 5;
 fn nibbles_only(run: &[u8]) -> bool
     ensures { result ≡ nibbles_only run.now }
 {
-    let mut i: usize = 0;
-    while i < run.len() {
-        if 15 < run[i] {
-            return false;
-        }
-        i += 1;
-    }
-    true
+    run.iter().all(|n| *n <= 15)
 }
 
 // Whether the nibbles begin with a mark.
 fn begins_mark(run: &[u8]) -> bool
     ensures { (result ≡ begins_mark run.now) × (result ≡ true → 8 ≤ length run.now) }
 {
-    if run.len() < MARK {
-        return false;
-    }
-    if run[0] != 15 {
-        return false;
-    }
-    if run[1] != 15 {
-        return false;
-    }
-    if run[2] != 15 {
-        return false;
-    }
-    if run[3] != 15 {
-        return false;
-    }
-    if run[4] != 0 {
-        return false;
-    }
-    run[5] == 0
+    MARK <= run.len() && run.starts_with(&[15, 15, 15, 15, 0, 0])
 }
 
 // How many nibbles stand before the first place where a mark begins.
 fn next_mark(run: &[u8]) -> usize
     ensures { (result ≡ next_mark run.now) × (result ≤ length run.now) }
 {
-    let mut i: usize = 0;
-    while i < run.len() {
+    for i in 0..run.len() {
         if begins_mark(&run[i..]) {
             return i;
         }
-        i += 1;
     }
-    i
+    run.len()
 }
 
 // The code of the mark that the nibbles begin with, if they do.
-fn code_at(run: &[u8]) -> Next
+fn code_at(run: &[u8]) -> Option<u8>
     requires { nibbles_only run.now ≡ true }
     ensures { result ≡ code_at run.now }
 {
     if begins_mark(run) {
-        return Next::Code(pair_at(run, OPENER));
+        return Some(pair_at(run, OPENER));
     }
-    Next::Finish
+    None
 }
 
 // The byte of the nibbles at a place and the next.
@@ -185,7 +152,7 @@ fn joined(high: u8, low: u8) -> u8
 }
 
 // The reason, of what follows a run's first F F F F 0 0.
-fn first_reason(profile: Profile, before: LineKind, run: &[u8]) -> Reason
+fn first_reason(profile: Profile, before: Option<Kind>, run: &[u8]) -> Reason
     requires { (nibbles_only run.now ≡ true) × (2 ≤ length run.now) }
     ensures { result ≡ first_reason profile before run.now }
 {
@@ -195,8 +162,14 @@ fn first_reason(profile: Profile, before: LineKind, run: &[u8]) -> Reason
     mark_reason(profile, before, code, &run[..end], next)
 }
 
-// The reason, of a mark's code, its text and the next mark's code.
-fn mark_reason(profile: Profile, before: LineKind, code: u8, text: &[u8], next: Next) -> Reason
+// The reason, of a mark's code, its text and the next mark's code, none at finish.
+fn mark_reason(
+    profile: Profile,
+    before: Option<Kind>,
+    code: u8,
+    text: &[u8],
+    next: Option<u8>,
+) -> Reason
     requires { nibbles_only text.now ≡ true }
     ensures { result ≡ reason_of profile before code text.now next }
 {
@@ -210,7 +183,13 @@ fn mark_reason(profile: Profile, before: LineKind, code: u8, text: &[u8], next: 
     }
 }
 
-fn meaning_reason(profile: Profile, before: LineKind, m: Meaning, text: &[u8], next: Next) -> Reason
+fn meaning_reason(
+    profile: Profile,
+    before: Option<Kind>,
+    m: Meaning,
+    text: &[u8],
+    next: Option<u8>,
+) -> Reason
     requires { nibbles_only text.now ≡ true }
     ensures { result ≡ meaning_reason profile before m text.now next }
 {
@@ -238,13 +217,13 @@ fn failed_sums(byte: u8) -> FailedSums
 }
 
 // 3, 4, or by number, body and the next mark's code.
-fn line_reason(profile: Profile, kind: Kind, text: &[u8], next: Next) -> Reason
+fn line_reason(profile: Profile, kind: Kind, text: &[u8], next: Option<u8>) -> Reason
     requires { nibbles_only text.now ≡ true }
     ensures { result ≡ line_reason profile kind text.now next }
 {
     match next {
-        Next::Finish => Reason::UnfinishedLine,
-        Next::Code(code) => {
+        None => Reason::UnfinishedLine,
+        Some(code) => {
             let wanted = 2 * profile.body_length() + BODY_PLACE;
             if text.len() == wanted {
                 return number_reason(profile, kind, text, code);
@@ -275,14 +254,10 @@ fn body_reason(profile: Profile, kind: Kind, text: &[u8], next: u8) -> Reason
     requires { (nibbles_only text.now ≡ true) × (length text.now ≡ line_nibbles profile) }
     ensures { result ≡ line_from_body profile kind text.now next }
 {
-    let n = profile.body_length();
-    let mut i: usize = 0;
-    while i < n {
+    for i in 0..profile.body_length() {
         let byte = pair_at(text, BODY_PLACE + 2 * i);
         let rule = line_layout::rule_at(profile, kind, i);
-        if rule.allows(byte) {
-            i += 1;
-        } else {
+        if !rule.allows(byte) {
             return Reason::BadBody(i, byte);
         }
     }
@@ -301,13 +276,13 @@ fn next_reason(next: u8) -> Reason
 }
 
 // 8, or by the gap.
-fn end_mark_reason(profile: Profile, before: LineKind, text: &[u8]) -> Reason
+fn end_mark_reason(profile: Profile, before: Option<Kind>, text: &[u8]) -> Reason
     requires { nibbles_only text.now ≡ true }
     ensures { result ≡ end_mark_reason profile before (drop 2 text.now) }
 {
     match before {
-        LineKind::NotLine => Reason::EndWithoutLine,
-        LineKind::LineOf(kind) => {
+        None => Reason::EndWithoutLine,
+        Some(kind) => {
             let start = code_end(text.len());
             gap_reason(profile, kind, &text[start..])
         }
@@ -373,12 +348,10 @@ fn stray_reason(gap: &[u8], from: usize) -> Reason
     requires { from ≤ length gap.now }
     ensures { result ≡ stray_reason (drop from gap.now) from }
 {
-    let mut i = from;
-    while i < gap.len() {
+    for i in from..gap.len() {
         if gap[i] != 15 {
             return Reason::BadGap(i, gap[i]);
         }
-        i += 1;
     }
     Reason::GoodGap
 }

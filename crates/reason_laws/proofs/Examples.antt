@@ -45,13 +45,13 @@ line_with code a b body next = mark_of code ++ (nibbles (a ∷ b ∷ body) ++ ma
 unfoldable pub examples : List ReasonCase
 examples =
     -- refusals, in their order; 10 also behind the next mark's code; a mark's F are the last four
-    case 2 6 (16 ∷ []) (Refused 11)
-    ∷ case 0 6 (16 ∷ []) (Refused 13)
-    ∷ case 0 0 (16 ∷ []) (Refused 10)
-    ∷ case 0 0 (mark_of 0x9D ++ (mark_of 0x80 ++ (15 ∷ 16 ∷ []))) (Refused 10)
-    ∷ case 0 0 [] (Refused 36)
-    ∷ case 0 0 (opener ++ (8 ∷ [])) (Refused 36)
-    ∷ case 0 0 (15 ∷ mark_of 0x9D) (Refused 36)
+    case 2 6 (16 ∷ []) (Refused (record { 0 = 11 }))
+    ∷ case 0 6 (16 ∷ []) (Refused (record { 0 = 13 }))
+    ∷ case 0 0 (16 ∷ []) (Refused (record { 0 = 10 }))
+    ∷ case 0 0 (mark_of 0x9D ++ (mark_of 0x80 ++ (15 ∷ 16 ∷ []))) (Refused (record { 0 = 10 }))
+    ∷ case 0 0 [] (Refused (record { 0 = 36 }))
+    ∷ case 0 0 (opener ++ (8 ∷ [])) (Refused (record { 0 = 36 }))
+    ∷ case 0 0 (15 ∷ mark_of 0x9D) (Refused (record { 0 = 36 }))
     -- 1: FF, whose code lies on the next mark
     ∷ case 0 0 (opener ++ mark_of 0xC7) (DamagedCode 0xFF (record { p0 = false; p1 = true; p2 = true; p3 = true }))
     ∷ case 0 0 (mark_of 0x9E) (DamagedCode 0x9E (record { p0 = true; p1 = true; p2 = false; p3 = false }))

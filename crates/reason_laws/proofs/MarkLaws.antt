@@ -1,6 +1,6 @@
 -- The first mark of a run and the next: the meaning, which reads nibble by nibble and looks back, opens the run's first mark with its eight
 -- nibbles, and answers it for the text up to the first place where another mark begins.
-use Rattle.std.specs.Prelude.{◌≡◌, refl, Bool, true, false, cond, ◌||◌, List, [], ◌∷◌, ◌++◌, ℕ, suc, ◌+◌, ◌*◌, ◌<◌, eqb, length, take, drop}
+use Rattle.std.specs.Prelude.{◌≡◌, refl, Bool, true, false, cond, ◌||◌, List, [], ◌∷◌, ◌++◌, ℕ, suc, ◌+◌, ◌*◌, ◌<◌, eqb, length, take, drop, None, Option as Optional, Some}
 use Rattle.std.proofs.Common.{◌∙◌, ap, ap₂, sym, subst, true≢false, append_assoc, arith, not-suc-le-zero, le_of_suc-le-suc}
 use Rattle.std.proofs.Math.Option.{Option, none, some}
 use Rattle.std.proofs.Math.Seq.{take-length}
@@ -8,8 +8,6 @@ use Rattle.profile.specs.declared.Profile.{Profile}
 use Rattle.stream.specs.declared.Before.{Before}
 use Rattle.stream.specs.declared.Mark.{Mark}
 use Rattle.stream.specs.declared.Mark.TheVariants.{Open}
-use Rattle.line_code.specs.declared.LineKind.{LineKind}
-use Rattle.line_code.specs.declared.LineKind.TheVariants.{NotLine, LineOf}
 use Rattle.stream.specs.Answers.{Outcome, nothing, is_line, turned, answer_of}
 use Rattle.stream.specs.Stream.{State, fresh, group, strip, Completed, not_yet, mark, mark_if, detect, kind_at, before_by, answer_at, advance, step, run, outcomes}
 use Rattle.recovery.specs.Calls.{mark_nibbles}
@@ -19,11 +17,10 @@ use Rattle.recovery.specs.AnswerLaws.{mark_cases}
 use Rattle.recovery.specs.CutTexts.{onto_append}
 use Rattle.recovery.specs.Resync.{state_with}
 use Rattle.recovery.specs.ReadBackLaws.{run_append}
-use Rattle.reason.specs.declared.Next.{Next}
-use Rattle.reason.specs.declared.Next.TheVariants.{Finish, Code}
 use Rattle.reason.specs.Explanation.{opener, code_after, code_at, is_code, next_mark, text_in, next_in}
 use Rattle.reason.specs.ExplanationLaws.{code_short}
 use Rattle.reason_laws.specs.Short.{code_or, before_kind, kind_before, first_answer, answer_at_end}
+use Rattle.line_code.specs.declared.Kind.{Kind}
 
 -- Short texts hold no mark.
 
@@ -40,7 +37,7 @@ detect_short (y ∷ x ∷ t) h = ap (mark_if x y) (strip_short group t (omega ar
 next_short : (u : List ℕ) → length u < mark_nibbles → next_mark u ≡ length u
 next_short [] h = refl
 next_short (n ∷ u) h =
-    ap (λ (c : Next). cond (is_code c) 0 (suc (next_mark u))) (code_short (n ∷ u) h) ∙ ap suc (next_short u (omega arith))
+    ap (λ (c : Optional ℕ). cond (is_code c) 0 (suc (next_mark u))) (code_short (n ∷ u) h) ∙ ap suc (next_short u (omega arith))
 
 drop_all : (u : List ℕ) → drop (length u) u ≡ []
 drop_all [] = refl
@@ -49,18 +46,18 @@ drop_all (n ∷ u) = drop_all u
 text_short : (u : List ℕ) → length u < mark_nibbles → text_in u ≡ u
 text_short u h = ap (λ (n : ℕ). take n u) (next_short u h) ∙ take-length u
 
-code_none : code_at [] ≡ Finish
+code_none : code_at [] ≡ None
 unfolding code_at
 code_none = refl
 
-finish_short : (u : List ℕ) → length u < mark_nibbles → next_in u ≡ Finish
+finish_short : (u : List ℕ) → length u < mark_nibbles → next_in u ≡ None
 finish_short u h = ap (λ (n : ℕ). code_at (drop n u)) (next_short u h) ∙ ap code_at (drop_all u) ∙ code_none
 
 -- Eight nibbles: looking back from the last finds a mark exactly where looking on from the first does.
 
-data Sees (x y : ℕ) (t : List ℕ) : Completed → Next → Type 0 where
-  sees_mark : Sees x y t (mark x y t) (Code (16 * x + y))
-  sees_none : Sees x y t not_yet Finish
+data Sees (x y : ℕ) (t : List ℕ) : Completed → Optional ℕ → Type 0 where
+  sees_mark : Sees x y t (mark x y t) (Some (16 * x + y))
+  sees_none : Sees x y t not_yet None
 
 module _ (x y : ℕ) (t w : List ℕ) where
   sees : (b₀ b₁ b₂ b₃ b₄ b₅ : Bool)
@@ -102,20 +99,20 @@ abbrev pub answer_from : Bool → Profile → State → List ℕ → Outcome
 answer_from ends p s w = first_answer (outcomes p s w) (answer_at_end ends p (run p s w))
 
 -- the answer of a mark with this text, by what follows: the next mark's code, or the end
-abbrev pub answer_now : Bool → Profile → Mark → List ℕ → Next → Outcome
-answer_now ends p m t Finish = cond ends (answer_at p m t none) nothing
-answer_now ends p m t (Code d) = answer_at p m t (some d)
+abbrev pub answer_now : Bool → Profile → Mark → List ℕ → Optional ℕ → Outcome
+answer_now ends p m t None = cond ends (answer_at p m t none) nothing
+answer_now ends p m t (Some d) = answer_at p m t (some d)
 
 -- the answer of an open mark, by its text and what follows, both of nibbles that are still to come
 abbrev answer_by : Bool → Profile → Mark → List ℕ → List ℕ → Outcome
 answer_by ends p m t u = answer_now ends p m (turned (text_in u) t) (next_in u)
 
 -- where the next mark's code or finish comes, it is the meaning's answer
-pub now_answered : (ends : Bool) (p : Profile) (m : Mark) (t : List ℕ) (next : Next) → (is_code next || ends) ≡ true
+pub now_answered : (ends : Bool) (p : Profile) (m : Mark) (t : List ℕ) (next : Optional ℕ) → (is_code next || ends) ≡ true
     → answer_now ends p m t next ≡ answer_at p m t (code_or next)
-now_answered true p m t Finish h = refl
-now_answered false p m t Finish h = absurd (true≢false (sym h))
-now_answered ends p m t (Code d) h = refl
+now_answered true p m t None h = refl
+now_answered false p m t None h = absurd (true≢false (sym h))
+now_answered ends p m t (Some d) h = refl
 
 -- an answer ends the search
 answer_first : (p : Profile) (before : Before) (c : ℕ) (t : List ℕ) (next : Option ℕ) (os : List Outcome) (o : Outcome)
@@ -124,14 +121,14 @@ answer_first p before c t next os o =
     mark_cases (λ (a : Outcome). first_answer (a ∷ os) o ≡ a) (λ g. refl) (λ n l. refl) p before c t next (λ f body l e. refl)
 
 -- one more nibble to come, where no mark begins
-next_later : (n : ℕ) (u : List ℕ) → code_at (n ∷ u) ≡ Finish → next_mark (n ∷ u) ≡ suc (next_mark u)
-next_later n u h = ap (λ (c : Next). cond (is_code c) 0 (suc (next_mark u))) h
+next_later : (n : ℕ) (u : List ℕ) → code_at (n ∷ u) ≡ None → next_mark (n ∷ u) ≡ suc (next_mark u)
+next_later n u h = ap (λ (c : Optional ℕ). cond (is_code c) 0 (suc (next_mark u))) h
 
-next_here : (n : ℕ) (u : List ℕ) (c : ℕ) → code_at (n ∷ u) ≡ Code c → next_mark (n ∷ u) ≡ 0
-next_here n u c h = ap (λ (d : Next). cond (is_code d) 0 (suc (next_mark u))) h
+next_here : (n : ℕ) (u : List ℕ) (c : ℕ) → code_at (n ∷ u) ≡ Some c → next_mark (n ∷ u) ≡ 0
+next_here n u c h = ap (λ (d : Optional ℕ). cond (is_code d) 0 (suc (next_mark u))) h
 
 module _ (ends : Bool) (p : Profile) (before : Before) (c : ℕ) where
-  abbrev now : List ℕ → Next → Outcome
+  abbrev now : List ℕ → Optional ℕ → Outcome
   now t next = answer_now ends p (Open before c) t next
 
   -- seven nibbles have come in after a text that holds no later mark
@@ -141,7 +138,7 @@ module _ (ends : Bool) (p : Profile) (before : Before) (c : ℕ) where
   seven_answer [] t n₀ n₁ n₂ n₃ n₄ n₅ x =
       let u : List ℕ = n₀ ∷ n₁ ∷ n₂ ∷ n₃ ∷ n₄ ∷ n₅ ∷ x ∷ [] in
       let h : length u < mark_nibbles = omega arith in
-      sym (ap₂ (λ (v : List ℕ) (d : Next). now (turned v t) d) (text_short u h) (finish_short u h))
+      sym (ap₂ (λ (v : List ℕ) (d : Optional ℕ). now (turned v t) d) (text_short u h) (finish_short u h))
   seven_answer (y ∷ w) t n₀ n₁ n₂ n₃ n₄ n₅ x =
       go (eight n₀ n₁ n₂ n₃ n₄ n₅ x y t w) refl refl (seven_answer w (n₀ ∷ t) n₁ n₂ n₃ n₄ n₅ x y)
     where
@@ -159,14 +156,14 @@ module _ (ends : Bool) (p : Profile) (before : Before) (c : ℕ) where
           first_answer ((advance p (Open before c) back d).outcome ∷ outcomes p (advance p (Open before c) back d).state w)
           (answer_at_end ends p (run p (advance p (Open before c) back d).state w))
 
-      go : {d : Completed} {e : Next} → Sees x y t d e → detect back ≡ d → code_at (n₀ ∷ u) ≡ e
+      go : {d : Completed} {e : Optional ℕ} → Sees x y t d e → detect back ≡ d → code_at (n₀ ∷ u) ≡ e
           → answer_from ends p (state_with (Open before c) back) w ≡ answer_by ends p (Open before c) (n₀ ∷ t) u
           → from (detect back) ≡ answer_by ends p (Open before c) t (n₀ ∷ u)
       go sees_mark f g r =
           ap from f
           ∙ answer_first p before c t (some (16 * x + y)) (outcomes p after w) (answer_at_end ends p (run p after w))
           ∙ sym (ap (λ (k : ℕ). now (turned (take k (n₀ ∷ u)) t) (code_at (drop k (n₀ ∷ u)))) (next_here n₀ u (16 * x + y) g)
-          ∙ ap (λ (e : Next). now t e) g)
+          ∙ ap (λ (e : Optional ℕ). now t e) g)
       go sees_none f g r =
           ap from f
           ∙ r
@@ -186,8 +183,8 @@ module _ (ends : Bool) (p : Profile) (before : Before) (c : ℕ) where
       → answer_from ends p (state_with (Open before c) (onto (y ∷ x ∷ []) w)) [] ≡ answer_by ends p (Open before c) [] (x ∷ y ∷ w)
   few_answer x y w h =
       let g : length (x ∷ y ∷ w) < mark_nibbles = omega arith in
-      ap (λ (l : List ℕ). now l Finish) (onto_turned (y ∷ x ∷ []) w)
-      ∙ sym (ap₂ (λ (v : List ℕ) (d : Next). now (turned v []) d) (text_short (x ∷ y ∷ w) g) (finish_short (x ∷ y ∷ w) g))
+      ap (λ (l : List ℕ). now l None) (onto_turned (y ∷ x ∷ []) w)
+      ∙ sym (ap₂ (λ (v : List ℕ) (d : Optional ℕ). now (turned v []) d) (text_short (x ∷ y ∷ w) g) (finish_short (x ∷ y ∷ w) g))
     where
       onto_turned : (t w : List ℕ) → onto t w ≡ turned w t
       onto_turned t [] = refl
@@ -208,15 +205,15 @@ module _ (ends : Bool) (p : Profile) (before : Before) (c : ℕ) where
 -- The run's first mark.
 
 -- the state that a mark's code opens, whichever the mark before was
-pub record Opened (p : Profile) (kind : LineKind) (code x y : ℕ) (s : State) : Type 0 where
+pub record Opened (p : Profile) (kind : Optional Kind) (code x y : ℕ) (s : State) : Type 0 where
   pub before : Before
   pub kind_is : before_kind before ≡ kind
   pub state : s ≡ state_with (Open before code) (y ∷ x ∷ [])
 
-kind_kept : (k : LineKind) (handed : Bool) → before_kind (before_by k handed) ≡ k
-kind_kept NotLine handed = refl
-kind_kept (LineOf k) true = refl
-kind_kept (LineOf k) false = refl
+kind_kept : (k : Optional Kind) (handed : Bool) → before_kind (before_by k handed) ≡ k
+kind_kept None handed = refl
+kind_kept (Some k) true = refl
+kind_kept (Some k) false = refl
 
 -- a mark that is completed: its code opens
 completed : (d : Completed) (p : Profile) (m : Mark) (t : List ℕ) → is_mark d ≡ true → (x y : ℕ) (u : List ℕ) → t ≡ y ∷ x ∷ u → detect t ≡ d

@@ -1,5 +1,5 @@
 -- The reason has the number of the mark's answer, of the same text (01's answer on texts kept newest first, 02's reason on texts oldest first).
-use Rattle.std.specs.Prelude.{◌≡◌, Bool, true, false, ◌&&◌, cond, eqb, length, drop}
+use Rattle.std.specs.Prelude.{◌≡◌, Bool, true, false, ◌&&◌, cond, eqb, length, drop, None, Option as Optional, Some}
 use Rattle.std.proofs.Math.Path.{refl, sym}
 use Rattle.std.proofs.Common.{◌∙◌, ap, arith, eqb-true, eq-eqb, ne_eqb, le-leb}
 use mathlib.Core.List.{List, [], ◌∷◌, ◌++◌, append-nil}
@@ -27,8 +27,6 @@ use Rattle.stream.specs.declared.Before.TheVariants.{NoLine, RefusedLine, Handed
 use Rattle.stream.specs.declared.LineFacts.{LineFacts}
 use Rattle.stream.specs.Answers.{Outcome, line, require, bytes_onto, line_from, line_answer, good_gap, line_nibbles, turned, all_f, after_code, two_bytes_then_f, gap_from, gap_answer, by_meaning, by_reading, answer_of}
 use Rattle.stream.specs.TextLaws.{turned_back, after_code_lem}
-use Rattle.reason.specs.declared.Next.{Next}
-use Rattle.reason.specs.declared.Next.TheVariants.{Finish, Code}
 use Rattle.reason.specs.declared.Reason.{Reason}
 use Rattle.reason.specs.declared.Reason.TheVariants as reason
 use Rattle.reason.specs.Explanation.{bytes_in, number_reason, body_reason, next_reason, line_reason, gap_rule, stray_reason, two_bytes_reason, gap_reason, end_mark_reason, meaning_reason, reading_reason, reason_of}
@@ -118,11 +116,11 @@ end_said c f body = go (is_end (reading_of c))
 
 module _ (p : Profile) (k : Kind) (r : Repair) (c : ℕ) where
   -- a text of the wrong length
-  too_short : (t : List ℕ) → (length t ≡ line_nibbles p → ⊥) → short_of (line_reason p k t (Code c)) ≡ refusal wrong_length
+  too_short : (t : List ℕ) → (length t ≡ line_nibbles p → ⊥) → short_of (line_reason p k t (Some c)) ≡ refusal wrong_length
   unfolding line_reason
   too_short t h = simp (ne_eqb _ _ h)
 
-  even_said : {t : List ℕ} → Evenly t → in_short (line_from p k r (some (bytes_in t)) (reading_of c)) ≡ short_of (line_reason p k t (Code c))
+  even_said : {t : List ℕ} → Evenly t → in_short (line_from p k r (some (bytes_in t)) (reading_of c)) ≡ short_of (line_reason p k t (Some c))
   unfolding line_reason require
   even_said even_none = sym (too_short [] (λ e. omega arith))
   even_said (even_more x y even_none) = sym (too_short (x ∷ y ∷ []) (λ e. omega arith))
@@ -132,7 +130,7 @@ module _ (p : Profile) (k : Kind) (r : Repair) (c : ℕ) where
       text : List ℕ
       text = x ∷ y ∷ h ∷ l ∷ h₂ ∷ l₂ ∷ t
 
-      go : (b : Bool) → eqb (length (bytes_in t)) (body_length p) ≡ b → in_short (line_from p k r (some (bytes_in text)) (reading_of c)) ≡ short_of (line_reason p k text (Code c))
+      go : (b : Bool) → eqb (length (bytes_in t)) (body_length p) ≡ b → in_short (line_from p k r (some (bytes_in text)) (reading_of c)) ≡ short_of (line_reason p k text (Some c))
       go true q =
           let n = eqb-true (length (bytes_in t)) (body_length p) q in
           let w : length text ≡ line_nibbles p = omega (arith, even_length e) in
@@ -145,10 +143,10 @@ module _ (p : Profile) (k : Kind) (r : Repair) (c : ℕ) where
           let w : length text ≡ line_nibbles p → ⊥ = λ z. n (omega (arith, even_length e)) in
           simp (q, ne_eqb _ _ w)
 
-  line_said : (t : List ℕ) → in_short (line_from p k r (bytes_onto (turned t []) []) (reading_of c)) ≡ short_of (line_reason p k t (Code c))
+  line_said : (t : List ℕ) → in_short (line_from p k r (bytes_onto (turned t []) []) (reading_of c)) ≡ short_of (line_reason p k t (Some c))
   line_said t = go (even_or_odd t)
     where
-      go : EvenOrOdd t → in_short (line_from p k r (bytes_onto (turned t []) []) (reading_of c)) ≡ short_of (line_reason p k t (Code c))
+      go : EvenOrOdd t → in_short (line_from p k r (bytes_onto (turned t []) []) (reading_of c)) ≡ short_of (line_reason p k t (Some c))
       go (is_even e) =
           ap (λ o. in_short (line_from p k r o (reading_of c))) (bytes_even e [] [] ∙ ap {B = Option (List ℕ)} (λ l. some l) (append-nil (bytes_in t)))
           ∙ even_said e
@@ -220,14 +218,14 @@ end_mark_said p (HandedOut k) n t = gap_said p k n t
 -- Any mark.
 
 -- the answer to a mark and its reason have the same number
-pub reason_said : (p : Profile) (before : Before) (c : ℕ) (t : List ℕ) (next : Next)
+pub reason_said : (p : Profile) (before : Before) (c : ℕ) (t : List ℕ) (next : Optional ℕ)
     → in_short (answer_of p before c (turned t []) (code_or next)) ≡ short_of (reason_of p (before_kind before) c t next)
 unfolding answer_of reason_of line_reason
 reason_said p before c t next = by_reading_lem (reading_of c)
   where
-    by_line : (k : Kind) (r : Repair) (n : Next) → in_short (line_answer p k r (turned t []) (code_or n)) ≡ short_of (line_reason p k t n)
-    by_line k r Finish = refl
-    by_line k r (Code d) = line_said p k r d t
+    by_line : (k : Kind) (r : Repair) (n : Optional ℕ) → in_short (line_answer p k r (turned t []) (code_or n)) ≡ short_of (line_reason p k t n)
+    by_line k r None = refl
+    by_line k r (Some d) = line_said p k r d t
 
     by_meaning_lem : (m : Meaning) (r : Repair) → in_short (by_meaning p before m r (turned t []) (code_or next)) ≡ short_of (meaning_reason p (before_kind before) m t next)
     by_meaning_lem EndOfLine r = end_mark_said p before _ t

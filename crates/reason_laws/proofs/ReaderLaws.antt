@@ -1,10 +1,9 @@
 -- The number is the reader's own (02, A9): read after any nibbles from a fresh state, the run's first mark is answered with the reason's number;
 -- so answer the meaning, the reader that is fed singly, and any list of its calls.
-use Rattle.std.specs.Prelude.{◌≡◌, refl, Bool, true, false, cond, List, [], ◌∷◌, ◌++◌, ℕ, ◌+◌, ◌*◌, ◌≤◌, length, take, drop}
+use Rattle.std.specs.Prelude.{◌≡◌, refl, Bool, true, false, cond, List, [], ◌∷◌, ◌++◌, ℕ, ◌+◌, ◌*◌, ◌≤◌, length, take, drop, Option}
 use Rattle.std.proofs.Common.{◌∙◌, ap, ap₂, sym, true≢false, append_assoc, append-nil, length-append, take-append-drop, le-leb}
 use Rattle.std.proofs.Math.Bool.{or-true}
 use Rattle.std.proofs.Math.Seq.{drop-append_seam}
-use Rattle.line_code.specs.declared.LineKind.{LineKind}
 use Rattle.line_code.specs.LineCode.{kind_numbered, meaning_of, reading_of}
 use Rattle.profile.specs.declared.Profile.{Profile}
 use Rattle.profile.specs.declared.Profile.TheVariants.{VV5404, VV5300}
@@ -35,6 +34,7 @@ use Rattle.reason.specs.Explanation.{opener, is_code, begins_mark, text_in, next
 use Rattle.reason_laws.specs.Short.{in_short, short_of, kind_before, first_answer, answer_at_end, answer_given, is_answered, reader_gives, answers_before, calls_give}
 use Rattle.reason_laws.proofs.NumberLaws.{reason_said}
 use Rattle.reason_laws.proofs.MarkLaws.{answer_from, answer_now, now_answered, open_answer, Opened, first_opens}
+use Rattle.line_code.specs.declared.Kind.{Kind}
 
 -- a run that is not refused is explained by its first mark
 pub explanation_first : (p : Profile) (k : ℕ) (w : List ℕ) → k ≤ last_kind → nibbles_only w ≡ true → begins_mark w ≡ true
@@ -81,7 +81,7 @@ number_of_the_meaning ends p w₀ k w a h n b e =
     (now_answered ends p (Open o.before c) (turned (text_in u) []) (next_in u)
     (ap (λ (l : List ℕ). is_answered l ends) (sym g.is) ∙ a))
     ∙ reason_said p o.before c (text_in u) (next_in u)
-    ∙ ap (λ (q : LineKind). short_of (first_reason p q u)) (o.kind_is ∙ e)
+    ∙ ap (λ (q : Option Kind). short_of (first_reason p q u)) (o.kind_is ∙ e)
     ∙ ap (λ (l : List ℕ). short_of (first_reason p (kind_numbered k) (after_opener l))) (sym g.is)
     ∙ ap short_of (sym (explanation_first p k w h n b))
 

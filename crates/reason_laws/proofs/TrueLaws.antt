@@ -1,5 +1,5 @@
 -- The reason is true of the input (02, A9).
-use Rattle.std.specs.Prelude.{◌≡◌, Bool, ◌&&◌, cond, not, List, [], ◌∷◌, ℕ, zero, suc, ◌+◌, ◌%◌, ◌≤◌, ◌<◌, leb, take, drop}
+use Rattle.std.specs.Prelude.{◌≡◌, Bool, ◌&&◌, cond, not, List, [], ◌∷◌, ℕ, zero, suc, ◌+◌, ◌%◌, ◌≤◌, ◌<◌, leb, take, drop, None, Option, Some}
 use Rattle.std.proofs.Math.Path.{refl, ap, sym, subst}
 use Rattle.std.proofs.Common.{◌∙◌, ap₂, true≢false, suc-le-suc, arith, not-suc-le-zero, le_of_suc-le-suc, take-append-drop, get_or-drop}
 use Rattle.std.proofs.Math.Bool.{true, false}
@@ -13,23 +13,18 @@ use Rattle.line_code.specs.declared.Meaning.{Meaning}
 use Rattle.line_code.specs.declared.Meaning.TheVariants.{EndOfLine, Line, ReservedEC, ReservedF1}
 use Rattle.line_code.specs.declared.Reading.{Reading}
 use Rattle.line_code.specs.declared.Reading.TheVariants.{Says, Damaged}
-use Rattle.line_code.specs.declared.LineKind.{LineKind}
-use Rattle.line_code.specs.declared.LineKind.TheVariants.{NotLine, LineOf}
 use Rattle.line_code.specs.LineCode.{kind_numbered, reserved_of, meaning_of, reading_of, is_end, is_damaged, even, parity_holds}
 use Rattle.line_number.specs.LineNumber.{number_good}
 use Rattle.profile.specs.declared.Profile.{Profile}
 use Rattle.profile.specs.declared.Profile.TheVariants.{VV5404, VV5300}
 use Rattle.profile.specs.declared.Rule.{Rule}
 use Rattle.profile.specs.declared.Rule.TheVariants.{Filler}
-use Rattle.profile.specs.declared.Numbered.TheVariants as numbered
 use Rattle.profile.specs.Profile.{profile_numbered, profile_number, body_length}
 use Rattle.profile.specs.Layout.{allows, rules}
 use Rattle.profile.specs.LayoutLaws.{rules_length}
 use Rattle.stream.specs.Answers.{line_nibbles}
 use Rattle.stream.specs.Nibbles.{nibbles_only}
 use Rattle.reason.specs.declared.FailedSums.{FailedSums}
-use Rattle.reason.specs.declared.Next.{Next}
-use Rattle.reason.specs.declared.Next.TheVariants.{Finish, Code}
 use Rattle.reason.specs.declared.Reason.{Reason}
 use Rattle.reason.specs.declared.Reason.TheVariants.{GoodLine, GoodGap, WrongLength, BadNumber, BadBody, NoEndOfLine, BadGap, ShortGap, Refused}
 use Rattle.reason.specs.Sums.{sum_p0, sum_p1, sum_p2, sum_p3, failed_sums}
@@ -117,24 +112,24 @@ body_cases P (q ∷ qs) (b ∷ bs) h i r f g =
 
 -- Lines.
 
-module _ (p : Profile) (before : LineKind) (code : ℕ) (t : List ℕ) where
+module _ (p : Profile) (before : Option Kind) (code : ℕ) (t : List ℕ) where
   module _ (k : Kind) (c : ℕ) (says : CodeSays code (Line k)) where
-    end_true : BodyGood p code t (Code c) k c → TrueOf p before code t (Code c) (next_reason c)
+    end_true : BodyGood p code t (Some c) k c → TrueOf p before code t (Some c) (next_reason c)
     unfolding next_reason
     end_true b = go (is_end (reading_of c)) refl
       where
-        go : (x : Bool) → is_end (reading_of c) ≡ x → TrueOf p before code t (Code c) (cond x GoodLine (NoEndOfLine c))
+        go : (x : Bool) → is_end (reading_of c) ≡ x → TrueOf p before code t (Some c) (cond x GoodLine (NoEndOfLine c))
         go true e = good_line k c b e
         go false e = no_end k c b e
 
-    body_true : NumberGood p code t (Code c) k c → TrueOf p before code t (Code c) (body_reason (rules p k) (bytes_in (drop 6 t)) 0 (next_reason c))
+    body_true : NumberGood p code t (Some c) k c → TrueOf p before code t (Some c) (body_reason (rules p k) (bytes_in (drop 6 t)) 0 (next_reason c))
     body_true n =
-        body_cases (TrueOf p before code t (Code c)) (rules p k) bs (same ∙ sym (rules_length p k)) 0 (next_reason c)
+        body_cases (TrueOf p before code t (Some c)) (rules p k) bs (same ∙ sym (rules_length p k)) 0 (next_reason c)
         (λ j m e l x y.
         let z : m ≡ j = omega arith in
         let lj : j < body_length p = omega (arith, rules_length p k) in
-        subst (λ (i : ℕ). TrueOf p before code t (Code c) (BadBody i (get_or bs j 0))) (sym z)
-        (subst (λ (b : ℕ). TrueOf p before code t (Code c) (BadBody j b)) (sym (at j lj))
+        subst (λ (i : ℕ). TrueOf p before code t (Some c) (BadBody i (get_or bs j 0))) (sym z)
+        (subst (λ (b : ℕ). TrueOf p before code t (Some c) (BadBody j b)) (sym (at j lj))
         (bad_body_lem k c j n
         (record {
           within = lj;
@@ -155,24 +150,24 @@ module _ (p : Profile) (before : LineKind) (code : ℕ) (t : List ℕ) where
         holds_at : (j : ℕ) → j < body_length p → allowed_at (rules p k) bs j ≡ body_holds p k t j
         holds_at j l = ap (allows (get_or (rules p k) j Filler)) (at j l)
 
-    number_true : LineLong p code t (Code c) k c → TrueOf p before code t (Code c) (number_reason (pair_at t 2) (pair_at t 4) (body_reason (rules p k) (bytes_in (drop 6 t)) 0 (next_reason c)))
+    number_true : LineLong p code t (Some c) k c → TrueOf p before code t (Some c) (number_reason (pair_at t 2) (pair_at t 4) (body_reason (rules p k) (bytes_in (drop 6 t)) 0 (next_reason c)))
     unfolding number_reason
     number_true l = go (number_good (pair_at t 2)) refl (number_good (pair_at t 4)) refl
       where
         go : (x : Bool) → number_good (pair_at t 2) ≡ x → (y : Bool) → number_good (pair_at t 4) ≡ y
-            → TrueOf p before code t (Code c) (cond x (cond y (body_reason (rules p k) (bytes_in (drop 6 t)) 0 (next_reason c)) (BadNumber 1 (pair_at t 4))) (BadNumber 0 (pair_at t 2)))
+            → TrueOf p before code t (Some c) (cond x (cond y (body_reason (rules p k) (bytes_in (drop 6 t)) 0 (next_reason c)) (BadNumber 1 (pair_at t 4))) (BadNumber 0 (pair_at t 2)))
         go true e true f = body_true (record { so_far = l; number_good = before_more (number_holds t) 1 e (before_more (λ (i : ℕ). number_holds t (suc i)) 0 f (nowhere (λ (i : ℕ). number_holds t (suc (suc i))))) })
         go true e false f =
             bad_number_lem k c 1 l (record { within = omega arith; bad = f; good_before = before_more (number_holds t) 0 e (nowhere (λ (i : ℕ). number_holds t (suc i))) })
         go false e y f = bad_number_lem k c 0 l (record { within = omega arith; bad = e; good_before = nowhere (number_holds t) })
 
-  line_true : (k : Kind) → CodeSays code (Line k) → (next : Next) → TrueOf p before code t next (line_reason p k t next)
+  line_true : (k : Kind) → CodeSays code (Line k) → (next : Option ℕ) → TrueOf p before code t next (line_reason p k t next)
   unfolding line_reason
-  line_true k says Finish = unfinished k says refl
-  line_true k says (Code c) = go (eqb (length t) (line_nibbles p)) refl
+  line_true k says None = unfinished k says refl
+  line_true k says (Some c) = go (eqb (length t) (line_nibbles p)) refl
     where
       go : (x : Bool) → eqb (length t) (line_nibbles p) ≡ x
-          → TrueOf p before code t (Code c)
+          → TrueOf p before code t (Some c)
           (cond x (number_reason (pair_at t 2) (pair_at t 4) (body_reason (rules p k) (bytes_in (drop 6 t)) 0 (next_reason c))) (WrongLength (length t) (line_nibbles p)))
       go true e = number_true k c says (record { is_line = says; next_is = refl; long = eqb-true (length t) (line_nibbles p) e })
       go false e = wrong_length_lem k c says refl (eqb-false (length t) (line_nibbles p) e)
@@ -198,16 +193,16 @@ stray_cases P (v ∷ w) i f g =
     go true e k = k e
     go false e k = f 0 i (omega arith) (omega arith) e (nowhere (is_f (v ∷ w)))
 
-module _ (code : ℕ) (t : List ℕ) (next : Next) (k : Kind) (is_end_lem : CodeSays code EndOfLine) where
-  after : GapAfter (LineOf k) code k
+module _ (code : ℕ) (t : List ℕ) (next : Option ℕ) (k : Kind) (is_end_lem : CodeSays code EndOfLine) where
+  after : GapAfter (Some k) code k
   after = record { is_end = is_end_lem; before_is = refl }
 
-  gap_true_0 : TrueOf VV5404 (LineOf k) code t next (stray_reason (drop 2 t) 0)
+  gap_true_0 : TrueOf VV5404 (Some k) code t next (stray_reason (drop 2 t) 0)
   gap_true_0 =
-      stray_cases (TrueOf VV5404 (LineOf k) code t next) (drop 2 t) 0
+      stray_cases (TrueOf VV5404 (Some k) code t next) (drop 2 t) 0
       (λ j n e l x y.
       let z : n ≡ j = omega arith in
-      subst (λ (i : ℕ). TrueOf VV5404 (LineOf k) code t next (BadGap i (get_or (drop 2 t) j 0))) (sym z)
+      subst (λ (i : ℕ). TrueOf VV5404 (Some k) code t next (BadGap i (get_or (drop 2 t) j 0))) (sym z)
       (bad_gap_lem k j after (omega arith) (record { within = l; bad = x; good_before = y })))
       (λ y. good_gap_lem k after (omega arith) y)
 
@@ -234,16 +229,16 @@ module _ (code : ℕ) (t : List ℕ) (next : Next) (k : Kind) (is_end_lem : Code
     all_good b n j e y (suc (suc (suc (suc i)))) h =
         ap (gap_holds VV5300 k (drop 2 t)) (let q : suc (suc (suc (suc i))) ≡ 4 + i = omega arith in q) ∙ late i ∙ y i (omega arith)
 
-  gap_true_1 : TrueOf VV5300 (LineOf k) code t next (two_bytes_reason k (drop 2 t))
+  gap_true_1 : TrueOf VV5300 (Some k) code t next (two_bytes_reason k (drop 2 t))
   unfolding two_bytes_reason
   gap_true_1 = go (leb 4 (length (drop 2 t))) refl (allows (gap_rule k) (pair_at (drop 2 t) 0)) refl (allows (gap_rule k) (pair_at (drop 2 t) 2)) refl
     where
       tail : 4 ≤ length (drop 2 t) → allows (gap_rule k) (pair_at (drop 2 t) 0) ≡ true → allows (gap_rule k) (pair_at (drop 2 t) 2) ≡ true
-          → TrueOf VV5300 (LineOf k) code t next (stray_reason (drop 4 (drop 2 t)) 4)
+          → TrueOf VV5300 (Some k) code t next (stray_reason (drop 4 (drop 2 t)) 4)
       tail l a b =
-          stray_cases (TrueOf VV5300 (LineOf k) code t next) (drop 4 (drop 2 t)) 4
+          stray_cases (TrueOf VV5300 (Some k) code t next) (drop 4 (drop 2 t)) 4
           (λ j n e m x y.
-          subst (λ (v : ℕ). TrueOf VV5300 (LineOf k) code t next (BadGap n v))
+          subst (λ (v : ℕ). TrueOf VV5300 (Some k) code t next (BadGap n v))
           (ap (λ (i : ℕ). get_or (drop 2 t) i 0) e ∙ sym (get_or-drop 4 (drop 2 t) j 0))
           (bad_gap_lem k n after l
           (record {
@@ -256,7 +251,7 @@ module _ (code : ℕ) (t : List ℕ) (next : Next) (k : Kind) (is_end_lem : Code
       go : (x : Bool) → leb 4 (length (drop 2 t)) ≡ x
           → (y : Bool) → allows (gap_rule k) (pair_at (drop 2 t) 0) ≡ y
           → (z : Bool) → allows (gap_rule k) (pair_at (drop 2 t) 2) ≡ z
-          → TrueOf VV5300 (LineOf k) code t next
+          → TrueOf VV5300 (Some k) code t next
           (cond x (cond y (cond z (stray_reason (drop 4 (drop 2 t)) 4) (BadGap 2 (get_or (drop 2 t) 2 0))) (BadGap 0 (get_or (drop 2 t) 0 0))) (ShortGap (length (drop 2 t))))
       go false e y a z b = short_gap k after (leb-false 4 (length (drop 2 t)) e)
       go true e false a z b =
@@ -267,16 +262,16 @@ module _ (code : ℕ) (t : List ℕ) (next : Next) (k : Kind) (is_end_lem : Code
           bad_gap_lem k 2 after l (record { within = omega arith; bad = b; good_before = one_good a })
       go true e true a true b = tail (leb-true 4 (length (drop 2 t)) e) a b
 
-gap_true : (p : Profile) (before : LineKind) (code : ℕ) (t : List ℕ) (next : Next) → CodeSays code EndOfLine
+gap_true : (p : Profile) (before : Option Kind) (code : ℕ) (t : List ℕ) (next : Option ℕ) → CodeSays code EndOfLine
     → TrueOf p before code t next (end_mark_reason p before (drop 2 t))
-gap_true p NotLine code t next s = end_without_line_lem s refl
-gap_true VV5404 (LineOf k) code t next s = gap_true_0 code t next k s
-gap_true VV5300 (LineOf k) code t next s = gap_true_1 code t next k s
+gap_true p None code t next s = end_without_line_lem s refl
+gap_true VV5404 (Some k) code t next s = gap_true_0 code t next k s
+gap_true VV5300 (Some k) code t next s = gap_true_1 code t next k s
 
 -- Any mark.
 
 -- the reason is true of the mark's code, its text and the next mark's code
-pub reason_true : (p : Profile) (before : LineKind) (code : ℕ) (t : List ℕ) (next : Next) → TrueOf p before code t next (reason_of p before code t next)
+pub reason_true : (p : Profile) (before : Option Kind) (code : ℕ) (t : List ℕ) (next : Option ℕ) → TrueOf p before code t next (reason_of p before code t next)
 unfolding reason_of
 reason_true p before code t next = by_reading_lem (reading_of code) refl
   where
@@ -302,14 +297,14 @@ no_mark_in (n ∷ u) i h = go (begins_mark (n ∷ u)) refl i h (λ j l. no_mark_
     go false e zero l f = e
     go false e (suc i) l f = f i (le_of_suc-le-suc l)
 
-all_at_finish : (u : List ℕ) → next_in u ≡ Finish → text_in u ≡ u
+all_at_finish : (u : List ℕ) → next_in u ≡ None → text_in u ≡ u
 all_at_finish [] h = refl
 all_at_finish (n ∷ u) h = go (code_at (n ∷ u)) refl h (all_at_finish u)
   where
-    go : (c : Next) → code_at (n ∷ u) ≡ c → code_at (drop (cond (is_code c) 0 (suc (next_mark u))) (n ∷ u)) ≡ Finish → (next_in u ≡ Finish → text_in u ≡ u)
+    go : (c : Option ℕ) → code_at (n ∷ u) ≡ c → code_at (drop (cond (is_code c) 0 (suc (next_mark u))) (n ∷ u)) ≡ None → (next_in u ≡ None → text_in u ≡ u)
         → take (cond (is_code c) 0 (suc (next_mark u))) (n ∷ u) ≡ n ∷ u
-    go Finish e k f = ap (λ (l : List ℕ). n ∷ l) (f k)
-    go (Code d) e k f = cc
+    go None e k f = ap (λ (l : List ℕ). n ∷ l) (f k)
+    go (Some d) e k f = cc
 
 take_less : (n : ℕ) (u : List ℕ) (i : ℕ) → i < length (take n u) → i < n
 take_less zero u i h = absurd (not-suc-le-zero h)
@@ -329,14 +324,14 @@ cut_there u =
     }
 
 -- and nowhere else
-pub cut_only : (t : List ℕ) (u : List ℕ) (next : Next) → CutAt u t next → (t ≡ text_in u) × (next ≡ next_in u)
+pub cut_only : (t : List ℕ) (u : List ℕ) (next : Option ℕ) → CutAt u t next → (t ≡ text_in u) × (next ≡ next_in u)
 cut_only [] u next c = go u next (ap code_at c.whole ∙ c.next_there) c.none_at_finish
   where
-    go : (u : List ℕ) (next : Next) → code_at u ≡ next → (next ≡ Finish → [] ≡ u) → ([] ≡ text_in u) × (next ≡ next_in u)
+    go : (u : List ℕ) (next : Option ℕ) → code_at u ≡ next → (next ≡ None → [] ≡ u) → ([] ≡ text_in u) × (next ≡ next_in u)
     go [] next e f = (refl, sym e)
-    go (n ∷ u) Finish e f = let z = f refl in (cc, cc)
-    go (n ∷ u) (Code d) e f =
-        let z : next_mark (n ∷ u) ≡ 0 = ap (λ (q : Next). cond (is_code q) 0 (suc (next_mark u))) e in
+    go (n ∷ u) None e f = let z = f refl in (cc, cc)
+    go (n ∷ u) (Some d) e f =
+        let z : next_mark (n ∷ u) ≡ 0 = ap (λ (q : Option ℕ). cond (is_code q) 0 (suc (next_mark u))) e in
         (ap (λ (m : ℕ). take m (n ∷ u)) (sym z), sym e ∙ ap (λ (m : ℕ). code_at (drop m (n ∷ u))) (sym z))
 cut_only (x ∷ t) [] next c = let z = c.whole in (cc, cc)
 cut_only (x ∷ t) (n ∷ u) next c = go (begins_mark (n ∷ u)) refl (cut_only t u next (shorter c))
@@ -364,7 +359,7 @@ cut_only (x ∷ t) (n ∷ u) next c = go (begins_mark (n ∷ u)) refl (cut_only 
         )
 
 -- the reason of a run's first mark is true of the run
-first_true : (p : Profile) (before : LineKind) (w : List ℕ) → TrueOfRun p before w (first_reason p before (after_opener w))
+first_true : (p : Profile) (before : Option Kind) (w : List ℕ) → TrueOfRun p before w (first_reason p before (after_opener w))
 unfolding first_reason
 first_true p before w =
     let u : List ℕ = after_opener w in
@@ -402,14 +397,14 @@ explains n k w = by_profile (eqb n 0) refl (eqb n 1) refl
     by_run p e = go (leb k last_kind) refl (nibbles_only w) refl (begins_mark w) refl
       where
         go : (x : Bool) → leb k last_kind ≡ x → (y : Bool) → nibbles_only w ≡ y → (z : Bool) → begins_mark w ≡ z
-            → Explains n k w (cond x (cond y (cond z (first_reason p (kind_numbered k) (after_opener w)) (Refused no_mark_first)) (Refused not_a_nibble)) (Refused bad_kind))
+            → Explains n k w (cond x (cond y (cond z (first_reason p (kind_numbered k) (after_opener w)) (Refused (record { 0 = no_mark_first }))) (Refused (record { 0 = not_a_nibble }))) (Refused (record { 0 = bad_kind })))
         go false a y b z d = no_kind p e (leb-false k last_kind a)
         go true a false b z d = no_nibble p e (leb-true k last_kind a) (one_above w b)
         go true a true b false d = no_mark p e (leb-true k last_kind a) (none_above w b) (λ g. true≢false (sym (begun_begins w g) ∙ d))
         go true a true b true d = because p e (leb-true k last_kind a) (none_above w b) (begun w d) (first_true p (kind_numbered k) w)
 
     by_profile : (x : Bool) → eqb n 0 ≡ x → (y : Bool) → eqb n 1 ≡ y
-        → Explains n k w (profile_reason (cond x (numbered.Profile VV5404) (cond y (numbered.Profile VV5300) numbered.NoProfile)) k w)
+        → Explains n k w (profile_reason (cond x (Some VV5404) (cond y (Some VV5300) None)) k w)
     by_profile true e y f = by_run VV5404 (eqb-true n 0 e)
     by_profile false e true f = by_run VV5300 (eqb-true n 1 f)
     by_profile false e false f = no_profile none

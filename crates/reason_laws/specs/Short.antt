@@ -1,9 +1,7 @@
 -- What an answer and a reason say in short, to be compared: the paper's number, or good. And the answer that a mark gets from the meaning and
 -- from the reader, when nibbles before it and a run that begins with it are read from a fresh state.
-use Rattle.std.specs.Prelude.{Bool, ◌||◌, cond, List, [], ◌∷◌, ◌++◌, ℕ, ◌+◌, length, take, drop}
+use Rattle.std.specs.Prelude.{Bool, ◌||◌, cond, List, [], ◌∷◌, ◌++◌, ℕ, ◌+◌, length, take, drop, None, Option as Optional, Some}
 use Rattle.std.proofs.Math.Option.{Option, none, some}
-use Rattle.line_code.specs.declared.LineKind.{LineKind}
-use Rattle.line_code.specs.declared.LineKind.TheVariants.{NotLine, LineOf}
 use Rattle.profile.specs.declared.Profile.{Profile}
 use Rattle.stream.specs.declared.Before.{Before}
 use Rattle.stream.specs.declared.Before.TheVariants.{NoLine, RefusedLine, HandedOut}
@@ -15,12 +13,11 @@ use Rattle.recovery.specs.CallAnswers.{mark_collector}
 use Rattle.recovery.specs.CleanAnswers.{said}
 use Rattle.refinement.specs.Refine.{fed_reader, fed_outcomes}
 use Rattle.refinement.specs.Runs.{RunCall, runs_collected}
-use Rattle.reason.specs.declared.Next.{Next}
-use Rattle.reason.specs.declared.Next.TheVariants.{Finish, Code}
 use Rattle.reason.specs.declared.Reason.{Reason}
 use Rattle.reason.specs.Explanation.{opener, is_code, next_in, after_opener}
 use Rattle.reason.specs.Valued as valued
 use Rattle.reason.specs.Valued.{Valued, valued}
+use Rattle.line_code.specs.declared.Kind.{Kind}
 
 -- no answer yet, a good line, a good gap, or a refusal with its number
 pub data Short : Type 0 where
@@ -48,19 +45,19 @@ abbrev pub short_of : Reason → Short
 short_of r = without_values (valued r)
 
 -- the next mark's code, as the meaning has it
-abbrev pub code_or : Next → Option ℕ
-code_or Finish = none
-code_or (Code c) = some c
+abbrev pub code_or : Optional ℕ → Option ℕ
+code_or None = none
+code_or (Some c) = some c
 
 -- the line kind of the mark before, whether it was handed out or refused
-abbrev pub before_kind : Before → LineKind
-before_kind NoLine = NotLine
-before_kind (RefusedLine k) = LineOf k
-before_kind (HandedOut k) = LineOf k
+abbrev pub before_kind : Before → Optional Kind
+before_kind NoLine = None
+before_kind (RefusedLine k) = Some k
+before_kind (HandedOut k) = Some k
 
 -- the line kind of the mark before one that begins after w₀: the last mark that is complete when the F F F F 0 0 has come in. (A mark's code
 -- may lie on the next one's first nibbles, so it may not yet have come in with w₀.)
-abbrev pub kind_before : Profile → List ℕ → LineKind
+abbrev pub kind_before : Profile → List ℕ → Optional Kind
 kind_before p w₀ = kind_at (run p fresh (w₀ ++ opener)).at
 
 -- the first answer among outcomes, or else the one given

@@ -1,13 +1,11 @@
 -- What it is for a reason to be true of the input (02, A9): for each reason, the facts of the code, the text and the next mark's code.
-use Rattle.std.specs.Prelude.{◌≡◌, Bool, true, false, cond, List, ◌++◌, ℕ, ◌+◌, ◌*◌, ◌%◌, ◌≤◌, ◌<◌, eqb, ltb, length, drop, get_or}
+use Rattle.std.specs.Prelude.{◌≡◌, Bool, true, false, cond, List, ◌++◌, ℕ, ◌+◌, ◌*◌, ◌%◌, ◌≤◌, ◌<◌, eqb, ltb, length, drop, get_or, None, Option, Some}
 use Rattle.refusal.specs.Refusal.{not_a_nibble, bad_state, bad_kind, no_mark_first}
 use Rattle.line_code.specs.declared.Kind.{Kind}
 use Rattle.line_code.specs.declared.Reading.TheVariants.{Says, Damaged}
 use Rattle.line_code.specs.declared.Repair.{Repair}
 use Rattle.line_code.specs.declared.Meaning.{Meaning}
 use Rattle.line_code.specs.declared.Meaning.TheVariants.{EndOfLine, Line, ReservedEC, ReservedF1}
-use Rattle.line_code.specs.declared.LineKind.{LineKind}
-use Rattle.line_code.specs.declared.LineKind.TheVariants.{NotLine, LineOf}
 use Rattle.line_code.specs.LineCode.{kind_numbered, reading_of, is_end}
 use Rattle.line_number.specs.LineNumber.{number_good}
 use Rattle.profile.specs.declared.Profile.{Profile}
@@ -17,8 +15,6 @@ use Rattle.profile.specs.Profile.{profile_number, body_length}
 use Rattle.profile.specs.Layout.{allows, rules}
 use Rattle.stream.specs.Answers.{line_nibbles}
 use Rattle.reason.specs.declared.FailedSums.{FailedSums}
-use Rattle.reason.specs.declared.Next.{Next}
-use Rattle.reason.specs.declared.Next.TheVariants.{Finish, Code}
 use Rattle.reason.specs.declared.Reason.{Reason}
 use Rattle.reason.specs.declared.Reason.TheVariants.{GoodLine, GoodGap, DamagedCode, ReservedCode, UnfinishedLine, WrongLength, BadNumber, BadBody, NoEndOfLine, EndWithoutLine, BadGap, ShortGap, Refused}
 use Rattle.reason.specs.Sums.{sum_p0, sum_p1, sum_p2, sum_p3, is_odd}
@@ -80,33 +76,33 @@ pub record CodeSays (code : ℕ) (m : Meaning) : Type 0 where
 -- Reasons.
 
 -- a line of a kind that is right as far as this, before a mark with the code c: its length; its number; its body
-pub record LineLong (p : Profile) (code : ℕ) (text : List ℕ) (next : Next) (k : Kind) (c : ℕ) : Type 0 where
+pub record LineLong (p : Profile) (code : ℕ) (text : List ℕ) (next : Option ℕ) (k : Kind) (c : ℕ) : Type 0 where
   pub is_line : CodeSays code (Line k)
-  pub next_is : next ≡ Code c
+  pub next_is : next ≡ Some c
   pub long : length text ≡ line_nibbles p
 
 -- a line of the right length with a good number
-pub record NumberGood (p : Profile) (code : ℕ) (text : List ℕ) (next : Next) (k : Kind) (c : ℕ) : Type 0 where
+pub record NumberGood (p : Profile) (code : ℕ) (text : List ℕ) (next : Option ℕ) (k : Kind) (c : ℕ) : Type 0 where
   pub so_far : LineLong p code text next k c
   pub number_good : HoldBelow (number_holds text) 2
 
 -- and with a good body
-pub record BodyGood (p : Profile) (code : ℕ) (text : List ℕ) (next : Next) (k : Kind) (c : ℕ) : Type 0 where
+pub record BodyGood (p : Profile) (code : ℕ) (text : List ℕ) (next : Option ℕ) (k : Kind) (c : ℕ) : Type 0 where
   pub so_far : NumberGood p code text next k c
   pub body_good : HoldBelow (body_holds p k text) (body_length p)
 
 -- an end code after a line of a kind
-pub record GapAfter (before : LineKind) (code : ℕ) (k : Kind) : Type 0 where
+pub record GapAfter (before : Option Kind) (code : ℕ) (k : Kind) : Type 0 where
   pub is_end : CodeSays code EndOfLine
-  pub before_is : before ≡ LineOf k
+  pub before_is : before ≡ Some k
 
 -- each reason, of the kind of the mark before, the code, the text and the next mark's code. A gap is what follows the end code
-pub data TrueOf (p : Profile) (before : LineKind) (code : ℕ) (text : List ℕ) (next : Next) : Reason → Type 0 where
+pub data TrueOf (p : Profile) (before : Option Kind) (code : ℕ) (text : List ℕ) (next : Option ℕ) : Reason → Type 0 where
   damaged : (s : FailedSums) → reading_of code ≡ Damaged → SumsFail code s → TrueOf p before code text next (DamagedCode code s)
   reserved_ec : CodeSays code ReservedEC → TrueOf p before code text next ReservedCode
   reserved_f1 : CodeSays code ReservedF1 → TrueOf p before code text next ReservedCode
-  unfinished : (k : Kind) → CodeSays code (Line k) → next ≡ Finish → TrueOf p before code text next UnfinishedLine
-  wrong_length_lem : (k : Kind) (c : ℕ) → CodeSays code (Line k) → next ≡ Code c → (length text ≡ line_nibbles p → ⊥)
+  unfinished : (k : Kind) → CodeSays code (Line k) → next ≡ None → TrueOf p before code text next UnfinishedLine
+  wrong_length_lem : (k : Kind) (c : ℕ) → CodeSays code (Line k) → next ≡ Some c → (length text ≡ line_nibbles p → ⊥)
       → TrueOf p before code text next (WrongLength (length text) (line_nibbles p))
   bad_number_lem : (k : Kind) (c i : ℕ) → LineLong p code text next k c → FirstBad (number_holds text) 2 i
       → TrueOf p before code text next (BadNumber i (number_byte_at text i))
@@ -114,7 +110,7 @@ pub data TrueOf (p : Profile) (before : LineKind) (code : ℕ) (text : List ℕ)
       → TrueOf p before code text next (BadBody i (body_byte_at text i))
   no_end : (k : Kind) (c : ℕ) → BodyGood p code text next k c → is_end (reading_of c) ≡ false → TrueOf p before code text next (NoEndOfLine c)
   good_line : (k : Kind) (c : ℕ) → BodyGood p code text next k c → is_end (reading_of c) ≡ true → TrueOf p before code text next GoodLine
-  end_without_line_lem : CodeSays code EndOfLine → before ≡ NotLine → TrueOf p before code text next EndWithoutLine
+  end_without_line_lem : CodeSays code EndOfLine → before ≡ None → TrueOf p before code text next EndWithoutLine
   short_gap : (k : Kind) → GapAfter before code k → length (drop 2 text) < gap_least p
       → TrueOf p before code text next (ShortGap (length (drop 2 text)))
   bad_gap_lem : (k : Kind) (i : ℕ) → GapAfter before code k → gap_least p ≤ length (drop 2 text)
@@ -132,25 +128,25 @@ pub record Above (w : List ℕ) : Type 0 where
 
 -- Where the first mark's text ends: of what follows a run's first F F F F 0 0, it is all before the first place where a mark begins, and that
 -- mark's code is next; or it is all, and finish is next.
-pub record CutAt (u text : List ℕ) (next : Next) : Type 0 where
+pub record CutAt (u text : List ℕ) (next : Option ℕ) : Type 0 where
   pub rest : List ℕ
   pub whole : u ≡ text ++ rest
   pub next_there : code_at rest ≡ next
   pub no_mark_before : (i : ℕ) → i < length text → Begun (drop i u) → ⊥
-  pub none_at_finish : next ≡ Finish → text ≡ u
+  pub none_at_finish : next ≡ None → text ≡ u
 
 -- a reason that is true of a run: of its first mark, by the mark's code, its text and the next mark's code
-pub record TrueOfRun (p : Profile) (before : LineKind) (w : List ℕ) (r : Reason) : Type 0 where
+pub record TrueOfRun (p : Profile) (before : Option Kind) (w : List ℕ) (r : Reason) : Type 0 where
   pub text : List ℕ
-  pub next : Next
+  pub next : Option ℕ
   pub cut : CutAt (drop 6 w) text next
   pub true_of : TrueOf p before (pair_at w 6) text next r
 
 -- what is answered to a profile number, a kind number and a run: a refusal, each exactly if none of those above it applies; or else a reason
 -- that is true of the run
 pub data Explains (n k : ℕ) (w : List ℕ) : Reason → Type 0 where
-  no_profile : ((p : Profile) → n ≡ profile_number p → ⊥) → Explains n k w (Refused bad_state)
-  no_kind : (p : Profile) → n ≡ profile_number p → last_kind < k → Explains n k w (Refused bad_kind)
-  no_nibble : (p : Profile) → n ≡ profile_number p → k ≤ last_kind → Above w → Explains n k w (Refused not_a_nibble)
-  no_mark : (p : Profile) → n ≡ profile_number p → k ≤ last_kind → (Above w → ⊥) → (Begun w → ⊥) → Explains n k w (Refused no_mark_first)
+  no_profile : ((p : Profile) → n ≡ profile_number p → ⊥) → Explains n k w (Refused (record { 0 = bad_state }))
+  no_kind : (p : Profile) → n ≡ profile_number p → last_kind < k → Explains n k w (Refused (record { 0 = bad_kind }))
+  no_nibble : (p : Profile) → n ≡ profile_number p → k ≤ last_kind → Above w → Explains n k w (Refused (record { 0 = not_a_nibble }))
+  no_mark : (p : Profile) → n ≡ profile_number p → k ≤ last_kind → (Above w → ⊥) → (Begun w → ⊥) → Explains n k w (Refused (record { 0 = no_mark_first }))
   because : (p : Profile) → n ≡ profile_number p → k ≤ last_kind → (Above w → ⊥) → Begun w → {r : Reason} → TrueOfRun p (kind_numbered k) w r → Explains n k w r

@@ -121,9 +121,9 @@ taking_by done a = takes_none (λ w. refl)
 taking_by (feed n buffer) answers.Nothing = takes_one n (λ w. refl)
 taking_by (feed n buffer) (answers.Line f) = takes_one n (λ w. refl)
 taking_by (feed n buffer) (answers.Gap g) = takes_one n (λ w. refl)
-taking_by (feed n buffer) (answers.Refused r) = go (eqb r not_a_nibble || eqb r no_room) refl
+taking_by (feed n buffer) (answers.Refused r) = go (eqb r.0 not_a_nibble || eqb r.0 no_room) refl
   where
-    go : (b : Bool) → (eqb r not_a_nibble || eqb r no_room) ≡ b → Taking (feed n buffer) (answers.Refused r)
+    go : (b : Bool) → (eqb r.0 not_a_nibble || eqb r.0 no_room) ≡ b → Taking (feed n buffer) (answers.Refused r)
     go true e = takes_none (λ w. ap (λ (x : Bool). cond x w (n ∷ w)) e)
     go false e = takes_one n (λ w. ap (λ (x : Bool). cond x w (n ∷ w)) e)
 

@@ -1,6 +1,6 @@
 -- The period that a good gap carries is the one by places (02, A7). The meaning keeps no place: it adds the fixed length of a line that is
 -- handed out to the length of the end mark's text. Both are the same.
-use Rattle.std.specs.Prelude.{◌≡◌, Bool, false, ℕ, suc, ◌+◌, ◌-◌, ◌*◌, ◌/◌, ◌%◌, ◌≤◌, min, length, replicate}
+use Rattle.std.specs.Prelude.{◌≡◌, Bool, false, ℕ, suc, ◌+◌, ◌-◌, ◌*◌, ◌/◌, ◌%◌, ◌≤◌, min, length, replicate, None, Option as Optional, Some}
 use Rattle.std.proofs.Math.Path.{refl, ap, sym}
 use Rattle.std.proofs.Common.{◌∙◌, subst, true≢false, arith, length-append, eqb-true}
 use Rattle.std.proofs.Math.Bool.{true, cond}
@@ -15,8 +15,6 @@ use Rattle.line_code.specs.declared.Meaning.TheVariants.{EndOfLine, Line, Reserv
 use Rattle.line_code.specs.declared.Reading.{Reading}
 use Rattle.line_code.specs.declared.Reading.TheVariants.{Says, Damaged}
 use Rattle.line_code.specs.declared.Repair.{Repair}
-use Rattle.line_code.specs.declared.LineKind.{LineKind}
-use Rattle.line_code.specs.declared.LineKind.TheVariants.{NotLine, LineOf}
 use Rattle.line_code.specs.LineCode.{kind_meant, reading_of, kind_of}
 use Rattle.profile.specs.declared.Profile.{Profile}
 use Rattle.profile.specs.declared.Profile.TheVariants.{VV5404, VV5300}
@@ -112,8 +110,8 @@ pub data Stands (p : Profile) : Mark → List ℕ → List ℕ → List Noted �
       → length all ≡ m.place + group_nibbles + length t → Behind p before m ms → Stands p (Open before code) t all (m ∷ ms)
 
 -- a mark that is handed out has a line kind
-data LineLike : LineKind → Type 0 where
-  line_like : {k : Kind} → LineLike (LineOf k)
+data LineLike : Optional Kind → Type 0 where
+  line_like : {k : Kind} → LineLike (Some k)
 
 kind_meaning : (p : Profile) (before : Before) (m : Meaning) (r : Repair) (t : List ℕ) (next : Option ℕ)
     → is_line (by_meaning p before m r t next) ≡ true → LineLike (kind_meant m)
@@ -138,16 +136,16 @@ since_length all_taken = omega arith
 since_length {t} (since_group older h) = omega (arith, length-append t (group ++ older))
 
 module _ (p : Profile) where
-  no_period : (k : LineKind) (len : ℕ) (next : Option ℕ) → period_of p (before_by k false) len next ≡ 0
+  no_period : (k : Optional Kind) (len : ℕ) (next : Option ℕ) → period_of p (before_by k false) len next ≡ 0
   unfolding period_of
-  no_period NotLine len next = refl
-  no_period (LineOf k) len next = refl
+  no_period None len next = refl
+  no_period (Some k) len next = refl
 
   -- what the open mark is to the next one, by whether it is handed out
-  behind_handed : (k : LineKind) → LineLike k → (c l : Noted) (ms : List Noted) → is_line c.told ≡ true
+  behind_handed : (k : Optional Kind) → LineLike k → (c l : Noted) (ms : List Noted) → is_line c.told ≡ true
       → c.place ≡ l.place + (group_nibbles + line_nibbles p) → Behind p (before_by k true) c (l ∷ ms)
-  behind_handed NotLine like c l ms h e = elim like [ ]
-  behind_handed (LineOf k) line_like c l ms h e = handed h e
+  behind_handed None like c l ms h e = elim like [ ]
+  behind_handed (Some k) line_like c l ms h e = handed h e
 
   behind_next : (before : Before) (code : ℕ) (tb : List ℕ) (next : ℕ) (c l : Noted) (ms : List Noted)
       → c.told ≡ answer_of p before code tb (some next) → c.place ≡ l.place + group_nibbles + length tb → (b : Bool) → is_line (answer_of p before code tb (some next)) ≡ b
@@ -192,7 +190,7 @@ module _ (p : Profile) where
   went (Open before code) t all (l ∷ ms) (open_mark f b) h n not_yet e = record { stands = open_mark {t = n ∷ t} {all = n ∷ all} {m = l} (omega (arith, f)) b; period = tt }
   went NoMark t all [] no_mark h n (mark x y tb) e =
       let long : suc (length t) ≡ 8 + length tb = ap length (detected (n ∷ t) x y tb e) ∙ omega arith in
-      record { stands = open_mark {t = y ∷ x ∷ []} {all = n ∷ all} {m = newest all n nothing} (omega (arith, long)) (not_handed refl (no_period NotLine)); period = tt }
+      record { stands = open_mark {t = y ∷ x ∷ []} {all = n ∷ all} {m = newest all n nothing} (omega (arith, long)) (not_handed refl (no_period None)); period = tt }
   went (Open before code) t all (l ∷ ms) (open_mark f b) h n (mark x y tb) e =
       let long : suc (length t) ≡ 8 + length tb = ap length (detected (n ∷ t) x y tb e) ∙ omega arith in
       let next : ℕ = 16 * x + y in

@@ -37,7 +37,7 @@ abbrev pub takes : Answer → ℕ → List ℕ → List ℕ
 takes answers.Nothing n w = n ∷ w
 takes (answers.Line f) n w = n ∷ w
 takes (answers.Gap g) n w = n ∷ w
-takes (answers.Refused r) n w = cond (eqb r not_a_nibble || eqb r no_room) w (n ∷ w)
+takes (answers.Refused r) n w = cond (eqb r.0 not_a_nibble || eqb r.0 no_room) w (n ∷ w)
 
 -- the nibbles that a call takes, before others
 abbrev pub taken_by : Call → Answer → List ℕ → List ℕ
@@ -210,7 +210,7 @@ module _ {R : Type 0} (on : R → Call → CallResult R) where
 
 -- a call refused: reader and buffer stay as before
 abbrev pub turned_away : State → ℕ → List ℕ → CallResult State
-turned_away s n buffer = record { reader = s; answer = answers.Refused n; buffer = buffer }
+turned_away s n buffer = record { reader = s; answer = answers.Refused (record { 0 = n }); buffer = buffer }
 
 -- a nibble taken
 abbrev pub fed : Profile → State → ℕ → List ℕ → CallResult State

@@ -49,10 +49,10 @@ run_eleven r w room = go (passes r.head) (leb (body_length r.head.profile) room)
     go true false e = absurd (let z = ap refusal_of e in omega arith)
     go true true e = absurd (let l = onward_ten w r 0 in let z = ap refusal_of e in omega arith)
 
-call_eleven : (r : Reader) (c : RunCall) → (run_result r c).answer ≡ answers.Refused bad_state → passes r.head ≡ false
+call_eleven : (r : Reader) (c : RunCall) → (run_result r c).answer ≡ answers.Refused (record { 0 = bad_state }) → passes r.head ≡ false
 call_eleven r (run w buffer) e = run_eleven r w (length buffer) (answered _ bad_state e)
 call_eleven r (one c) e = eleven r c e
 
 -- 11 never comes, whatever calls came before, runs among them
-pub runs_never_eleven : (p : Profile) (cs : List RunCall) (c : RunCall) → (run_result (on_runs (fresh_reader p) cs) c).answer ≡ answers.Refused bad_state → ⊥
+pub runs_never_eleven : (p : Profile) (cs : List RunCall) (c : RunCall) → (run_result (on_runs (fresh_reader p) cs) c).answer ≡ answers.Refused (record { 0 = bad_state }) → ⊥
 runs_never_eleven p cs c e = true≢false (sym (runs_reached_passes p cs) ∙ call_eleven (on_runs (fresh_reader p) cs) c e)

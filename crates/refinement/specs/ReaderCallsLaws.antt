@@ -40,23 +40,23 @@ calls_ok (c ∷ cs) r h = calls_ok cs (reader_call r c).reader (call_ok r c h)
 pub reached_passes : (p : Profile) (cs : List Call) → passes (on_run reader_call (fresh_reader p) cs).head ≡ true
 reached_passes p cs = passes_test _ (calls_ok cs (fresh_reader p) (fresh_ok p)).test
 
-pub answered : (o : Outcome) (k : ℕ) → answer_for o ≡ answers.Refused k → o ≡ refused k
+pub answered : (o : Outcome) (k : ℕ) → answer_for o ≡ answers.Refused (record { 0 = k }) → o ≡ refused k
 answered nothing k e = cc
 answered (line f body) k e = cc
 answered (gap g) k e = cc
-answered (refused n) k e = cc
+answered (refused n) k e = ap (λ a. outcome_of VV5404 a []) e
 
-pub eleven : (r : Reader) (c : Call) → (reader_call r c).answer ≡ answers.Refused bad_state → passes r.head ≡ false
+pub eleven : (r : Reader) (c : Call) → (reader_call r c).answer ≡ answers.Refused (record { 0 = bad_state }) → passes r.head ≡ false
 eleven r (feed n buffer) e = feed_eleven r n (length buffer) (answered _ bad_state e)
 eleven r done e = finish_eleven r (answered _ bad_state e)
 
-pub never_eleven : (p : Profile) (cs : List Call) (c : Call) → (reader_call (on_run reader_call (fresh_reader p) cs) c).answer ≡ answers.Refused bad_state → ⊥
+pub never_eleven : (p : Profile) (cs : List Call) (c : Call) → (reader_call (on_run reader_call (fresh_reader p) cs) c).answer ≡ answers.Refused (record { 0 = bad_state }) → ⊥
 never_eleven p cs c e = true≢false (sym (reached_passes p cs) ∙ eleven (on_run reader_call (fresh_reader p) cs) c e)
 
 -- A refusal 10 or above leaves reader and buffer as before: in any state.
 
-pub refused_call : (r : Reader) (c : Call) (k : ℕ) → not_a_nibble ≤ k → (reader_call r c).answer ≡ answers.Refused k
-    → reader_call r c ≡ record { reader = r; answer = answers.Refused k; buffer = lent c }
+pub refused_call : (r : Reader) (c : Call) (k : ℕ) → not_a_nibble ≤ k → (reader_call r c).answer ≡ answers.Refused (record { 0 = k })
+    → reader_call r c ≡ record { reader = r; answer = answers.Refused (record { 0 = k }); buffer = lent c }
 refused_call r (feed n buffer) k l e = ap (λ t. gives t buffer) (feed_refused r n (length buffer) k l (answered _ k e))
 refused_call r done k l e =
     ap {B = CallResult Reader} (λ t. record { reader = t.reader; answer = answer_for t.outcome; buffer = [] })

@@ -30,9 +30,9 @@ pub record Begins (r : Reader) (buffer : List ℕ) : Type 0 where
 -- what a run of the inputs w gives back, and how many of them it takes
 pub data RunDoes (r : Reader) (buffer : List ℕ) : List ℕ → CallResult Reader → ℕ → Type 0 where
   -- 11 and then 12, before anything is taken: of an empty run too
-  bad_state_lem : {w : List ℕ} → passes r.head ≡ false → RunDoes r buffer w (untouched r (answers.Refused bad_state) buffer) 0
+  bad_state_lem : {w : List ℕ} → passes r.head ≡ false → RunDoes r buffer w (untouched r (answers.Refused (record { 0 = bad_state })) buffer) 0
   no_room_lem : {w : List ℕ} → passes r.head ≡ true → length buffer < body_length r.head.profile
-      → RunDoes r buffer w (untouched r (answers.Refused no_room) buffer) 0
+      → RunDoes r buffer w (untouched r (answers.Refused (record { 0 = no_room })) buffer) 0
   -- no single gives an answer: the run takes all of them and answers nothing; an empty one takes 0
   to_its_end : {w : List ℕ} {end : Reader} → Begins r buffer → Quiet buffer r w end
       → RunDoes r buffer w (untouched end answers.Nothing buffer) (length w)
@@ -42,7 +42,7 @@ pub data RunDoes (r : Reader) (buffer : List ℕ) : List ℕ → CallResult Read
       → RunDoes r buffer (before ++ (n ∷ after)) (reader_call there (feed n buffer)) (suc (length before))
   -- an input above 15 before any answer: 10, just before that place; what was taken stays taken
   to_no_nibble : (before after : List ℕ) (n : ℕ) {there : Reader} → Begins r buffer → Quiet buffer r before there → 15 < n
-      → RunDoes r buffer (before ++ (n ∷ after)) (untouched there (answers.Refused not_a_nibble) buffer) (length before)
+      → RunDoes r buffer (before ++ (n ∷ after)) (untouched there (answers.Refused (record { 0 = not_a_nibble })) buffer) (length before)
 
 -- a run's result and its count are these
 abbrev pub RunIs : Reader → List ℕ → List ℕ → CallResult Reader → ℕ → Type 0

@@ -1,89 +1,95 @@
-// The numbers of refusals (paper 01's table, and what 02 adds to it), each under its name. specs/Refusal.antt has the same names for the definitions.
-
-// A mark's answer, 1 to 9.
+// The refusals of the papers' table, each under its name. specs/Refusal.antt has the same names for the definitions.
 
 #![tactic(auto)]
 
-pub const DAMAGED_CODE: u8 = 1;
+// A refusal, by its number. No enum of the table's names: what is printed, counted and judged of a refusal is promised for every number
+// (list_rows::row, Tally::take, Judge and the exported calls' answers), and an enum would leave out those that the table does not have.
+#[derive(Clone, Copy, PartialEq, Eq)]
+pub struct Refusal(pub u8);
 
-pub const RESERVED_CODE: u8 = 2;
+impl Refusal {
+    // A mark's answer, 1 to 9.
+    pub const DAMAGED_CODE: Refusal = Refusal(1);
 
-pub const UNFINISHED_LINE: u8 = 3;
+    pub const RESERVED_CODE: Refusal = Refusal(2);
 
-pub const WRONG_LENGTH: u8 = 4;
+    pub const UNFINISHED_LINE: Refusal = Refusal(3);
 
-pub const BAD_NUMBER: u8 = 5;
+    pub const WRONG_LENGTH: Refusal = Refusal(4);
 
-pub const BAD_BODY: u8 = 6;
+    pub const BAD_NUMBER: Refusal = Refusal(5);
 
-pub const NO_END_OF_LINE: u8 = 7;
+    pub const BAD_BODY: Refusal = Refusal(6);
 
-pub const END_WITHOUT_LINE: u8 = 8;
+    pub const NO_END_OF_LINE: Refusal = Refusal(7);
 
-pub const BAD_GAP: u8 = 9;
+    pub const END_WITHOUT_LINE: Refusal = Refusal(8);
 
-// A call that is refused, and changes nothing.
-pub const NOT_A_NIBBLE: u8 = 10;
+    pub const BAD_GAP: Refusal = Refusal(9);
 
-pub const BAD_STATE: u8 = 11;
+    // A call that is refused, and changes nothing.
+    pub const NOT_A_NIBBLE: Refusal = Refusal(10);
 
-pub const NO_ROOM: u8 = 12;
+    pub const BAD_STATE: Refusal = Refusal(11);
 
-pub const BAD_KIND: u8 = 13;
+    pub const NO_ROOM: Refusal = Refusal(12);
 
-pub const NUMBER_TOO_LARGE: u8 = 14;
+    pub const BAD_KIND: Refusal = Refusal(13);
 
-pub const WRONG_BODY_LENGTH: u8 = 15;
+    pub const NUMBER_TOO_LARGE: Refusal = Refusal(14);
 
-pub const BYTE_NOT_ALLOWED: u8 = 16;
+    pub const WRONG_BODY_LENGTH: Refusal = Refusal(15);
 
-pub const TOO_MANY_NULLS: u8 = 17;
+    pub const BYTE_NOT_ALLOWED: Refusal = Refusal(16);
 
-// A frame that breaks.
-pub const NOT_THE_LINE_DUE: u8 = 18;
+    pub const TOO_MANY_NULLS: Refusal = Refusal(17);
 
-pub const BROKEN_LINE: u8 = 19;
+    // A frame that breaks.
+    pub const NOT_THE_LINE_DUE: Refusal = Refusal(18);
 
-// A picture's file.
-pub const BAD_HEADER: u8 = 20;
+    pub const BROKEN_LINE: Refusal = Refusal(19);
 
-pub const WRONG_PICTURE_LENGTH: u8 = 21;
+    // A picture's file.
+    pub const BAD_HEADER: Refusal = Refusal(20);
 
-pub const BAD_PIXEL: u8 = 22;
+    pub const WRONG_PICTURE_LENGTH: Refusal = Refusal(21);
 
-// A line whose pixels are put in another order.
-pub const NOT_VISIBLE: u8 = 23;
+    pub const BAD_PIXEL: Refusal = Refusal(22);
 
-// A two-wire message that is refused, and changes nothing.
-pub const SHORT_MESSAGE: u8 = 24;
+    // A line whose pixels are put in another order.
+    pub const NOT_VISIBLE: Refusal = Refusal(23);
 
-pub const WRONG_ADDRESS: u8 = 25;
+    // A two-wire message that is refused, and changes nothing.
+    pub const SHORT_MESSAGE: Refusal = Refusal(24);
 
-pub const WRONG_INDEX: u8 = 26;
+    pub const WRONG_ADDRESS: Refusal = Refusal(25);
 
-pub const WRONG_DATA: u8 = 27;
+    pub const WRONG_INDEX: Refusal = Refusal(26);
 
-pub const PAST_LAST_REGISTER: u8 = 28;
+    pub const WRONG_DATA: Refusal = Refusal(27);
 
-// Saved settings.
-pub const BAD_SETTING: u8 = 29;
+    pub const PAST_LAST_REGISTER: Refusal = Refusal(28);
 
-pub const VERSION_NOT_HELD: u8 = 30;
+    // Saved settings.
+    pub const BAD_SETTING: Refusal = Refusal(29);
 
-pub const NO_VERSION_LEFT: u8 = 31;
+    pub const VERSION_NOT_HELD: Refusal = Refusal(30);
 
-// A table of readers.
-pub const NO_SUCH_TECHNICIAN: u8 = 32;
+    pub const NO_VERSION_LEFT: Refusal = Refusal(31);
 
-pub const NO_PLACE_FREE: u8 = 33;
+    // A table of readers.
+    pub const NO_SUCH_TECHNICIAN: Refusal = Refusal(32);
 
-pub const PLACE_NOT_HELD: u8 = 34;
+    pub const NO_PLACE_FREE: Refusal = Refusal(33);
 
-// Two lists compared.
-pub const NUMBERS_NOT_RISING: u8 = 35;
+    pub const PLACE_NOT_HELD: Refusal = Refusal(34);
 
-// A run that is to be explained, and does not begin with a mark.
-pub const NO_MARK_FIRST: u8 = 36;
+    // Two lists compared.
+    pub const NUMBERS_NOT_RISING: Refusal = Refusal(35);
 
-// A list of saved settings that is none.
-pub const NOT_SAVED_SETTINGS: u8 = 37;
+    // A run that is to be explained, and does not begin with a mark.
+    pub const NO_MARK_FIRST: Refusal = Refusal(36);
+
+    // A list of saved settings that is none.
+    pub const NOT_SAVED_SETTINGS: Refusal = Refusal(37);
+}

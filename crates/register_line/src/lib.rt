@@ -11,15 +11,16 @@
 #![tactic(auto)]
 
 ghost use Rattle.std.specs.Prelude.{◌≡◌, cond, take};
+ghost use Rattle.text.specs.Pages.{Writes};
 ghost use Rattle.text.specs.Put.{Puts};
 ghost use Rattle.typed_setting.specs.declared.Setting.TheVariants.{Unknown};
 ghost use Rattle.typed_setting.specs.Setting.{setting_of};
 ghost use Rattle.named_value.specs.Number.{is_blank};
 ghost use Rattle.register_line.specs.Bare.{bare_length};
-ghost use Rattle.register_line.specs.Line.{line_head, beyond_text, no_gain_text, unknown_text, too_long_text, RepliesTo, RepliesBy};
+ghost use Rattle.register_line.specs.Line.{line_head, beyond_text, no_gain_text, unknown_words, unknown_text, too_long_text, RepliesTo, RepliesBy};
 
 use profile::Profile;
-use text::{put, put_decimal};
+use text::Page;
 use two_wire::Sensor;
 use two_wire_text::put_message;
 use typed_setting::Setting;
@@ -54,19 +55,21 @@ fn tell_bare(profile: Profile, sensor: Sensor, number: u64, line: &[u8], out: &m
     let asked = typed_setting::read(profile, line);
     match asked {
         Setting::Single(index, value) => {
-            let length = put_message(index, value, out, 0);
+            let mut page = Page::new(out);
+            put_message(index, value, &mut page);
             Reply {
                 sensor,
-                length,
+                length: page.used,
                 refused: false,
             }
         }
         Setting::Double(index, high, next, low) => {
-            let at = put_message(index, high, out, 0);
-            let length = put_message(next, low, out, at);
+            let mut page = Page::new(out);
+            put_message(index, high, &mut page);
+            put_message(next, low, &mut page);
             Reply {
                 sensor,
-                length,
+                length: page.used,
                 refused: false,
             }
         }
@@ -111,19 +114,19 @@ fn explain(profile: Profile, sensor: Sensor, number: u64, line: &[u8], out: &mut
     }
 }
 
+// What a comment starts with.
+const COMMENT: u8 = b'#';
+
 // How many characters of a line stand before its comment and the blanks there.
 fn bare_length(line: &[u8]) -> usize
     ensures { result ≡ bare_length line.now }
 {
     let mut end: usize = 0;
-    let mut i: usize = 0;
-    while i < line.len() {
-        let c = line[i];
-        if c == b'#' {
+    for (i, c) in line.iter().enumerate() {
+        if *c == COMMENT {
             return end;
         }
-        i += 1;
-        end = end_after(c, end, i);
+        end = end_after(*c, end, i + 1);
     }
     end
 }
@@ -140,48 +143,61 @@ fn end_after(c: u8, end: usize, place: usize) -> usize
 
 // Why a line is refused: its number, and what it may be.
 
-fn put_line(number: u64, out: &mut [u8]) -> usize
-    ensures { Puts out.old 0 (line_head number) result out.new }
+fn put_line(number: u64, page: &mut Page<'_>)
+    ensures { Writes (line_head number) page.old page.new }
 {
-    let a = put(b"line ", out, 0);
-    let b = put_decimal(number, out, a);
-    put(b": ", out, b)
+    page.put(b"line ");
+    page.put_decimal(number);
+    page.put(b": ");
 }
 
 fn put_beyond(number: u64, line: &[u8], at: usize, limit: u16, out: &mut [u8]) -> usize
     ensures { Puts out.old 0 (beyond_text number at limit line.now) result out.new }
 {
-    let a = put_line(number, out);
-    let b = put_name(line, at, out, a);
-    let c = put(b" takes 0 to ", out, b);
-    let d = put_decimal(limit as u64, out, c);
-    put(b"\n", out, d)
+    let mut page = Page::new(out);
+    put_line(number, &mut page);
+    put_name(line, at, &mut page);
+    page.put(b" takes 0 to ");
+    page.put_decimal(limit as u64);
+    page.put(b"\n");
+    page.used
 }
 
 // The part of a line before a place.
-fn put_name(line: &[u8], end: usize, out: &mut [u8], at: usize) -> usize
-    ensures { Puts out.old at (take end line.now) result out.new }
+fn put_name(line: &[u8], end: usize, page: &mut Page<'_>)
+    ensures { Writes (take end line.now) page.old page.new }
 {
     if line.len() <= end {
-        return put(line, out, at);
+        page.put(line);
+    } else {
+        page.put(&line[..end]);
     }
-    put(&line[..end], out, at)
 }
 
 fn put_no_gain(number: u64, out: &mut [u8]) -> usize
     ensures { Puts out.old 0 (no_gain_text number) result out.new }
 {
-    let a = put_line(number, out);
-    put(b"gain takes 0, 1, 3 or 7\n", out, a)
+    let mut page = Page::new(out);
+    put_line(number, &mut page);
+    page.put(b"gain takes 0, 1, 3 or 7\n");
+    page.used
 }
 
 fn put_unknown(profile: Profile, number: u64, out: &mut [u8]) -> usize
     ensures { Puts out.old 0 (unknown_text profile number) result out.new }
 {
-    let a = put_line(number, out);
+    let mut page = Page::new(out);
+    put_line(number, &mut page);
+    put_unknown_words(profile, &mut page);
+    page.used
+}
+
+fn put_unknown_words(profile: Profile, page: &mut Page<'_>)
+    ensures { Writes (unknown_words profile) page.old page.new }
+{
     match profile {
-        Profile::VV5404 => put(b"no setting of the VV5404, and no message\n", out, a),
-        Profile::VV5300 => put(b"no setting of the VV5300, and no message\n", out, a),
+        Profile::VV5404 => page.put(b"no setting of the VV5404, and no message\n"),
+        Profile::VV5300 => page.put(b"no setting of the VV5300, and no message\n"),
     }
 }
 
@@ -189,7 +205,9 @@ fn put_unknown(profile: Profile, number: u64, out: &mut [u8]) -> usize
 pub fn put_too_long(number: u64, room: usize, out: &mut [u8]) -> usize
     ensures { Puts out.old 0 (too_long_text number room) result out.new }
 {
-    let a = put_line(number, out);
-    let b = put_decimal(room as u64, out, a);
-    put(b" characters or more\n", out, b)
+    let mut page = Page::new(out);
+    put_line(number, &mut page);
+    page.put_decimal(room as u64);
+    page.put(b" characters or more\n");
+    page.used
 }

@@ -22,95 +22,66 @@ fn main(rt: HostRuntime) {
 
 fn read_asked(rt: HostRuntime, asked: Asked) {
     let mut name = [0u8; host_calls::ROOM];
-    let Input { source, length } = command::open(
+    let opened = command::open(
         rt,
         asked.first,
         b"waiting for settings and messages, one to a line; Ctrl-D ends them\n",
         &mut name,
     );
-    let Some(mut source) = source else {
-        return;
-    };
-    if name.len() < length {
-        return;
+    if let Some(Input { mut source, length }) = opened {
+        read_all(rt, asked.profile, &mut source, &name[..length]);
     }
-    let profile = asked.profile;
-    read_all(rt, profile, &mut source, &name[..length]);
-}
-
-// Where the script stands, and whether to read on.
-#[derive(Clone, Copy)]
-struct Turn {
-    script: Script,
-    more: bool,
 }
 
 // Reads a script to its end. Nothing says that an input ends, so the loop counts its turns, to a number that no run reaches.
 fn read_all(rt: HostRuntime, profile: Profile, source: &mut Source, name: &[u8]) {
     let mut kept = [0u8; host_calls::ROOM];
-    let mut turn = Turn {
-        script: Script::new(profile),
-        more: true,
-    };
+    let mut script = Script::new(profile);
     for _ in 0..u64::MAX {
-        let script = turn.script;
-        if turn.more {
-            turn = read_some(rt, script, source, name, &mut kept);
-        } else {
+        let Some(next) = read_some(rt, script, source, name, &mut kept) else {
             return;
-        }
+        };
+        script = next;
     }
 }
 
-// Reads once, and answers what came; the input's end ends its last line.
+// Reads once, and answers what came: the script to read on with, none where the input has ended or a read or a write has failed. The input's end
+// ends its last line.
 fn read_some(
     rt: HostRuntime,
     script: Script,
     source: &mut Source,
     name: &[u8],
     kept: &mut [u8],
-) -> Turn {
+) -> Option<Script> {
     let mut buf = [0u8; host_calls::LARGE_ROOM];
-    let Some(n) = host_calls::read_or_tell(rt, source, name, &mut buf) else {
-        return Turn {
-            script,
-            more: false,
-        };
-    };
+    let n = host_calls::read_or_tell(rt, source, name, &mut buf)?;
     if n == 0 {
-        let end = feed(rt, script, b'\n', kept);
-        let script = end.script;
-        return Turn {
-            script,
-            more: false,
-        };
+        feed(rt, script, b'\n', kept);
+        return None;
     }
     answer(rt, script, &buf[..n], kept)
 }
 
 // The text for each line that a piece ends.
-fn answer(rt: HostRuntime, script: Script, piece: &[u8], kept: &mut [u8]) -> Turn {
-    let mut turn = Turn { script, more: true };
-    let mut i: usize = 0;
-    while i < piece.len() {
-        let script = turn.script;
-        if turn.more {
-            turn = feed(rt, script, piece[i], kept);
-        } else {
-            return turn;
-        }
-        i += 1;
+fn answer(rt: HostRuntime, script: Script, piece: &[u8], kept: &mut [u8]) -> Option<Script> {
+    let mut script = script;
+    for c in piece {
+        script = feed(rt, script, *c, kept)?;
     }
-    turn
+    Some(script)
 }
 
-fn feed(rt: HostRuntime, script: Script, c: u8, kept: &mut [u8]) -> Turn {
+// Feeds a byte, and writes what it brings: none where that fails.
+fn feed(rt: HostRuntime, script: Script, c: u8, kept: &mut [u8]) -> Option<Script> {
     let mut out = [0u8; 128];
     let fed = script.feed(c, kept, &mut out);
     let n = fed.length;
-    let script = fed.script;
-    let more = write(rt, fed.refused, &out[..n]);
-    Turn { script, more }
+    if write(rt, fed.refused, &out[..n]) {
+        Some(fed.script)
+    } else {
+        None
+    }
 }
 
 // Writes a text, of a line that is refused or not, or says why it cannot.

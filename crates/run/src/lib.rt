@@ -21,6 +21,7 @@ ghost use Rattle.run.specs.Parts.{ran_from, Ends};
 use profile::Profile;
 use reader::{Reader, Stepped};
 use reader_head::Head;
+use refusal::Refusal;
 use stream::Answer;
 
 // A reader after a run of nibbles, the run's answer, and how many nibbles it took.
@@ -63,23 +64,23 @@ pub fn run_lent(h: Head, body: &mut [u8], nibbles: &[u8], buffer: &mut [u8]) -> 
     ensures { LentRunGives h.profile (lent_run_of h body.old nibbles.now (length buffer.old)) result body.new buffer.old buffer.new }
 {
     if body.len() != Profile::LONGEST {
-        return refuse(h, refusal::BAD_STATE, 0);
+        return refuse(h, Refusal::BAD_STATE, 0);
     }
     if h.passes() {
         let p = h.profile;
         if buffer.len() < p.body_length() {
-            return refuse(h, refusal::NO_ROOM, 0);
+            return refuse(h, Refusal::NO_ROOM, 0);
         }
         return up_to_stop(h, body, nibbles, buffer);
     }
-    refuse(h, refusal::BAD_STATE, 0)
+    refuse(h, Refusal::BAD_STATE, 0)
 }
 
 // A run that is refused, or stopped by an input above 15, with what it took.
-fn refuse(h: Head, number: u8, taken: usize) -> RunStepped
-    ensures { (result.head ≡ h) × (result.answer ≡ answer_for (refused number)) × (result.taken ≡ taken) }
+fn refuse(h: Head, refusal: Refusal, taken: usize) -> RunStepped
+    ensures { (result.head ≡ h) × (result.answer ≡ answer_for (refused refusal.0)) × (result.taken ≡ taken) }
 {
-    let answer = Answer::Refused(number);
+    let answer = Answer::Refused(refusal);
     RunStepped {
         head: h,
         answer,
@@ -95,10 +96,11 @@ fn up_to_stop(start: Head, body: &mut [u8], nibbles: &[u8], buffer: &mut [u8]) -
     let first = run_ahead::ahead(start, body, nibbles, 0);
     let mut h = first.head;
     let mut i = first.at;
+    // Not a for: each turn goes on by what the call took.
     while i < nibbles.len() {
         let x = nibbles[i];
         if 15 < x {
-            return refuse(h, refusal::NOT_A_NIBBLE, i);
+            return refuse(h, Refusal::NOT_A_NIBBLE, i);
         }
         let t = take(h, body, x, buffer);
         let answer = t.answer;

@@ -4,12 +4,13 @@ use mathlib.Core.Bool.{Bool, true, false, true≢false, ◌&&◌}
 use mathlib.Core.List.{List}
 use mathlib.Core.Logic.{◌⊎◌, inl, inr, ⊎_elim}
 use Prim.Native.Nat.{ℕ, zero, suc, ◌+◌, ◌-◌, ◌*◌, ◌/◌, ◌%◌, ◌≤◌, ◌<◌}
-use native.Mathlib.Numerals.{add-one}
 use native.Mathlib.Omega.{arith}
 use borrow.Author.Tests.{lt-ltb, le-ltb, ne_eqb}
 use lib.Dec.{eqb}
 use lib.ListN.{length, get_or, set, drop, length-set}
-use lib.Seq.{get_or-set_same, get_or-set_other}
+use lib.Seq.{get_or-set_same, get_or-set_other, paste, paste-zero, paste-suc}
+use Rattle.std.specs.List.{between}
+use Rattle.std.proofs.lemmas.List.Edits.{get_or-between}
 use Rattle.profile.specs.declared.Profile.{Profile}
 use Rattle.profile.specs.Profile.{longest}
 use Rattle.stream.specs.declared.Mark.{Mark}
@@ -27,6 +28,10 @@ use Rattle.run_ahead.proofs.Pairs.{head, Stands, Turn, lt_or_ge, bump_one, leads
 pub more_below : (P : ℕ → Type 0) (i k : ℕ) → ((x : ℕ) → i ≤ x → x < i + k → P x) → P (i + k) → (x : ℕ) → i ≤ x → x < i + (k + 1) → P x
 more_below P i k f p x a b =
     ⊎_elim (λ (d : x < i + k). f x a d) (λ (d : i + k ≤ x). subst P (let z : i + k ≡ x = omega arith in z) p) (lt_or_ge x (i + k))
+
+-- an element of a part of a list
+pub in_part : (s : List ℕ) (i n x : ℕ) → i ≤ x → x < i + n → get_or (between i (i + n) s) (x - i) 0 ≡ get_or s x 0
+in_part s i n x a b = get_or-between s i (i + n) (x - i) 0 (omega arith) ∙ ap (λ (k : ℕ). get_or s k 0) (let z : i + (x - i) ≡ x = omega arith in z)
 
 -- false is not true
 pub not_both : {A : Type 0} → false ≡ true → A
@@ -150,9 +155,12 @@ pub packed_length : (B : List ℕ) (j : ℕ) (s : List ℕ) (i n : ℕ) → leng
 packed_length B j s i zero = refl
 packed_length B j s i (suc n) = length-set (packed_into B j s i n) (j + n) (byte_from s (i + 2 * n)) ∙ packed_length B j s i n
 
-pub packed_more : (B : List ℕ) {B' : List ℕ} (j : ℕ) (s : List ℕ) (i k : ℕ) → B' ≡ packed_into B j s i k
-    → set B' (j + k) (byte_from s (i + 2 * k)) ≡ packed_into B j s i (k + 1)
-packed_more B j s i k e = ap (λ (b : List ℕ). set b (j + k) (byte_from s (i + 2 * k))) e ∙ ap (packed_into B j s i) (sym (add-one k))
+pub packed_paste : (B : List ℕ) (j : ℕ) (s : List ℕ) (i : ℕ) (to : List ℕ) (n : ℕ) → j + n ≤ length B → n ≤ length to
+    → ((x : ℕ) → x < n → get_or to x 0 ≡ byte_from s (i + 2 * x)) → packed_into B j s i n ≡ paste B j to n
+packed_paste B j s i to zero a b h = paste-zero B j to
+packed_paste B j s i to (suc n) a b h =
+    ap₂ (λ (l : List ℕ) (v : ℕ). set l (j + n) v) (packed_paste B j s i to n (omega arith) (omega arith) (λ x u. h x (omega arith))) (sym (h n (omega arith)))
+    ∙ paste-suc B j to n 0 (omega arith) (omega arith)
 
 pub packed_on : (B : List ℕ) (j : ℕ) (s : List ℕ) (i k n : ℕ) → packed_into (packed_into B j s i k) (j + k) s (i + 2 * k) n ≡ packed_into B j s i (k + n)
 packed_on B j s i k zero = ap (packed_into B j s i) (let z : k ≡ k + 0 = omega arith in z)

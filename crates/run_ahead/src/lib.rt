@@ -92,25 +92,23 @@ fn before_body(h: Head, s: &[u8], from: usize) -> Reached
     if BODY <= h.count {
         return Reached { head: h, at: from };
     }
-    let profile = h.profile;
-    let at = h.at;
     let end = sooner(s.len(), from, (BODY - h.count) as usize);
     let mut count = h.count;
     let mut window = h.window;
     let mut kept = h.kept;
     let mut i = from;
+    // Not a for: each turn takes a pair, until none stands there.
     while is_pair(window, s, i, end) {
-        kept = keep_byte(profile, count, top_byte(window), kept);
+        kept = keep_byte(h.profile, count, top_byte(window), kept);
         window = slide_byte(window, s, i);
         count += 2;
         i += 2;
     }
     let head = Head {
-        profile,
-        at,
         count,
         window,
         kept,
+        ..h
     };
     Reached { head, at: i }
 }
@@ -123,16 +121,14 @@ fn in_body(h: Head, body: &mut [u8], s: &[u8], from: usize) -> Reached
     if PAST <= h.count {
         return Reached { head: h, at: from };
     }
-    let profile = h.profile;
-    let at = h.at;
-    let kept = h.kept;
     let place = ((h.count - BODY) / 2) as usize;
     let end = sooner(s.len(), from, 2 * (Profile::LONGEST - place));
     let mut window = h.window;
-    let mut stray = kept.stray;
+    let mut stray = h.kept.stray;
     let mut j = place;
     let mut i = from;
     let mut wait = FEW;
+    // Not a for: each turn takes a pair, and some take blocks, until no pair stands there.
     while is_pair(window, s, i, end) {
         let b = top_byte(window);
         body[j] = b;
@@ -152,18 +148,13 @@ fn in_body(h: Head, body: &mut [u8], s: &[u8], from: usize) -> Reached
             }
         }
     }
-    let kept = Kept {
-        first: kept.first,
-        second: kept.second,
-        stray,
-    };
+    let kept = Kept { stray, ..h.kept };
     let count = BODY + 2 * j as u32;
     let head = Head {
-        profile,
-        at,
         count,
         window,
         kept,
+        ..h
     };
     Reached { head, at: i }
 }
@@ -173,15 +164,13 @@ fn past_body(h: Head, s: &[u8], from: usize) -> Reached
     requires { (from ≤ length s.now) × (past_body ≤ h.count) }
     ensures { (body : List ℕ) → LeadsTo s.now h body from result.head body result.at }
 {
-    let profile = h.profile;
-    let at = h.at;
-    let kept = h.kept;
     let end = s.len();
     let mut count = h.count;
     let mut window = h.window;
-    let mut stray = kept.stray;
+    let mut stray = h.kept.stray;
     let mut i = from;
     let mut wait = FEW;
+    // Not a for: each turn takes a pair, and some take blocks, until no pair stands there.
     while is_pair(window, s, i, end) {
         stray = stray_after(stray, top_byte(window));
         window = slide_byte(window, s, i);
@@ -198,17 +187,12 @@ fn past_body(h: Head, s: &[u8], from: usize) -> Reached
             }
         }
     }
-    let kept = Kept {
-        first: kept.first,
-        second: kept.second,
-        stray,
-    };
+    let kept = Kept { stray, ..h.kept };
     let head = Head {
-        profile,
-        at,
         count,
         window,
         kept,
+        ..h
     };
     Reached { head, at: i }
 }
@@ -244,15 +228,13 @@ fn far_pairs(window: u32, stray: bool, s: &[u8], from: usize, end: usize) -> usi
     if window != window_from(s, from - 8) {
         return 0;
     }
-    let mut n: usize = 0;
-    while BLOCK <= end - from - 2 * n {
-        if is_far(stray, s, from - 8 + 2 * n) {
-            n += BLOCK / 2;
-        } else {
-            return n;
+    let blocks = (end - from) / BLOCK;
+    for block in 0..blocks {
+        if !is_far(stray, s, from - 8 + BLOCK * block) {
+            return BLOCK / 2 * block;
         }
     }
-    n
+    BLOCK / 2 * blocks
 }
 
 // Whether a block can be taken behind the eight nibbles at a place: it has nibbles alone, no mark can end in it, and what leaves the window meanwhile
@@ -282,10 +264,8 @@ fn most_of(s: &[u8], i: usize, n: usize) -> u8
     ensures { (x : ℕ) → i ≤ x → x < i + n → get_or s.now x 0 ≤ result }
 {
     let mut most: u8 = 0;
-    let mut k: usize = 0;
-    while k < n {
-        most = at_least(most, s[i + k]);
-        k += 1;
+    for x in &s[i..i + n] {
+        most = most.max(*x);
     }
     most
 }
@@ -296,10 +276,8 @@ fn most_off(s: &[u8], i: usize) -> u8
     ensures { (x : ℕ) → i ≤ x → x < i + 32 → 15 ≤ get_or s.now x 0 + result }
 {
     let mut most: u8 = 0;
-    let mut k: usize = 0;
-    while k < BLOCK {
-        most = at_least(most, 15 - s[i + k]);
-        k += 1;
+    for x in &s[i..i + BLOCK] {
+        most = most.max(15 - *x);
     }
     most
 }
@@ -310,13 +288,8 @@ fn least_gap(s: &[u8], i: usize) -> u8
     ensures { (x : ℕ) → i ≤ x → x < i + 32 → Apart result s.now x }
 {
     let mut least: u8 = 255;
-    let mut k: usize = 0;
-    while k < BLOCK {
-        least = at_most(
-            least,
-            gap(s[i + k + 2], s[i + k + 3], s[i + k + 4], s[i + k + 6]),
-        );
-        k += 1;
+    for k in i..i + BLOCK {
+        least = least.min(gap(s[k + 2], s[k + 3], s[k + 4], s[k + 6]));
     }
     least
 }
@@ -329,33 +302,14 @@ fn gap(a: u8, b: u8, c: u8, d: u8) -> u8
     45 + d - (a + b + c)
 }
 
-fn at_least(a: u8, b: u8) -> u8
-    ensures { (a ≤ result) × (b ≤ result) }
-{
-    if a < b {
-        return b;
-    }
-    a
-}
-
-fn at_most(a: u8, b: u8) -> u8
-    ensures { (result ≤ a) × (result ≤ b) }
-{
-    if a < b {
-        return a;
-    }
-    b
-}
-
 // Puts so many bytes of the run, from a place on, into a body, from its place j on, in blocks.
 fn pack(s: &[u8], i: usize, body: &mut [u8], j: usize, n: usize)
     requires { (i + 2 * n ≤ length s.now) × (j + n ≤ length body.old) × NibblesFrom s.now i (2 * n) × (n % 16 ≡ 0) }
     ensures { body.new ≡ packed_into body.old j s.now i n }
 {
-    let mut k: usize = 0;
-    while k < n {
+    for block in 0..n / 16 {
+        let k = 16 * block;
         pack_block(s, i + 2 * k, body, j + k);
-        k += BLOCK / 2;
     }
 }
 
@@ -365,16 +319,10 @@ fn pack_block(s: &[u8], i: usize, body: &mut [u8], j: usize)
     ensures { body.new ≡ packed_into body.old j s.now i 16 }
 {
     let mut to = [0u8; 16];
-    let mut k: usize = 0;
-    while k < 16 {
+    for k in 0..16 {
         to[k] = 16 * s[i + 2 * k] + s[i + 2 * k + 1];
-        k += 1;
     }
-    let mut m: usize = 0;
-    while m < 16 {
-        body[j + m] = to[m];
-        m += 1;
-    }
+    body[j..j + 16].copy_from_slice(&to);
 }
 
 // The eight nibbles from a place on, as a window.
@@ -389,33 +337,20 @@ fn window_from(s: &[u8], i: usize) -> u32
 }
 
 // Whether two nibbles stand at a place, before the end, in which no mark can end.
+#[tactic(auto, unfolding(crate::specs::Parts::is_pair))]
 fn is_pair(window: u32, s: &[u8], i: usize, end: usize) -> bool
     requires { (end ≤ length s.now) × (i ≤ end) }
     ensures { result ≡ is_pair window s.now i end }
 {
-    if end - i < 2 {
-        return false;
-    }
-    if is_near(window) {
-        return false;
-    }
-    if 15 < s[i] {
-        return false;
-    }
-    if 15 < s[i + 1] {
-        return false;
-    }
-    true
+    2 <= end - i && !is_near(window) && s[i] <= 15 && s[i + 1] <= 15
 }
 
 // Whether a mark may end at one of the next two nibbles.
+#[tactic(auto, unfolding(crate::specs::Ahead::is_near))]
 fn is_near(window: u32) -> bool
     ensures { result ≡ is_near window }
 {
-    if window / 4096 % 4096 == 4095 {
-        return window / 16 % 16 == 0;
-    }
-    false
+    window / 4096 % 4096 == 4095 && window / 16 % 16 == 0
 }
 
 // The end of a run, or of so many nibbles from a place on.
@@ -445,13 +380,11 @@ fn top_byte(window: u32) -> u8
 }
 
 // Whether a nibble where a gap has nothing but F was another, with a byte more.
+#[tactic(auto, unfolding(crate::specs::Parts::stray_after))]
 fn stray_after(stray: bool, byte: u8) -> bool
     ensures { result ≡ stray_after stray byte }
 {
-    if byte < 255 {
-        return true;
-    }
-    stray
+    byte < 255 || stray
 }
 
 // What is kept with the byte that leaves the window at an even count up to the body.
@@ -465,14 +398,14 @@ fn keep_byte(profile: Profile, count: u32, byte: u8, kept: Kept) -> Kept
     if count == 10 {
         return Kept {
             first: byte,
-            second: kept.second,
             stray,
+            ..kept
         };
     }
     Kept {
-        first: kept.first,
         second: byte,
         stray,
+        ..kept
     }
 }
 

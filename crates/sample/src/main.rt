@@ -20,16 +20,17 @@ fn main(rt: HostRuntime) {
     }
 }
 
-// Writes the line with this number.
+// Writes the line with this number: each of them may be written, and has room.
 fn write_line(rt: HostRuntime, number: u16) {
     let kind = kind_of(number);
     let mut body = [0u8; Profile::LONGEST];
     fill(kind, number, &mut body);
     let mut nibbles = [0u8; 2 * BYTES];
-    put_nibbles(kind, number, &body, &mut nibbles);
-    let mut bytes = [0u8; BYTES];
-    pack(&nibbles, &mut bytes);
-    put_out(rt, &bytes);
+    if put_nibbles(kind, number, &body, &mut nibbles).is_ok() {
+        let mut bytes = [0u8; BYTES];
+        pack(&nibbles, &mut bytes);
+        put_out(rt, &bytes);
+    }
 }
 
 // The nibbles of the line.
@@ -54,30 +55,19 @@ fn put_out(rt: HostRuntime, bytes: &[u8; 393]) {
 
 // The number of the kind of a line, borders on.
 fn kind_of(number: u16) -> u8 {
-    if number == 0 {
-        return Kind::SOF.number();
+    match number {
+        0 => Kind::SOF.number(),
+        1..=2 => Kind::BK.number(),
+        10..=301 => Kind::VL.number(),
+        302 => Kind::EOF.number(),
+        _ => Kind::BL.number(),
     }
-    if number < 3 {
-        return Kind::BK.number();
-    }
-    if number < 10 {
-        return Kind::BL.number();
-    }
-    if number < 302 {
-        return Kind::VL.number();
-    }
-    if number == 302 {
-        return Kind::EOF.number();
-    }
-    Kind::BL.number()
 }
 
 // A body: register contents in SOF, dark pixels in BK, a picture of bars in VL, the filler elsewhere.
 fn fill(kind: u8, number: u16, body: &mut [u8; Profile::LONGEST]) {
-    let mut i: usize = 0;
-    while i < Profile::LONGEST {
-        body[i] = byte_at(kind, number, i);
-        i += 1;
+    for (place, byte) in body.iter_mut().enumerate() {
+        *byte = byte_at(kind, number, place);
     }
 }
 
@@ -88,26 +78,15 @@ fn byte_at(kind: u8, number: u16, place: usize) -> u8 {
     if kind == Kind::BK.number() {
         return 16;
     }
-    if kind == Kind::SOF.number() {
-        if place % 2 == 0 {
-            return (place / 2 % 256) as u8;
-        }
+    if kind == Kind::SOF.number() && place % 2 == 0 {
+        return (place / 2 % 256) as u8;
     }
     Profile::FILLER
 }
 
 // A frame of grey, with bars that get lighter from left to right and darker from top to bottom.
 fn pixel_at(line: usize, place: usize) -> u8 {
-    if line < 30 {
-        return 200;
-    }
-    if 281 < line {
-        return 200;
-    }
-    if place < 20 {
-        return 200;
-    }
-    if 335 < place {
+    if line < 30 || 281 < line || place < 20 || 335 < place {
         return 200;
     }
     (1 + (place / 32 * 20 + (311 - line % 312) / 4) % 254) as u8
@@ -115,9 +94,7 @@ fn pixel_at(line: usize, place: usize) -> u8 {
 
 // Two nibbles a byte, the high one first.
 fn pack(nibbles: &[u8; 786], bytes: &mut [u8; 393]) {
-    let mut i: usize = 0;
-    while i < BYTES {
-        bytes[i] = nibbles[2 * i] % 16 * 16 + nibbles[2 * i + 1] % 16;
-        i += 1;
+    for (i, byte) in bytes.iter_mut().enumerate() {
+        *byte = nibbles[2 * i] % 16 * 16 + nibbles[2 * i + 1] % 16;
     }
 }

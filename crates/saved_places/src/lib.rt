@@ -6,46 +6,45 @@
 
 #![tactic(auto)]
 
-ghost use Rattle.std.specs.Prelude.{◌≡◌};
-ghost use Rattle.saved_setting.specs.declared.Saved.TheVariants.{Refused};
-ghost use Rattle.saved_setting.specs.SavedSettings.{held_reply, saved_next, saved_wanted, found_in, saved_again, places_of, Leaves};
+ghost use Rattle.std.specs.Prelude.{◌≡◌, Err};
+ghost use Rattle.saved_setting.specs.SavedSettings.{held_reply, saved_next, saved_wanted, found_in, saved_again, Leaves};
 
-use saved_setting::{EightPlaces, Held, Saved, SavedPlaces, SavedSetting, Wanted};
+use refusal::Refusal;
+use saved_setting::{PLACES, SavedPlaces, SavedSetting, Wanted};
 
 // Saves what is wanted, clipped: in the first unused place, or in the place of the oldest, which is dropped.
-pub fn save_in(places: EightPlaces, wanted: Wanted) -> SavedPlaces
-    ensures { Leaves (saved_wanted (places_of places) wanted) result.answer (places_of result.places) }
+pub fn save_in(places: [SavedSetting; PLACES], wanted: Wanted) -> SavedPlaces
+    ensures { Leaves (saved_wanted places wanted) result.answer result.places }
 {
     if saved_search::in_order(places) {
         if saved_setting::is_allowed(wanted) {
             return save_next(places, saved_setting::clip(wanted));
         }
-        return refused(refusal::BAD_SETTING, places);
+        return refused(Refusal::BAD_SETTING, places);
     }
-    refused(refusal::NOT_SAVED_SETTINGS, places)
+    refused(Refusal::NOT_SAVED_SETTINGS, places)
 }
 
 // The setting under a version.
-pub fn find_in(places: EightPlaces, version: u16) -> Held
-    ensures { held_reply result ≡ found_in (places_of places) version }
+pub fn find_in(places: [SavedSetting; PLACES], version: u16) -> Result<SavedSetting, Refusal>
+    ensures { held_reply result ≡ found_in places version }
 {
     if saved_search::in_order(places) {
         if version == 0 {
-            return Held::Refused(refusal::VERSION_NOT_HELD);
+            return Err(Refusal::VERSION_NOT_HELD);
         }
         return saved_search::look_up(places, version);
     }
-    Held::Refused(refusal::NOT_SAVED_SETTINGS)
+    Err(Refusal::NOT_SAVED_SETTINGS)
 }
 
 // Saves a copy of the setting under a version, as it was saved then.
-pub fn back_in(places: EightPlaces, version: u16) -> SavedPlaces
-    ensures { Leaves (saved_again (places_of places) version) result.answer (places_of result.places) }
+pub fn back_in(places: [SavedSetting; PLACES], version: u16) -> SavedPlaces
+    ensures { Leaves (saved_again places version) result.answer result.places }
 {
-    let found = find_in(places, version);
-    match found {
-        Held::Setting(setting) => save_next(places, setting),
-        Held::Refused(n) => refused(n, places),
+    match find_in(places, version) {
+        Ok(setting) => save_next(places, setting),
+        Err(refusal) => refused(refusal, places),
     }
 }
 
@@ -53,25 +52,25 @@ pub fn back_in(places: EightPlaces, version: u16) -> SavedPlaces
 const LAST_VERSION: u16 = 65535;
 
 // Saves a setting as it is, under the next version.
-fn save_next(places: EightPlaces, setting: SavedSetting) -> SavedPlaces
-    ensures { Leaves (saved_next (places_of places) setting) result.answer (places_of result.places) }
+fn save_next(places: [SavedSetting; PLACES], setting: SavedSetting) -> SavedPlaces
+    ensures { Leaves (saved_next places setting) result.answer result.places }
 {
     let newest = saved_search::newest_version(places);
     if newest == LAST_VERSION {
-        return refused(refusal::NO_VERSION_LEFT, places);
+        return refused(Refusal::NO_VERSION_LEFT, places);
     }
     let version = newest + 1;
     SavedPlaces {
-        answer: Saved::Version(version),
+        answer: Ok(version),
         places: saved_search::save_into(places, saved_setting::renumber(setting, version)),
     }
 }
 
-fn refused(n: u8, places: EightPlaces) -> SavedPlaces
-    ensures { (result.answer ≡ Refused n) × (result.places ≡ places) }
+fn refused(refusal: Refusal, places: [SavedSetting; PLACES]) -> SavedPlaces
+    ensures { (result.answer ≡ Err refusal) × (result.places ≡ places) }
 {
     SavedPlaces {
-        answer: Saved::Refused(n),
-        places: places,
+        answer: Err(refusal),
+        places,
     }
 }

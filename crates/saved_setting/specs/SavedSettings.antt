@@ -1,14 +1,10 @@
 -- Saved settings (02, A11): a list of eight places; saving, finding and going back.
-use Rattle.std.specs.Prelude.{◌≡◌, Bool, true, false, ◌&&◌, cond, List, [], ◌∷◌, ℕ, ◌+◌, eqb, leb, length, drop}
+use Rattle.std.specs.Prelude.{◌≡◌, Bool, true, false, ◌&&◌, cond, List, [], ◌∷◌, ℕ, ◌+◌, eqb, leb, length, drop, Err, Ok, Result}
 use Rattle.refusal.specs.Refusal.{not_saved_settings, bad_setting, version_not_held, no_version_left}
+use Rattle.refusal.specs.declared.Refusal.{Refusal}
 use Rattle.exposure.specs.Exposure.{rate25, rate30, fine_limit, coarse_limit, divisor_limit, is_gain}
 use Rattle.saved_setting.specs.declared.SavedSetting.{SavedSetting}
 use Rattle.saved_setting.specs.declared.Wanted.{Wanted}
-use Rattle.saved_setting.specs.declared.Saved.{Saved}
-use Rattle.saved_setting.specs.declared.Saved.TheVariants as saved
-use Rattle.saved_setting.specs.declared.Held.{Held}
-use Rattle.saved_setting.specs.declared.Held.TheVariants as held
-use Rattle.saved_setting.specs.declared.EightPlaces.{EightPlaces}
 
 -- What a call says.
 
@@ -18,14 +14,14 @@ pub data Reply (A : Type 0) : Type 0 where
   refused : ℕ → Reply A
 
 -- the paper's number and values of each case of the program's answers: of saving and going back, the new version
-abbrev pub saved_reply : Saved → Reply ℕ
-saved_reply (saved.Version v) = yields v
-saved_reply (saved.Refused n) = refused n
+abbrev pub saved_reply : Result ℕ Refusal → Reply ℕ
+saved_reply (Ok v) = yields v
+saved_reply (Err r) = refused r.0
 
 -- of finding, the setting: its version, fine, coarse, gain and clock divisor
-abbrev pub held_reply : Held → Reply SavedSetting
-held_reply (held.Setting s) = yields s
-held_reply (held.Refused n) = refused n
+abbrev pub held_reply : Result SavedSetting Refusal → Reply SavedSetting
+held_reply (Ok s) = yields s
+held_reply (Err r) = refused r.0
 
 -- One setting.
 
@@ -147,11 +143,7 @@ saved_again list v = saved_found list (found_in list v)
 
 -- Contracts.
 
--- the eight places as a list
-abbrev pub places_of : EightPlaces → List SavedSetting
-places_of p = p.a ∷ p.b ∷ p.c ∷ p.d ∷ p.e ∷ p.f ∷ p.g ∷ p.h ∷ []
-
 -- a call that answers, and leaves the list, as said
-pub record Leaves (said : ListReply) (answer : Saved) (after : List SavedSetting) : Type 0 where
+pub record Leaves (said : ListReply) (answer : Result ℕ Refusal) (after : List SavedSetting) : Type 0 where
   pub answers : saved_reply answer ≡ said.reply
   pub leaves : after ≡ said.list

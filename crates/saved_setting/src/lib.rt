@@ -8,6 +8,8 @@
 ghost use Rattle.std.specs.Prelude.{◌≡◌};
 ghost use Rattle.saved_setting.specs.SavedSettings.{is_allowed, lesser, clipped, renumbered};
 
+use refusal::Refusal;
+
 // The places of a list.
 pub const PLACES: usize = 8;
 
@@ -21,6 +23,17 @@ pub struct SavedSetting {
     pub divisor: u8,
 }
 
+impl SavedSetting {
+    // An unused place.
+    pub const UNUSED: SavedSetting = SavedSetting {
+        version: 0,
+        fine: 0,
+        coarse: 0,
+        gain: 0,
+        divisor: 0,
+    };
+}
+
 // A setting that is to be saved, for a frame rate.
 #[derive(Clone, Copy)]
 pub struct Wanted {
@@ -31,61 +44,21 @@ pub struct Wanted {
     pub rate: u8,
 }
 
-// What saving is answered, and going back: the new version.
-#[derive(Clone, Copy)]
-pub enum Saved {
-    Version(u16),
-    Refused(u8),
-}
-
-// What is found under a version.
-#[derive(Clone, Copy)]
-pub enum Held {
-    Setting(SavedSetting),
-    Refused(u8),
-}
-
-// The answer, and the list after it.
-#[derive(Clone, Copy)]
-pub struct SavedList {
-    pub answer: Saved,
-    pub list: [SavedSetting; PLACES],
-}
-
-// The eight places, oldest first.
-#[derive(Clone, Copy)]
-pub struct EightPlaces {
-    pub a: SavedSetting,
-    pub b: SavedSetting,
-    pub c: SavedSetting,
-    pub d: SavedSetting,
-    pub e: SavedSetting,
-    pub f: SavedSetting,
-    pub g: SavedSetting,
-    pub h: SavedSetting,
-}
-
-// The answer, and the eight places after it.
+// The eight places, oldest first, after a call, and what saving is answered, and going back: the new version, or a refusal.
 #[derive(Clone, Copy)]
 pub struct SavedPlaces {
-    pub answer: Saved,
-    pub places: EightPlaces,
+    pub answer: Result<u16, Refusal>,
+    pub places: [SavedSetting; PLACES],
 }
 
 // Whether a setting may be saved: its gain code, divisor and frame rate.
+#[tactic(auto, unfolding(crate::specs::SavedSettings::is_allowed))]
 pub fn is_allowed(wanted: Wanted) -> bool
     ensures { result ≡ is_allowed wanted }
 {
-    if exposure::is_gain(wanted.gain as u32) {
-        if wanted.divisor <= exposure::DIVISOR_LIMIT {
-            if wanted.rate == exposure::RATE_25 {
-                return true;
-            }
-            return wanted.rate == exposure::RATE_30;
-        }
-        return false;
-    }
-    false
+    exposure::is_gain(wanted.gain as u32)
+        && wanted.divisor <= exposure::DIVISOR_LIMIT
+        && (wanted.rate == exposure::RATE_25 || wanted.rate == exposure::RATE_30)
 }
 
 // What is saved of a wanted setting: fine and coarse exposure clipped. Its version is still to be given.
@@ -114,11 +87,5 @@ fn lesser(n: u16, limit: u16) -> u16
 pub fn renumber(setting: SavedSetting, version: u16) -> SavedSetting
     ensures { result ≡ renumbered setting version }
 {
-    SavedSetting {
-        version: version,
-        fine: setting.fine,
-        coarse: setting.coarse,
-        gain: setting.gain,
-        divisor: setting.divisor,
-    }
+    SavedSetting { version, ..setting }
 }

@@ -11,9 +11,11 @@ ghost use Rattle.saved_setting.specs.SavedSettings.{is_saved_list};
 ghost use Rattle.saved_lines.specs.SavedLines.{settings_text};
 ghost use Rattle.saved_text.specs.SettingsText.{with_one_more, with_digit, next_name, with_field, fields_after, setting_of_fields, no_fields, with_setting_line, nothing_gathered, gathered_after, numbers_of, cover_of, may_stand, at_most_newline, is_like, restored};
 
+use refusal::Refusal;
 use saved_held::find_held;
 use saved_lines::put_settings;
-use saved_setting::{Held, SavedSetting};
+use saved_setting::SavedSetting;
+use text::Page;
 
 // The places of a list.
 const PLACES: usize = 8;
@@ -73,10 +75,9 @@ pub fn read(text: &[u8]) -> Restored
 fn is_saved_list(list: [SavedSetting; 8]) -> bool
     ensures { result ≡ is_saved_list list }
 {
-    let held = find_held(list, 0);
-    match held {
-        Held::Setting(_) => true,
-        Held::Refused(n) => n == refusal::VERSION_NOT_HELD,
+    match find_held(list, 0) {
+        Ok(_) => true,
+        Err(refusal) => refusal == Refusal::VERSION_NOT_HELD,
     }
 }
 
@@ -85,7 +86,9 @@ fn is_settings_text(text: &[u8], list: [SavedSetting; 8]) -> bool
     ensures { result ≡ is_like text.now (settings_text list) }
 {
     let mut whole = [0u8; LONGEST];
-    let n = put_settings(list, &mut whole, 0);
+    let mut page = Page::new(&mut whole);
+    put_settings(list, &mut page);
+    let n = page.used;
     is_like(text, &whole[..n])
 }
 
@@ -94,42 +97,31 @@ fn gather(text: &[u8]) -> [SavedSetting; 8]
     ensures { result ≡ numbers_of text.now }
 {
     let mut gathered = nothing_gathered();
-    let mut i: usize = 0;
-    while i < text.len() {
-        gathered = gather_next(gathered, text[i]);
-        i += 1;
+    for c in text {
+        gathered = gather_next(gathered, *c);
     }
     let all = end_line(gathered);
     all.list
 }
 
+#[tactic(auto, unfolding(crate::specs::SettingsText::gathered_after))]
 fn gather_next(gathered: LinesGathered, c: u8) -> LinesGathered
     ensures { result ≡ gathered_after gathered c }
 {
     if c == b'\n' {
         return end_line(gathered);
     }
-    let list = gathered.list;
-    let fields = read_field(gathered.fields, c);
     LinesGathered {
-        list,
-        count: gathered.count,
-        fields,
+        fields: read_field(gathered.fields, c),
+        ..gathered
     }
 }
 
 fn nothing_gathered() -> LinesGathered
     ensures { result ≡ nothing_gathered }
 {
-    let unused = SavedSetting {
-        version: 0,
-        fine: 0,
-        coarse: 0,
-        gain: 0,
-        divisor: 0,
-    };
     LinesGathered {
-        list: [unused; 8],
+        list: [SavedSetting::UNUSED; 8],
         count: 0,
         fields: no_fields(),
     }
@@ -150,9 +142,8 @@ fn end_line(gathered: LinesGathered) -> LinesGathered
         };
     }
     LinesGathered {
-        list,
-        count,
         fields: no_fields(),
+        ..gathered
     }
 }
 
@@ -172,6 +163,7 @@ fn no_fields() -> Fields
 fn setting_of(fields: Fields) -> SavedSetting
     ensures { result ≡ setting_of_fields fields }
 {
+    // No struct update: the fields are of another type.
     SavedSetting {
         version: fields.version,
         fine: fields.fine,
@@ -204,63 +196,27 @@ fn with_digit(fields: Fields, c: u8) -> Fields
     requires { 0x30 ≤ c }
     ensures { result ≡ with_digit fields c }
 {
-    let name = fields.name;
-    match name {
-        FieldName::Version => {
-            let number = with_one_more(fields.version, c);
-            Fields {
-                version: number,
-                fine: fields.fine,
-                coarse: fields.coarse,
-                gain: fields.gain,
-                divisor: fields.divisor,
-                name: FieldName::Version,
-            }
-        }
-        FieldName::Fine => {
-            let number = with_one_more(fields.fine, c);
-            Fields {
-                version: fields.version,
-                fine: number,
-                coarse: fields.coarse,
-                gain: fields.gain,
-                divisor: fields.divisor,
-                name: FieldName::Fine,
-            }
-        }
-        FieldName::Coarse => {
-            let number = with_one_more(fields.coarse, c);
-            Fields {
-                version: fields.version,
-                fine: fields.fine,
-                coarse: number,
-                gain: fields.gain,
-                divisor: fields.divisor,
-                name: FieldName::Coarse,
-            }
-        }
-        FieldName::Gain => {
-            let number = with_one_more(fields.gain, c);
-            Fields {
-                version: fields.version,
-                fine: fields.fine,
-                coarse: fields.coarse,
-                gain: number,
-                divisor: fields.divisor,
-                name: FieldName::Gain,
-            }
-        }
-        FieldName::Divisor => {
-            let number = with_one_more(fields.divisor, c);
-            Fields {
-                version: fields.version,
-                fine: fields.fine,
-                coarse: fields.coarse,
-                gain: fields.gain,
-                divisor: number,
-                name: FieldName::Divisor,
-            }
-        }
+    match fields.name {
+        FieldName::Version => Fields {
+            version: with_one_more(fields.version, c),
+            ..fields
+        },
+        FieldName::Fine => Fields {
+            fine: with_one_more(fields.fine, c),
+            ..fields
+        },
+        FieldName::Coarse => Fields {
+            coarse: with_one_more(fields.coarse, c),
+            ..fields
+        },
+        FieldName::Gain => Fields {
+            gain: with_one_more(fields.gain, c),
+            ..fields
+        },
+        FieldName::Divisor => Fields {
+            divisor: with_one_more(fields.divisor, c),
+            ..fields
+        },
     }
 }
 
@@ -276,15 +232,9 @@ fn with_one_more(n: u16, c: u8) -> u16
 fn with_field(fields: Fields) -> Fields
     ensures { result ≡ with_field fields }
 {
-    let name = fields.name;
-    let next = next_name(name);
     Fields {
-        version: fields.version,
-        fine: fields.fine,
-        coarse: fields.coarse,
-        gain: fields.gain,
-        divisor: fields.divisor,
-        name: next,
+        name: next_name(fields.name),
+        ..fields
     }
 }
 
@@ -306,15 +256,11 @@ fn is_like(text: &[u8], whole: &[u8]) -> bool
     ensures { result ≡ is_like text.now whole.now }
 {
     let mut at: usize = 0;
-    let mut i: usize = 0;
-    while i < text.len() {
-        let c = text[i];
-        if stands(c, whole, at) {
-            at += covers(c);
-            i += 1;
-        } else {
+    for c in text {
+        if !stands(*c, whole, at) {
             return false;
         }
+        at += covers(*c);
     }
     at_most_newline(whole, at)
 }
@@ -323,13 +269,7 @@ fn is_like(text: &[u8], whole: &[u8]) -> bool
 fn at_most_newline(whole: &[u8], at: usize) -> bool
     ensures { result ≡ at_most_newline (drop at whole.now) }
 {
-    if whole.len() <= at {
-        return true;
-    }
-    if whole.len() == at + 1 {
-        return whole[at] == b'\n';
-    }
-    false
+    whole.len() <= at || whole.len() == at + 1 && whole[at] == b'\n'
 }
 
 // How many characters of the other text a character is.
@@ -343,14 +283,9 @@ fn covers(c: u8) -> usize
 }
 
 // Whether a character may stand where the other text is at a place.
+#[tactic(auto, unfolding(crate::specs::SettingsText::may_stand))]
 fn stands(c: u8, whole: &[u8], at: usize) -> bool
     ensures { result ≡ may_stand c (drop at whole.now) }
 {
-    if c == b'\r' {
-        return true;
-    }
-    if at < whole.len() {
-        return whole[at] == c;
-    }
-    false
+    c == b'\r' || at < whole.len() && whole[at] == c
 }

@@ -9,11 +9,13 @@
 #![tactic(auto)]
 
 use host_calls::Source;
+use refusal::Refusal;
 use settings_request::Request;
 use settings_typed::{NumberWords, TypedRequest};
 use std::fs::File;
 use std::io;
 use std::io::{ErrorKind, Write};
+use text::Page;
 
 // Room for what is said, and for a list's text.
 const ROOM: usize = 2048;
@@ -86,13 +88,7 @@ fn serve_file(rt: HostRuntime, request: Request) {
 
 // Whether a request may change the file.
 fn changes_file(request: Request) -> bool {
-    match request {
-        Request::Save(_) => true,
-        Request::Find(_) => false,
-        Request::Back(_) => true,
-        Request::ListAll => false,
-        Request::Messages(_) => false,
-    }
+    matches!(request, Request::Save(_) | Request::Back(_))
 }
 
 // Serves such a request: the new list is written beside the file, to one that is made before the old list is read. So two runs at once don't
@@ -127,87 +123,50 @@ fn serve_with(
     made: Option<File>,
 ) -> bool {
     let mut text = [0u8; host_calls::LARGE_ROOM];
-    let read = read_file(rt, makes_file(request), name, &mut text);
-    if read.failed {
-        return false;
+    match read_file(rt, makes_file(request), name, &mut text) {
+        Some(m) if m <= text.len() => serve(rt, request, name, &text[..m], beside, made),
+        _ => false,
     }
-    let m = read.length;
-    if text.len() < m {
-        return false;
-    }
-    serve(rt, request, name, &text[..m], beside, made)
 }
 
 // Whether a request may make the file.
 fn makes_file(request: Request) -> bool {
-    match request {
-        Request::Save(_) => true,
-        Request::Find(_) => false,
-        Request::Back(_) => false,
-        Request::ListAll => false,
-        Request::Messages(_) => false,
-    }
+    matches!(request, Request::Save(_))
 }
 
-// How many bytes a file has; or a failure, which has been told.
-#[derive(Clone, Copy)]
-struct Contents {
-    length: usize,
-    failed: bool,
-}
-
-// Reads a file whole. One that does not exist is empty, where it may be made.
-fn read_file(rt: HostRuntime, makes: bool, name: &[u8], text: &mut [u8]) -> Contents {
+// Reads a file whole, and gives its length; a failure is told. One that does not exist is empty, where it may be made.
+fn read_file(rt: HostRuntime, makes: bool, name: &[u8], text: &mut [u8]) -> Option<usize> {
     match host_calls::open_read(rt, name) {
         Ok(file) => read_open(rt, &mut Source::Named(file), name, text),
         Err(error) => {
             if makes {
                 if error.kind() == ErrorKind::NotFound {
-                    return Contents {
-                        length: 0,
-                        failed: false,
-                    };
+                    return Some(0);
                 }
             }
-            failed(rt, name, error)
+            host_calls::fail(rt, name, error);
+            None
         }
     }
 }
 
-fn failed(rt: HostRuntime, name: &[u8], error: io::Error) -> Contents {
-    host_calls::fail(rt, name, error);
-    unread()
-}
-
-fn unread() -> Contents {
-    Contents {
-        length: 0,
-        failed: true,
-    }
-}
-
 // Reads an open file. What a second read brings is more than a list's text has.
-fn read_open(rt: HostRuntime, file: &mut Source, name: &[u8], text: &mut [u8]) -> Contents {
-    let Some(length) = host_calls::read_or_tell(rt, file, name, text) else {
-        return unread();
-    };
+fn read_open(rt: HostRuntime, file: &mut Source, name: &[u8], text: &mut [u8]) -> Option<usize> {
+    let length = host_calls::read_or_tell(rt, file, name, text)?;
     let mut more = [0u8; 1];
-    let Some(rest) = host_calls::read_or_tell(rt, file, name, &mut more) else {
-        return unread();
-    };
+    let rest = host_calls::read_or_tell(rt, file, name, &mut more)?;
     if rest > 0 {
         tell_not_settings(rt);
-        return unread();
+        return None;
     }
-    Contents {
-        length,
-        failed: false,
-    }
+    Some(length)
 }
 
 fn tell_not_settings(rt: HostRuntime) {
     let mut out = [0u8; 128];
-    let end = settings_replies::put_refusal(refusal::NOT_SAVED_SETTINGS, &mut out, 0);
+    let mut page = Page::new(&mut out);
+    settings_replies::put_refusal(Refusal::NOT_SAVED_SETTINGS, &mut page);
+    let end = page.used;
     if out.len() < end {
         return;
     }
@@ -228,10 +187,7 @@ fn serve(
     let served = settings_request::serve(request, text, &mut file, &mut out);
     let end = served.file;
     let said = served.said;
-    if file.len() < end {
-        return false;
-    }
-    if out.len() < said {
+    if file.len() < end || out.len() < said {
         return false;
     }
     if served.refused {

@@ -6,16 +6,17 @@
 
 #![tactic(auto)]
 
-ghost use Rattle.text.specs.Put.{Puts};
+ghost use Rattle.text.specs.Pages.{Writes};
 ghost use Rattle.saved_setting.specs.SavedSettings.{found_in};
 ghost use Rattle.settings_request.specs.declared.Request.TheVariants.{Save, Find, Back, ListAll, Messages};
 ghost use Rattle.settings_request.specs.SettingsRequest.{refusing_request, held_line, listed_text, request_effect, Responds, service, Serves};
 
+use refusal::Refusal;
 use saved_held::{back_held, find_held, save_held};
 use saved_lines::{put_setting, put_settings};
-use saved_setting::{Held, Saved, SavedSetting, Wanted};
+use saved_setting::{SavedSetting, Wanted};
 use settings_replies::{put_notes, put_refusal, put_writes};
-use text::put;
+use text::Page;
 
 // What is asked for, of a version where it needs one.
 #[derive(Clone, Copy)]
@@ -45,7 +46,7 @@ pub struct Served {
     pub refused: bool,
 }
 
-// What a request does to the text of a list.
+// What a request does to the text of a list. No struct update: the response is of another type.
 pub fn serve(request: Request, text: &[u8], file: &mut [u8], out: &mut [u8]) -> Served
     ensures { Serves (service request text.now) file.old file.new out.old out.new result }
 {
@@ -54,18 +55,20 @@ pub fn serve(request: Request, text: &[u8], file: &mut [u8], out: &mut [u8]) -> 
     if read.valid {
         let response = respond(request, list, out);
         let after = response.list;
-        let end = put_settings(after, file, 0);
+        let mut page = Page::new(file);
+        put_settings(after, &mut page);
         return Served {
-            file: end,
+            file: page.used,
             said: response.said,
             changed: response.changed,
             refused: response.refused,
         };
     }
-    let said = put_refusal(refusal::NOT_SAVED_SETTINGS, out, 0);
+    let mut page = Page::new(out);
+    put_refusal(Refusal::NOT_SAVED_SETTINGS, &mut page);
     Served {
         file: 0,
-        said,
+        said: page.used,
         changed: false,
         refused: true,
     }
@@ -88,20 +91,21 @@ fn respond_save(wanted: Wanted, list: [SavedSetting; 8], out: &mut [u8]) -> Resp
     ensures { Responds (request_effect (Save wanted) list) out.old out.new result }
 {
     let kept = save_held(list, wanted);
-    let after = kept.list;
+    let after = kept.places;
     let answer = kept.answer;
     match answer {
-        Saved::Version(version) => {
-            let next = put_held(version, after, out);
-            let said = put_notes(wanted, out, next);
+        Ok(version) => {
+            let mut page = Page::new(out);
+            put_held(version, after, &mut page);
+            put_notes(wanted, &mut page);
             Response {
                 list: after,
-                said,
+                said: page.used,
                 changed: true,
                 refused: false,
             }
         }
-        Saved::Refused(number) => refuse(number, after, out),
+        Err(refusal) => refuse(refusal, after, out),
     }
 }
 
@@ -109,99 +113,102 @@ fn respond_back(version: u16, list: [SavedSetting; 8], out: &mut [u8]) -> Respon
     ensures { Responds (request_effect (Back version) list) out.old out.new result }
 {
     let kept = back_held(list, version);
-    let after = kept.list;
+    let after = kept.places;
     let answer = kept.answer;
     match answer {
-        Saved::Version(newest) => {
-            let said = put_held(newest, after, out);
+        Ok(newest) => {
+            let mut page = Page::new(out);
+            put_held(newest, after, &mut page);
             Response {
                 list: after,
-                said,
+                said: page.used,
                 changed: true,
                 refused: false,
             }
         }
-        Saved::Refused(number) => refuse(number, after, out),
+        Err(refusal) => refuse(refusal, after, out),
     }
 }
 
 fn respond_find(version: u16, list: [SavedSetting; 8], out: &mut [u8]) -> Response
     ensures { Responds (request_effect (Find version) list) out.old out.new result }
 {
-    let held = find_held(list, version);
-    match held {
-        Held::Setting(setting) => {
-            let said = put_setting(setting, out, 0);
+    match find_held(list, version) {
+        Ok(setting) => {
+            let mut page = Page::new(out);
+            put_setting(setting, &mut page);
             Response {
                 list,
-                said,
+                said: page.used,
                 changed: false,
                 refused: false,
             }
         }
-        Held::Refused(number) => refuse(number, list, out),
+        Err(refusal) => refuse(refusal, list, out),
     }
 }
 
 fn respond_messages(version: u16, list: [SavedSetting; 8], out: &mut [u8]) -> Response
     ensures { Responds (request_effect (Messages version) list) out.old out.new result }
 {
-    let held = find_held(list, version);
-    match held {
-        Held::Setting(setting) => {
-            let said = put_writes(setting, out, 0);
+    match find_held(list, version) {
+        Ok(setting) => {
+            let mut page = Page::new(out);
+            put_writes(setting, &mut page);
             Response {
                 list,
-                said,
+                said: page.used,
                 changed: false,
                 refused: false,
             }
         }
-        Held::Refused(number) => refuse(number, list, out),
+        Err(refusal) => refuse(refusal, list, out),
     }
 }
 
 fn respond_list(list: [SavedSetting; 8], out: &mut [u8]) -> Response
     ensures { Responds (request_effect ListAll list) out.old out.new result }
 {
-    let said = put_list(list, out);
+    let mut page = Page::new(out);
+    put_list(list, &mut page);
     Response {
         list,
-        said,
+        said: page.used,
         changed: false,
         refused: false,
     }
 }
 
-fn put_list(list: [SavedSetting; 8], out: &mut [u8]) -> usize
-    ensures { Puts out.old 0 (listed_text list) result out.new }
+fn put_list(list: [SavedSetting; 8], page: &mut Page<'_>)
+    ensures { Writes (listed_text list) page.old page.new }
 {
     let oldest = list[0];
     let version = oldest.version;
     if version == 0 {
-        return put(b"nothing is saved yet\n", out, 0);
+        page.put(b"nothing is saved yet\n");
+    } else {
+        put_settings(list, page);
     }
-    put_settings(list, out, 0)
 }
 
 // The line of the setting under a version, or why there is none.
-fn put_held(version: u16, list: [SavedSetting; 8], out: &mut [u8]) -> usize
-    ensures { Puts out.old 0 (held_line (found_in list version)) result out.new }
+fn put_held(version: u16, list: [SavedSetting; 8], page: &mut Page<'_>)
+    ensures { Writes (held_line (found_in list version)) page.old page.new }
 {
-    let held = find_held(list, version);
-    match held {
-        Held::Setting(setting) => put_setting(setting, out, 0),
-        Held::Refused(number) => put_refusal(number, out, 0),
+    match find_held(list, version) {
+        Ok(setting) => put_setting(setting, page),
+        Err(refusal) => put_refusal(refusal, page),
     }
 }
 
-fn refuse(number: u8, list: [SavedSetting; 8], out: &mut [u8]) -> Response
-    ensures { Responds (refusing_request list number) out.old out.new result }
+fn refuse(refusal: Refusal, list: [SavedSetting; 8], out: &mut [u8]) -> Response
+    ensures { Responds (refusing_request list refusal.0) out.old out.new result }
 {
-    let said = put_refusal(number, out, 0);
+    let mut page = Page::new(out);
+    put_refusal(refusal, &mut page);
     Response {
         list,
-        said,
+        said: page.used,
         changed: false,
         refused: true,
     }

@@ -118,24 +118,17 @@ fn byte(n: u32) -> u8
 }
 
 // Whether five words follow the verb, the first two of them numbers.
+#[tactic(auto, unfolding(crate::specs::RequestWords::are_five))]
 fn are_five(words: NumberWords) -> bool
     ensures { result ≡ are_five words }
 {
-    if words.count != 5 {
-        return false;
-    }
-    if GREATEST < words.first {
-        return false;
-    }
-    words.second <= GREATEST
+    words.count == 5 && words.first <= GREATEST && words.second <= GREATEST
 }
 
 // Whether one number follows the verb.
+#[tactic(auto, unfolding(crate::specs::RequestWords::is_one))]
 fn is_one(words: NumberWords) -> bool
     ensures { result ≡ is_one words }
 {
-    if words.count != 1 {
-        return false;
-    }
-    words.first <= GREATEST
+    words.count == 1 && words.first <= GREATEST
 }

@@ -3,6 +3,7 @@ use Rattle.std.specs.Prelude.{◌≡◌, refl, Bool, true, false, ◌||◌, cond
 use Rattle.std.proofs.Common.{◌∙◌, ap, sym, subst, true≢false, append-nil, arith, ltb-true, ltb-false, eqb-true, ne_eqb}
 use Rattle.std.proofs.Math.Option.{Option, none, some}
 use Rattle.std.proofs.lemmas.Bool.{eqb-false}
+use Rattle.refusal.specs.declared.Refusal.{Refusal}
 use Rattle.refusal.specs.Refusal.{unfinished_line, end_without_line, bad_gap}
 use Rattle.counts.specs.Counts.{one_more, counting}
 use Rattle.counts.specs.CountsLaws.{one_more_length, one_more_there}
@@ -22,12 +23,12 @@ use Rattle.signal_tally.specs.Signal.{refusals, code_width, with_repair, seen, i
 use Rattle.signal_tally.specs.Seen.{signalled, capture_signal, answers_of, from_start, is_refusal, repairs, is_bit_numbered, carried, periods, is_rate, is_unnamed, other_periods, least_of, greatest_of, first_of, CountsAnswers}
 
 -- a part of the signal that a first mark alone doesn't change
-by_refusal : {A : Type 0} (part : Signal → A) → ((s : Signal) (f : First) → part (with_first s f) ≡ part s) → (s : Signal) (n : ℕ)
-    → part (refusal_seen s n) ≡ part s → part (take_of s (Refused n)) ≡ part s
+by_refusal : {A : Type 0} (part : Signal → A) → ((s : Signal) (f : First) → part (with_first s f) ≡ part s) → (s : Signal) (r : Refusal)
+    → part (refusal_seen s r.0) ≡ part s → part (take_of s (Refused r)) ≡ part s
 unfolding take_of
-by_refusal part same s n e = either (is_start s.first n)
+by_refusal part same s r e = either (is_start s.first r.0)
   where
-    either : (b : Bool) → part (cond b (with_first s InsideLine) (refusal_seen s n)) ≡ part s
+    either : (b : Bool) → part (cond b (with_first s InsideLine) (refusal_seen s r.0)) ≡ part s
     either true = same s InsideLine
     either false = e
 
@@ -39,9 +40,9 @@ lines_on s [] = refl
 lines_on s (Nothing ∷ w) = lines_on (take_of s Nothing) w
 lines_on s (Line f ∷ w) = lines_on (take_of s (Line f)) w
 lines_on s (Gap g ∷ w) = lines_on (take_of s (Gap g)) w
-lines_on s (Refused n ∷ w) =
-    lines_on (take_of s (Refused n)) w
-    ∙ ap (λ (k : ℕ). counting is_line_answer k w) (by_refusal (λ (x : Signal). x.lines) (λ x f. refl) s n refl)
+lines_on s (Refused r ∷ w) =
+    lines_on (take_of s (Refused r)) w
+    ∙ ap (λ (k : ℕ). counting is_line_answer k w) (by_refusal (λ (x : Signal). x.lines) (λ x f. refl) s r refl)
 
 -- Refusals.
 
@@ -61,12 +62,12 @@ no_start InsideLine n u = refl
 no_start Other n u = refl
 
 -- one refusal that counts, and what comes after it
-counted_on : (s : Signal) (w : List Answer) (m n : ℕ) → n < length s.refused
-    → (n < length (refusal_seen s m).refused
-    → get_or (signalled (refusal_seen s m) w).refused n 0 ≡ counting (is_refusal n) (get_or (refusal_seen s m).refused n 0) w)
-    → get_or (signalled (refusal_seen s m) w).refused n 0 ≡ counting (is_refusal n) (get_or s.refused n 0) (Refused m ∷ w)
-counted_on s w m n h later =
-    later (omega (arith, h, one_more_length s.refused m)) ∙ ap (λ (k : ℕ). counting (is_refusal n) k w) (one_more_there s.refused m n h)
+counted_on : (s : Signal) (w : List Answer) (r : Refusal) (n : ℕ) → n < length s.refused
+    → (n < length (refusal_seen s r.0).refused
+    → get_or (signalled (refusal_seen s r.0) w).refused n 0 ≡ counting (is_refusal n) (get_or (refusal_seen s r.0).refused n 0) w)
+    → get_or (signalled (refusal_seen s r.0) w).refused n 0 ≡ counting (is_refusal n) (get_or s.refused n 0) (Refused r ∷ w)
+counted_on s w r n h later =
+    later (omega (arith, h, one_more_length s.refused r.0)) ∙ ap (λ (k : ℕ). counting (is_refusal n) k w) (one_more_there s.refused r.0 n h)
 
 -- once a mark is seen, every refusal counts
 refused_on_lem : (s : Signal) (w : List Answer) (n : ℕ) → is_unseen s.first ≡ false → n < length s.refused
@@ -76,9 +77,9 @@ refused_on_lem s [] n u h = refl
 refused_on_lem s (Nothing ∷ w) n u h = refused_on_lem s w n u h
 refused_on_lem s (Line f ∷ w) n u h = refused_on_lem (line_seen s f) w n (seen_seen s.first) h
 refused_on_lem s (Gap g ∷ w) n u h = refused_on_lem (gap_seen s g) w n (seen_seen s.first) h
-refused_on_lem s (Refused m ∷ w) n u h =
-    ap (λ (b : Bool). get_or (signalled (cond b (with_first s InsideLine) (refusal_seen s m)) w).refused n 0) (no_start s.first m u)
-    ∙ counted_on s w m n h (refused_on_lem (refusal_seen s m) w n (seen_seen s.first))
+refused_on_lem s (Refused r ∷ w) n u h =
+    ap (λ (b : Bool). get_or (signalled (cond b (with_first s InsideLine) (refusal_seen s r.0)) w).refused n 0) (no_start s.first r.0 u)
+    ∙ counted_on s w r n h (refused_on_lem (refusal_seen s r.0) w n (seen_seen s.first))
 
 -- before, all but an end of line that is the first mark
 refused_first : (s : Signal) (w : List Answer) (n : ℕ) → s.first ≡ Unseen → n < length s.refused
@@ -88,14 +89,14 @@ refused_first s [] n u h = refl
 refused_first s (Nothing ∷ w) n u h = refused_first s w n u h
 refused_first s (Line f ∷ w) n u h = refused_on_lem (line_seen s f) w n (seen_seen s.first) h
 refused_first s (Gap g ∷ w) n u h = refused_on_lem (gap_seen s g) w n (seen_seen s.first) h
-refused_first s (Refused m ∷ w) n u h =
-    ap (λ (f : First). get_or (signalled (cond (is_start f m) (with_first s InsideLine) (refusal_seen s m)) w).refused n 0) u
-    ∙ either (eqb m end_without_line)
+refused_first s (Refused r ∷ w) n u h =
+    ap (λ (f : First). get_or (signalled (cond (is_start f r.0) (with_first s InsideLine) (refusal_seen s r.0)) w).refused n 0) u
+    ∙ either (eqb r.0 end_without_line)
   where
-    either : (b : Bool) → get_or (signalled (cond b (with_first s InsideLine) (refusal_seen s m)) w).refused n 0
-        ≡ counting (is_refusal n) (get_or s.refused n 0) (cond b w (Refused m ∷ w))
+    either : (b : Bool) → get_or (signalled (cond b (with_first s InsideLine) (refusal_seen s r.0)) w).refused n 0
+        ≡ counting (is_refusal n) (get_or s.refused n 0) (cond b w (Refused r ∷ w))
     either true = refused_on_lem (with_first s InsideLine) w n refl h
-    either false = counted_on s w m n h (refused_on_lem (refusal_seen s m) w n (seen_seen s.first))
+    either false = counted_on s w r n h (refused_on_lem (refusal_seen s r.0) w n (seen_seen s.first))
 
 -- Repairs.
 
@@ -120,9 +121,9 @@ repaired_on s (Line f ∷ w) i h =
     ∙ ap (λ (k : ℕ). counting (is_bit_numbered i) k (repairs w)) (repair_there first f.end i g)
     ∙ ap (λ (k : ℕ). counting (is_bit_numbered i) (cond (is_bit_numbered i f.end) (one_more k) k) (repairs w)) (repair_there s.repaired f.start i h)
 repaired_on s (Gap g ∷ w) i h = repaired_on (take_of s (Gap g)) w i h
-repaired_on s (Refused n ∷ w) i h =
-    let same = by_refusal (λ (x : Signal). x.repaired) (λ x f. refl) s n refl in
-    repaired_on (take_of s (Refused n)) w i (subst (λ (l : List ℕ). i < length l) (sym same) h)
+repaired_on s (Refused r ∷ w) i h =
+    let same = by_refusal (λ (x : Signal). x.repaired) (λ x f. refl) s r refl in
+    repaired_on (take_of s (Refused r)) w i (subst (λ (l : List ℕ). i < length l) (sym same) h)
     ∙ ap (λ (l : List ℕ). counting (is_bit_numbered i) (get_or l i 0) (repairs w)) same
 
 -- Periods.
@@ -136,8 +137,8 @@ periods_on made one s [] = refl
 periods_on made one s (Nothing ∷ w) = periods_on made one (take_of s Nothing) w
 periods_on made one s (Line f ∷ w) = periods_on made one (take_of s (Line f)) w
 periods_on made one s (Gap g ∷ w) = periods_on made one (take_of s (Gap g)) w ∙ one s.spacing g.period (periods w)
-periods_on made one s (Refused n ∷ w) =
-    periods_on made one (take_of s (Refused n)) w ∙ ap (λ (x : Spacing). made x (periods w)) (by_refusal (λ (x : Signal). x.spacing) (λ x f. refl) s n refl)
+periods_on made one s (Refused r ∷ w) =
+    periods_on made one (take_of s (Refused r)) w ∙ ap (λ (x : Spacing). made x (periods w)) (by_refusal (λ (x : Signal). x.spacing) (λ x f. refl) s r refl)
 
 -- the names of periods: 30, 25 or none
 data Named : Option ℕ → Type 0 where
@@ -301,20 +302,20 @@ first_on s [] = onto_unseen s.first
 first_on s (Nothing ∷ w) = first_on s w
 first_on s (Line f ∷ w) = first_on (line_seen s f) w ∙ onto_seen s.first (first_of w)
 first_on s (Gap g ∷ w) = first_on (gap_seen s g) w ∙ onto_seen s.first (first_of w)
-first_on s (Refused n ∷ w) = first_on (take_of s (Refused n)) w ∙ ap (λ (f : First). onto f (first_of w)) (first_refused s n s.first refl) ∙ begun s.first
+first_on s (Refused r ∷ w) = first_on (take_of s (Refused r)) w ∙ ap (λ (f : First). onto f (first_of w)) (first_refused s r s.first refl) ∙ begun s.first
   where
     start : (f : First) → First
-    start f = cond (is_start f n) InsideLine (seen f)
+    start f = cond (is_start f r.0) InsideLine (seen f)
 
-    first_refused : (s : Signal) (n : ℕ) (f : First) → s.first ≡ f → (take_of s (Refused n)).first ≡ cond (is_start s.first n) InsideLine (seen s.first)
-    first_refused s n f e = either (is_start s.first n)
+    first_refused : (s : Signal) (r : Refusal) (f : First) → s.first ≡ f → (take_of s (Refused r)).first ≡ cond (is_start s.first r.0) InsideLine (seen s.first)
+    first_refused s r f e = either (is_start s.first r.0)
       where
-        either : (b : Bool) → (cond b (with_first s InsideLine) (refusal_seen s n)).first ≡ cond b InsideLine (seen s.first)
+        either : (b : Bool) → (cond b (with_first s InsideLine) (refusal_seen s r.0)).first ≡ cond b InsideLine (seen s.first)
         either true = refl
         either false = refl
 
-    begun : (f : First) → onto (cond (is_start f n) InsideLine (seen f)) (first_of w) ≡ onto f (cond (eqb n end_without_line) InsideLine Other)
-    begun Unseen = either (eqb n end_without_line)
+    begun : (f : First) → onto (cond (is_start f r.0) InsideLine (seen f)) (first_of w) ≡ onto f (cond (eqb r.0 end_without_line) InsideLine Other)
+    begun Unseen = either (eqb r.0 end_without_line)
       where
         either : (b : Bool) → onto (cond b InsideLine Other) (first_of w) ≡ cond b InsideLine Other
         either true = refl
@@ -352,14 +353,14 @@ cut_first : (f : First) (last : Answer) → is_cut last ≡ true → seen f ≡ 
 cut_first f Nothing e = absurd (true≢false (sym e))
 cut_first f (Line l) e = absurd (true≢false (sym e))
 cut_first f (Gap g) e = absurd (true≢false (sym e))
-cut_first f (Refused n) e = go (eqb n unfinished_line) refl e
+cut_first f (Refused r) e = go (eqb r.0 unfinished_line) refl e
   where
     plain : (b : Bool) → b ≡ false → seen f ≡ onto f (cond b InsideLine Other)
     plain b h = onto_other f ∙ ap (λ (c : Bool). onto f (cond c InsideLine Other)) (sym h)
 
-    go : (b : Bool) → eqb n unfinished_line ≡ b → (b || eqb n bad_gap) ≡ true → seen f ≡ onto f (cond (eqb n end_without_line) InsideLine Other)
-    go true e h = plain (eqb n end_without_line) (ap (λ (m : ℕ). eqb m end_without_line) (eqb-true n unfinished_line e))
-    go false e h = plain (eqb n end_without_line) (ap (λ (m : ℕ). eqb m end_without_line) (eqb-true n bad_gap h))
+    go : (b : Bool) → eqb r.0 unfinished_line ≡ b → (b || eqb r.0 bad_gap) ≡ true → seen f ≡ onto f (cond (eqb r.0 end_without_line) InsideLine Other)
+    go true e h = plain (eqb r.0 end_without_line) (ap (λ (m : ℕ). eqb m end_without_line) (eqb-true r.0 unfinished_line e))
+    go false e h = plain (eqb r.0 end_without_line) (ap (λ (m : ℕ). eqb m end_without_line) (eqb-true r.0 bad_gap h))
 
 first_closed : (w : List Answer) (last : Answer) → (capture_signal w last).first ≡ first_of (w ++ (last ∷ []))
 unfolding close_of

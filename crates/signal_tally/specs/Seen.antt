@@ -34,14 +34,14 @@ from_start [] = []
 from_start (Nothing ∷ w) = from_start w
 from_start (Line f ∷ w) = Line f ∷ w
 from_start (Gap g ∷ w) = Gap g ∷ w
-from_start (Refused n ∷ w) = cond (eqb n end_without_line) w (Refused n ∷ w)
+from_start (Refused r ∷ w) = cond (eqb r.0 end_without_line) w (Refused r ∷ w)
 
 -- a refused mark with this number
 abbrev pub is_refusal : ℕ → Answer → Bool
 is_refusal n Nothing = false
 is_refusal n (Line f) = false
 is_refusal n (Gap g) = false
-is_refusal n (Refused m) = eqb m n
+is_refusal n (Refused r) = eqb r.0 n
 
 -- what was repaired of each line's two codes
 abbrev pub repairs : List Answer → List Repair
@@ -49,7 +49,7 @@ repairs [] = []
 repairs (Nothing ∷ w) = repairs w
 repairs (Line f ∷ w) = f.start ∷ f.end ∷ repairs w
 repairs (Gap g ∷ w) = repairs w
-repairs (Refused n ∷ w) = repairs w
+repairs (Refused r ∷ w) = repairs w
 
 -- a repair of this bit
 abbrev pub is_bit_numbered : ℕ → Repair → Bool
@@ -66,7 +66,7 @@ periods [] = []
 periods (Nothing ∷ w) = periods w
 periods (Line f ∷ w) = periods w
 periods (Gap g ∷ w) = carried g.period ++ periods w
-periods (Refused n ∷ w) = periods w
+periods (Refused r ∷ w) = periods w
 
 -- a period that is named so many frames a second; one that is not named
 abbrev pub is_rate : ℕ → Option ℕ → Bool
@@ -108,7 +108,7 @@ first_of [] = Unseen
 first_of (Nothing ∷ w) = first_of w
 first_of (Line f ∷ w) = Other
 first_of (Gap g ∷ w) = Other
-first_of (Refused n ∷ w) = cond (eqb n end_without_line) InsideLine Other
+first_of (Refused r ∷ w) = cond (eqb r.0 end_without_line) InsideLine Other
 
 -- The counts of a capture, and the least and the greatest of its other periods, by its answers and finish's, all at once.
 pub record CountsAnswers (w : List Answer) (last : Answer) : Type 0 where

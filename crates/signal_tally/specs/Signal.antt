@@ -90,7 +90,7 @@ unfoldable pub take_of : Signal → Answer → Signal
 take_of s Nothing = s
 take_of s (Line f) = line_seen s f
 take_of s (Gap g) = gap_seen s g
-take_of s (Refused n) = cond (is_start s.first n) (with_first s InsideLine) (refusal_seen s n)
+take_of s (Refused r) = cond (is_start s.first r.0) (with_first s InsideLine) (refusal_seen s r.0)
 
 -- The end of the capture.
 
@@ -99,7 +99,7 @@ abbrev pub is_cut : Answer → Bool
 is_cut Nothing = false
 is_cut (Line f) = false
 is_cut (Gap g) = false
-is_cut (Refused n) = eqb n unfinished_line || eqb n bad_gap
+is_cut (Refused r) = eqb r.0 unfinished_line || eqb r.0 bad_gap
 
 -- a capture ends anywhere: such an answer is not counted
 unfoldable pub close_of : Signal → Answer → Signal

@@ -12,6 +12,7 @@ ghost use Rattle.signal_tally.specs.Signal.{fresh_signal, seen, is_start, with_f
 
 use counts::one_more;
 use line_code::Repair;
+use refusal::Refusal;
 use spacing::Spacing;
 use stream::{Answer, GapFacts, LineFacts};
 
@@ -64,11 +65,11 @@ impl Signal {
             Answer::Nothing => self,
             Answer::Line(facts) => self.line(facts),
             Answer::Gap(facts) => self.gap(facts),
-            Answer::Refused(number) => {
-                if self.is_start(number) {
+            Answer::Refused(refusal) => {
+                if self.is_start(refusal) {
                     return self.with_first(First::InsideLine);
                 }
-                self.refusal(number)
+                self.refusal(refusal)
             }
         }
     }
@@ -128,13 +129,13 @@ impl Signal {
     }
 
     // A refused mark.
-    fn refusal(self, number: u8) -> Signal
-        ensures { result ≡ refusal_seen self number }
+    fn refusal(self, refusal: Refusal) -> Signal
+        ensures { result ≡ refusal_seen self refusal.0 }
     {
         let first = self.first;
         let first = first.seen();
         let refused = self.refused;
-        let refused = with_refusal(refused, number);
+        let refused = with_refusal(refused, refusal);
         let repaired = self.repaired;
         let spacing = self.spacing;
         Signal {
@@ -147,15 +148,10 @@ impl Signal {
     }
 
     // Whether a refused mark is the first, and tells that the capture began inside a line.
-    fn is_start(self, number: u8) -> bool
-        ensures { result ≡ is_start self.first number }
+    fn is_start(self, refusal: Refusal) -> bool
+        ensures { result ≡ is_start self.first refusal.0 }
     {
-        let first = self.first;
-        match first {
-            First::Unseen => number == refusal::END_WITHOUT_LINE,
-            First::InsideLine => false,
-            First::Other => false,
-        }
+        matches!(self.first, First::Unseen) && refusal == Refusal::END_WITHOUT_LINE
     }
 
     fn with_first(self, first: First) -> Signal
@@ -192,23 +188,18 @@ fn is_cut(last: Answer) -> bool
     ensures { result ≡ is_cut last }
 {
     match last {
-        Answer::Nothing => false,
-        Answer::Line(_) => false,
-        Answer::Gap(_) => false,
-        Answer::Refused(number) => {
-            if number == refusal::UNFINISHED_LINE {
-                return true;
-            }
-            number == refusal::BAD_GAP
+        Answer::Refused(refusal) => {
+            refusal == Refusal::UNFINISHED_LINE || refusal == Refusal::BAD_GAP
         }
+        _ => false,
     }
 }
 
-fn with_refusal(refused: [u64; REFUSALS], number: u8) -> [u64; REFUSALS]
-    ensures { result ≡ one_more_at refused number }
+fn with_refusal(refused: [u64; REFUSALS], refusal: Refusal) -> [u64; REFUSALS]
+    ensures { result ≡ one_more_at refused refusal.0 }
 {
     let mut counts = refused;
-    counts::add_at(&mut counts, number as usize);
+    counts::add_at(&mut counts, refusal.0 as usize);
     counts
 }
 

@@ -1,6 +1,6 @@
 -- What is left of a slipped line hands broken lines to the judge, one at least, and nothing else: no text in it is as long as a line's, so the line's
 -- own mark is answered 4 and no mark is answered with a line.
-use Rattle.std.specs.Prelude.{◌≡◌, refl, Bool, true, false, cond, List, [], ◌∷◌, ◌++◌, ℕ, ◌+◌, ◌*◌, ◌/◌, ◌%◌, ◌<◌, length, replicate}
+use Rattle.std.specs.Prelude.{◌≡◌, refl, Bool, true, false, cond, List, [], ◌∷◌, ◌++◌, ℕ, ◌+◌, ◌*◌, ◌/◌, ◌%◌, ◌<◌, length, replicate, None}
 use Rattle.std.proofs.Common.{◌∙◌, ap, ap₂, sym, true≢false, append_assoc, append-nil, arith, length-append, ne_eqb}
 use Rattle.std.proofs.Math.Option.{Option, none, some}
 use Rattle.std.proofs.lemmas.List.{replicate-append-replicate}
@@ -23,9 +23,8 @@ use Rattle.stream.specs.Answers.{Outcome, nothing, line, gap, refused, is_line, 
 use Rattle.stream.proofs.TextLengthLaws.{bytes_length}
 use Rattle.stream.specs.Stream.{State, Completed, not_yet, mark, group, strip, mark_if, detect, answer_at, advance, run}
 use Rattle.stream.specs.Written.{Sent, Writable, mark_of, start_mark, end_mark, tail}
-use Rattle.frame_handing.specs.declared.Handed.TheVariants as hand
 use Rattle.frame_judge.specs.Calls as judged
-use Rattle.frame_handing.specs.Handing.{is_broken_line, as_lines}
+use Rattle.frame_handing.specs.Handing.{is_broken_line, hand, as_lines}
 use Rattle.frame_judge.specs.Frame.{broken_kind}
 use Rattle.recovery.specs.Calls.{mark_nibbles}
 use Rattle.recovery.specs.Collected.{collected}
@@ -52,7 +51,7 @@ none_whole (line f body) h = absurd (true≢false h)
 none_whole (gap g) h = (0, refl)
 none_whole (refused n) h = go (is_broken_line n)
   where
-    go : (b : Bool) → (m : ℕ) × (as_lines (cond b (hand.Line broken_kind 0) hand.Nothing) ≡ replicate m broken_one)
+    go : (b : Bool) → (m : ℕ) × (as_lines (cond b (hand broken_kind 0) None) ≡ replicate m broken_one)
     go true = (1, refl)
     go false = (0, refl)
 

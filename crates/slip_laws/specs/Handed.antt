@@ -1,5 +1,5 @@
 -- What nibbles hand to the judge: of a clean stream its lines as sent, in order, and nothing else, from any state at rest.
-use Rattle.std.specs.Prelude.{◌≡◌, refl, Bool, true, false, ◌&&◌, cond, List, [], ◌∷◌, ◌++◌, map, ℕ, leb, ltb}
+use Rattle.std.specs.Prelude.{◌≡◌, refl, Bool, true, false, ◌&&◌, cond, List, [], ◌∷◌, ◌++◌, map, ℕ, leb, ltb, None}
 use Rattle.std.proofs.Common.{◌∙◌, ap, ap₂, append-nil, arith, ltb-false}
 use Rattle.std.proofs.Math.Option.{Option, some}
 use Rattle.std.proofs.lemmas.Bool.{lt-leb}
@@ -19,8 +19,7 @@ use Rattle.stream.specs.Answers.{Outcome, refused, answer_for, require, good_gap
 use Rattle.stream.specs.Stream.{State, fresh, answer_at, run, outcomes}
 use Rattle.stream.specs.Written.{Sent, Writable, AllWritable, no_lines, and_line, mark_of, content, tail, written, stream}
 use Rattle.frame_judge.specs.Calls as judged
-use Rattle.frame_handing.specs.Handing.{is_broken_line, handed_lines, as_lines}
-use Rattle.frame_handing.specs.declared.Handed.TheVariants as hand
+use Rattle.frame_handing.specs.Handing.{is_broken_line, hand, handed_lines, as_lines}
 use Rattle.frame_judge.specs.Frame.{broken_kind}
 use Rattle.frame_laws.specs.SentFrames.{judged_line}
 use Rattle.recovery.specs.Collected.{nothings, collected}
@@ -46,7 +45,7 @@ call_unhanded n e =
     let f : leb n no_end_of_line ≡ false = lt-leb n no_end_of_line (omega arith) in
     go (leb 1 n) (leb n no_end_of_line) f
   where
-    go : (a b : Bool) → b ≡ false → as_lines (cond (a && b) (hand.Line broken_kind 0) hand.Nothing) ≡ []
+    go : (a b : Bool) → b ≡ false → as_lines (cond (a && b) (hand broken_kind 0) None) ≡ []
     go true true f = cc
     go true false f = refl
     go false b f = refl

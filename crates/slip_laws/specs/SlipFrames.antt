@@ -28,7 +28,7 @@ all_complete (f ∷ fs) = to_complete (last_place VV5404) ++ all_complete fs
 -- what the judge answers to the first broken line, after these lines of the frame: 19, or Waiting where no line has opened the frame
 abbrev pub at_slip : List Sent → Ruling
 at_slip [] = Waiting
-at_slip (s ∷ ss) = Refused broken_line
+at_slip (s ∷ ss) = Refused (record { 0 = broken_line })
 
 -- what it answers in the frame that the slip fell in: Going to the lines before it, then this to the first broken line, and Waiting to so many more
 -- broken lines and to the lines after it. Where line 0 slipped, all of it is Waiting (LostRulings.antt)

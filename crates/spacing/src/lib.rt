@@ -56,10 +56,7 @@ impl Spacing {
     {
         Spacing {
             thirty: one_more(self.thirty),
-            twentyfive: self.twentyfive,
-            others: self.others,
-            least: self.least,
-            greatest: self.greatest,
+            ..self
         }
     }
 
@@ -67,11 +64,8 @@ impl Spacing {
         ensures { result ≡ twenty_five_more self }
     {
         Spacing {
-            thirty: self.thirty,
             twentyfive: one_more(self.twentyfive),
-            others: self.others,
-            least: self.least,
-            greatest: self.greatest,
+            ..self
         }
     }
 
@@ -80,11 +74,10 @@ impl Spacing {
         ensures { result ≡ other_more self nibbles }
     {
         Spacing {
-            thirty: self.thirty,
-            twentyfive: self.twentyfive,
             others: one_more(self.others),
             least: lesser(self.least, nibbles),
             greatest: greater(self.greatest, nibbles),
+            ..self
         }
     }
 }

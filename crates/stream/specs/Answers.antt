@@ -44,14 +44,14 @@ abbrev pub outcome_of : Profile → Answer → List ℕ → Outcome
 outcome_of p answer.Nothing buffer = nothing
 outcome_of p (answer.Line f) buffer = line f (take (body_length p) buffer)
 outcome_of p (answer.Gap g) buffer = gap g
-outcome_of p (answer.Refused n) buffer = refused n
+outcome_of p (answer.Refused r) buffer = refused r.0
 
 -- the program's answer that says this
 abbrev pub answer_for : Outcome → Answer
 answer_for nothing = answer.Nothing
 answer_for (line f body) = answer.Line f
 answer_for (gap g) = answer.Gap g
-answer_for (refused n) = answer.Refused n
+answer_for (refused n) = answer.Refused (record { 0 = n })
 
 -- the lent buffer afterwards: a line's body at its front, and the rest as it was
 abbrev pub buffer_after : Outcome → List ℕ → List ℕ
@@ -72,14 +72,14 @@ abbrev pub is_line_answer : Answer → Bool
 is_line_answer answer.Nothing = false
 is_line_answer (answer.Line f) = true
 is_line_answer (answer.Gap g) = false
-is_line_answer (answer.Refused n) = false
+is_line_answer (answer.Refused r) = false
 
 -- whether the program answers at all: not where no mark's answer is due yet
 abbrev pub is_answer : Answer → Bool
 is_answer answer.Nothing = false
 is_answer (answer.Line f) = true
 is_answer (answer.Gap g) = true
-is_answer (answer.Refused n) = true
+is_answer (answer.Refused r) = true
 
 -- a refusal where the test fails
 unfoldable pub require : Bool → ℕ → Outcome → Outcome

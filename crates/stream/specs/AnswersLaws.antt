@@ -11,7 +11,7 @@ pub answer_of : (p : Profile) (a : Answer) (buffer : List ℕ) (o : Outcome) →
 answer_of p answer.Nothing buffer o e = ap answer_for e
 answer_of p (answer.Line f) buffer o e = ap answer_for e
 answer_of p (answer.Gap g) buffer o e = ap answer_for e
-answer_of p (answer.Refused n) buffer o e = ap answer_for e
+answer_of p (answer.Refused r) buffer o e = ap answer_for e
 
 pub line_said : (o : Outcome) → is_line_answer (answer_for o) ≡ is_line o
 line_said nothing = refl

@@ -9,8 +9,7 @@ use Rattle.line_code.specs.declared.Reading.{Reading}
 use Rattle.line_code.specs.declared.Reading.TheVariants.{Says, Damaged}
 use Rattle.line_code.specs.declared.Repair.TheVariants.{Clean, Bit}
 use Rattle.line_code.specs.LineCode.{kind_numbered, reserved_of, meaning_of, reading_of}
-use Rattle.line_number.specs.declared.Encoded.TheVariants.{Bytes}
-use Rattle.line_number.specs.LineNumber.{number_byte, encode_of}
+use Rattle.line_number.specs.LineNumber.{number_byte, two_bytes, encode_of}
 use Rattle.profile.specs.declared.Profile.{Profile}
 use Rattle.stream.specs.declared.Before.{Before}
 use Rattle.stream.specs.Answers.{refused, answer_of}
@@ -23,7 +22,7 @@ pub data Case : Type 0 where
 
 -- a starred case holds
 unfoldable pub Holds : Case → Type 0
-Holds (number n a b) = encode_of n ≡ Bytes a b
+Holds (number n a b) = encode_of n ≡ two_bytes a b
 Holds (code b r) = reading_of b ≡ r
 Holds (answer b n) = (p : Profile) (before : Before) (t : List ℕ) (next : Option ℕ) → answer_of p before b t next ≡ refused n
 

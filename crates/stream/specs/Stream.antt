@@ -1,8 +1,6 @@
 -- The meaning of a stream (01, 'Marks and line codes'): where marks are, and what each nibble and finish bring.
-use Rattle.std.specs.Prelude.{Bool, true, false, cond, List, [], ◌∷◌, ℕ, ◌+◌, ◌*◌, eqb}
+use Rattle.std.specs.Prelude.{Bool, true, false, cond, List, [], ◌∷◌, ℕ, ◌+◌, ◌*◌, eqb, None, Option as Optional, Some}
 use Rattle.std.proofs.Math.Option.{Option, none, some}
-use Rattle.line_code.specs.declared.LineKind.{LineKind}
-use Rattle.line_code.specs.declared.LineKind.TheVariants.{NotLine, LineOf}
 use Rattle.line_code.specs.LineCode.{reading_of, kind_of}
 use Rattle.profile.specs.declared.Profile.{Profile}
 use Rattle.stream.specs.declared.Before.{Before}
@@ -10,6 +8,7 @@ use Rattle.stream.specs.declared.Before.TheVariants.{NoLine, RefusedLine, Handed
 use Rattle.stream.specs.declared.Mark.{Mark}
 use Rattle.stream.specs.declared.Mark.TheVariants.{NoMark, Open}
 use Rattle.stream.specs.Answers.{Outcome, nothing, is_line, answer_of}
+use Rattle.line_code.specs.declared.Kind.{Kind}
 
 -- Where a mark is.
 
@@ -56,15 +55,15 @@ abbrev pub fresh : State
 fresh = record { at = NoMark; text = [] }
 
 -- the line kind of a mark's own code
-abbrev pub kind_at : Mark → LineKind
-kind_at NoMark = NotLine
+abbrev pub kind_at : Mark → Optional Kind
+kind_at NoMark = None
 kind_at (Open before code) = kind_of (reading_of code)
 
 -- what a mark is to the next one: by the line kind of its own code, and whether it was handed out as a line
-abbrev pub before_by : LineKind → Bool → Before
-before_by NotLine handed = NoLine
-before_by (LineOf k) true = HandedOut k
-before_by (LineOf k) false = RefusedLine k
+abbrev pub before_by : Optional Kind → Bool → Before
+before_by None handed = NoLine
+before_by (Some k) true = HandedOut k
+before_by (Some k) false = RefusedLine k
 
 -- the open mark's answer, if there is one: its text, and the next mark's code or none at finish
 abbrev pub answer_at : Profile → Mark → List ℕ → Option ℕ → Outcome

@@ -7,8 +7,9 @@ ghost use Rattle.std.specs.Prelude.{◌≡◌};
 ghost use Rattle.stream.specs.Answers.{either_repaired, is_line_answer, is_answer};
 ghost use Rattle.stream.specs.Stream.{before_by};
 
-use line_code::{Kind, LineKind, Repair};
+use line_code::{Kind, Repair};
 use period::Nibbles;
+use refusal::Refusal;
 
 // What the mark before an open mark was: absent or not of a line kind; of a line kind, and refused; handed out as a line.
 #[derive(Clone, Copy)]
@@ -18,7 +19,8 @@ pub enum Before {
     HandedOut(Kind),
 }
 
-// The open mark, which waits for its answer: what the mark before it was, and its own code byte.
+// The open mark, which waits for its answer: what the mark before it was, and its own code byte. No option of a pair: definitions and laws go by both
+// parts, and their patterns can't take a pair apart.
 #[derive(Clone, Copy)]
 pub enum Mark {
     NoMark,
@@ -44,13 +46,14 @@ pub struct GapFacts {
     pub period: Nibbles,
 }
 
-// The answer of a call: no mark's answer is due yet; a line; a good gap; a refusal number.
+// The answer of a call: no mark's answer is due yet; a line; a good gap; a refusal. One enum, and no result of an option of either: the paper's table
+// has the four side by side.
 #[derive(Clone, Copy)]
 pub enum Answer {
     Nothing,
     Line(LineFacts),
     Gap(GapFacts),
-    Refused(u8),
+    Refused(Refusal),
 }
 
 impl LineFacts {
@@ -58,12 +61,7 @@ impl LineFacts {
     pub fn is_repaired(self) -> bool
         ensures { result ≡ either_repaired self }
     {
-        let start = self.start;
-        if start.is_bit() {
-            return true;
-        }
-        let end = self.end;
-        end.is_bit()
+        self.start.is_bit() || self.end.is_bit()
     }
 }
 
@@ -72,40 +70,26 @@ impl Answer {
     pub fn is_answer(self) -> bool
         ensures { result ≡ is_answer self }
     {
-        match self {
-            Answer::Nothing => false,
-            Answer::Line(_) => true,
-            Answer::Gap(_) => true,
-            Answer::Refused(_) => true,
-        }
+        !matches!(self, Answer::Nothing)
     }
 
     // Whether a line is handed out.
     pub fn is_line(self) -> bool
         ensures { result ≡ is_line_answer self }
     {
-        match self {
-            Answer::Nothing => false,
-            Answer::Line(_) => true,
-            Answer::Gap(_) => false,
-            Answer::Refused(_) => false,
-        }
+        matches!(self, Answer::Line(_))
     }
 }
 
 impl Before {
     // What a mark is to the next one: by the line kind of its own code, and whether it was handed out as a line.
-    pub fn of(kind: LineKind, handed: bool) -> Before
+    pub fn of(kind: Option<Kind>, handed: bool) -> Before
         ensures { result ≡ before_by kind handed }
     {
         match kind {
-            LineKind::NotLine => Before::NoLine,
-            LineKind::LineOf(k) => {
-                if handed {
-                    return Before::HandedOut(k);
-                }
-                Before::RefusedLine(k)
-            }
+            None => Before::NoLine,
+            Some(k) if handed => Before::HandedOut(k),
+            Some(k) => Before::RefusedLine(k),
         }
     }
 }

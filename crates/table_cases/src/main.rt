@@ -3,12 +3,11 @@
 
 #![tactic(auto)]
 
-mod plain;
 mod table;
 
 use host_calls::Source;
-use plain::{end_line, say, until};
 use reader_table::ReaderTable;
+use script_words::{end_line, say};
 
 fn main(rt: HostRuntime) {
     let mut input = [0u8; host_calls::ROOM];
@@ -23,14 +22,8 @@ fn main(rt: HostRuntime) {
 // Each line of a text.
 fn run(rt: HostRuntime, text: &[u8]) {
     let mut table = ReaderTable::empty();
-    let mut start: usize = 0;
-    while start < text.len() {
-        let end = until(text, start, b'\n');
-        table = step(rt, table, &text[start..end]);
-        if end == text.len() {
-            return;
-        }
-        start = end + 1;
+    for line in text.split(|sign| *sign == b'\n') {
+        table = step(rt, table, line);
     }
 }
 

@@ -1,9 +1,9 @@
 // A call of a table of readers, by one of the technicians.
 ghost use Rattle.std.specs.Prelude.{◌≤◌, length};
 
-use crate::plain::{end_line, nibble_of, number, say, say_number, say_refused, until};
 use profile::Profile;
-use reader_table::{Opening, ReaderTable, TableFed, TableOpened};
+use reader_table::{ReaderTable, TableFed, TableOpened};
+use script_words::{end_line, nibble_of, number, say, say_number, say_refused};
 use stream::Answer;
 
 // The most nibbles of a run here: a profile 0 line with its marks and gap fits.
@@ -16,11 +16,16 @@ pub fn call(rt: HostRuntime, table: ReaderTable, line: &[u8]) -> ReaderTable {
     }
     say(rt, line);
     say(rt, b": ");
-    let technician = nibble_of(line[0]);
-    let n = nibble_of(line[2]);
+    let technician = digit(line[0]);
+    let n = digit(line[2]);
     let after = asked(rt, table, technician, line[1], n, &line[3..]);
     end_line(rt);
     after
+}
+
+// The number of a hexadecimal digit; for any other sign 16, which is no nibble, no technician and no place.
+fn digit(sign: u8) -> u8 {
+    nibble_of(sign).unwrap_or(16)
 }
 
 fn asked(
@@ -44,11 +49,11 @@ fn asked(
 fn opened(rt: HostRuntime, o: TableOpened) -> ReaderTable {
     let answer = o.answer;
     match answer {
-        Opening::At(place) => {
+        Ok(place) => {
             say(rt, b"place ");
             say_number(rt, place as u64);
         }
-        Opening::Refused(number) => say_refused(rt, number),
+        Err(refusal) => say_refused(rt, refusal),
     }
     o.table
 }
@@ -65,7 +70,7 @@ fn feed(
         return table;
     }
     let mut line = [0u8; Profile::LONGEST];
-    let fed = table.feed(technician, place, nibble_of(text[0]), &mut line);
+    let fed = table.feed(technician, place, digit(text[0]), &mut line);
     told(rt, fed)
 }
 
@@ -105,18 +110,18 @@ fn run_lent(
 fn fill(nibbles: &mut [u8], text: &[u8]) -> usize
     ensures { result ≤ length nibbles.new }
 {
-    let star = until(text, 0, b'*');
-    fill_times(nibbles, &text[0..star], number(&text[star..]))
+    match text.iter().position(|sign| *sign == b'*') {
+        None => fill_times(nibbles, text, 1),
+        Some(star) => fill_times(nibbles, &text[..star], number(&text[star + 1..])),
+    }
 }
 
 fn fill_times(nibbles: &mut [u8], unit: &[u8], times: u64) -> usize
     ensures { result ≤ length nibbles.new }
 {
     let mut used = put(nibbles, 0, unit);
-    let mut i: u64 = 1;
-    while i < times {
+    for _ in 1..times {
         used = put(nibbles, used, unit);
-        i += 1;
     }
     used
 }
@@ -127,14 +132,12 @@ fn put(nibbles: &mut [u8], from: usize, unit: &[u8]) -> usize
     ensures { result ≤ length nibbles.new }
 {
     let mut used = from;
-    let mut i: usize = 0;
-    while i < unit.len() {
+    for sign in unit {
         if nibbles.len() <= used {
             return used;
         }
-        nibbles[used] = nibble_of(unit[i]);
+        nibbles[used] = digit(*sign);
         used += 1;
-        i += 1;
     }
     used
 }
@@ -149,7 +152,7 @@ fn told(rt: HostRuntime, fed: TableFed) -> ReaderTable {
             say_number(rt, facts.number as u64);
         }
         Answer::Gap(_) => say(rt, b"gap"),
-        Answer::Refused(number) => say_refused(rt, number),
+        Answer::Refused(refusal) => say_refused(rt, refusal),
     }
     fed.table
 }

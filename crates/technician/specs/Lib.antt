@@ -1,1 +1,2 @@
 pub mod Technician
+pub mod TechnicianLaws

@@ -3,3 +3,5 @@ pub mod Parts
 pub mod TextLaws
 pub mod Put
 pub mod PutLaws
+pub mod Pages
+pub mod PagesLaws

@@ -1,6 +1,6 @@
-// Texts put into a lent buffer: words, numbers in decimal and bytes in hex, in ASCII.
+// Texts written on a page, or put into a lent buffer at a place: words, numbers in decimal and bytes in hex, in ASCII.
 //
-// In: what to put, and a place of the buffer. Out: its text there, and the place after it. Nothing is refused: where the buffer ends before
+// In: what to put, and a page, or a buffer and a place. Out: its text there, and the place after it. Nothing is refused: where the room ends before
 // the text does, the rest of the text is left out, and the place is that end; from a place beyond the end nothing is put, and the place
 // stays. So texts put one after another are their concatenation, put at once. Cost: linear in the text.
 
@@ -10,9 +10,47 @@ ghost use Rattle.std.specs.Prelude.{◌≡◌, ◌∷◌, [], ◌+◌, ◌%◌, 
 ghost use Rattle.text.specs.Text.{digit, decimal, hex_digit, hex_byte};
 ghost use Rattle.text.specs.Parts.{is_more};
 ghost use Rattle.text.specs.Put.{Puts};
+ghost use Rattle.text.specs.Pages.{Opens, Writes};
 
 // The decimal digits of the greatest u64.
 const PLACES: usize = 20;
+
+// Room that is lent, and how much of it is written, from its front.
+#[derive(Drop)]
+pub struct Page<'a> {
+    pub room: &'a mut [u8],
+    pub used: usize,
+}
+
+impl<'a> Page<'a> {
+    // Nothing written.
+    pub fn new(room: &'a mut [u8]) -> Page<'a>
+        ensures { Opens room.entry result }
+    {
+        Page { room, used: 0 }
+    }
+
+    // A text as it is.
+    pub fn put(&mut self, text: &[u8])
+        ensures { Writes text.now self.old self.new }
+    {
+        self.used = put(text, self.room, self.used);
+    }
+
+    // A number in decimal.
+    pub fn put_decimal(&mut self, n: u64)
+        ensures { Writes (decimal n) self.old self.new }
+    {
+        self.used = put_decimal(n, self.room, self.used);
+    }
+
+    // A byte in hex, of two digits.
+    pub fn put_hex(&mut self, byte: u8)
+        ensures { Writes (hex_byte byte) self.old self.new }
+    {
+        self.used = put_hex(byte, self.room, self.used);
+    }
+}
 
 // A text as it is.
 pub fn put(text: &[u8], out: &mut [u8], at: usize) -> usize
@@ -21,13 +59,12 @@ pub fn put(text: &[u8], out: &mut [u8], at: usize) -> usize
     if out.len() <= at {
         return at;
     }
-    let n = text.len();
     let room = out.len() - at;
-    if n <= room {
-        copy(text, n, out, at);
-        return at + n;
+    if text.len() <= room {
+        out[at..at + text.len()].copy_from_slice(text);
+        return at + text.len();
     }
-    copy(text, room, out, at);
+    out[at..].copy_from_slice(&text[..room]);
     at + room
 }
 
@@ -48,18 +85,6 @@ pub fn put_hex(byte: u8, out: &mut [u8], at: usize) -> usize
     put_byte(hex_digit(byte % 16), out, next)
 }
 
-// Puts the first n bytes of a text at a place.
-fn copy(text: &[u8], n: usize, out: &mut [u8], at: usize)
-    requires { (n ≤ length text.now) × (at + n ≤ length out.old) }
-    ensures { Puts out.old at (take n text.now) (at + n) out.new }
-{
-    let mut i: usize = 0;
-    while i < n {
-        out[at + i] = text[i];
-        i += 1;
-    }
-}
-
 // Puts the decimal digits of a number at the end of the places, the last one first, and gives the place of the first.
 fn fill_digits(n: u64, places: &mut [u8]) -> usize
     requires { length places.old ≡ 20 }
@@ -67,10 +92,11 @@ fn fill_digits(n: u64, places: &mut [u8]) -> usize
 {
     let mut rest = n;
     let mut left = PLACES;
+    // Not a for: it ends where the number has no digit more.
     while is_more(left, rest) {
         left -= 1;
         places[left] = last_digit(rest);
-        rest = rest / 10;
+        rest /= 10;
     }
     left -= 1;
     places[left] = last_digit(rest);
@@ -81,10 +107,7 @@ fn fill_digits(n: u64, places: &mut [u8]) -> usize
 fn is_more(left: usize, n: u64) -> bool
     ensures { result ≡ is_more left n }
 {
-    if 1 < left {
-        return 10 <= n;
-    }
-    false
+    1 < left && 10 <= n
 }
 
 fn last_digit(n: u64) -> u8

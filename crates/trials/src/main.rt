@@ -4,14 +4,13 @@
 
 #![tactic(auto)]
 
-ghost use Rattle.std.specs.Prelude.{◌≡◌, ◌≤◌, length};
+ghost use Rattle.std.specs.Prelude.{◌≡◌, length};
 
 use host_calls::Source;
-use lent_buffer::Filled;
 use line_code::Kind;
 use list_frames::FrameLister;
 use profile::Profile;
-use std::io::Print;
+use script_words::{end_line, number_to, say, say_front, word_at};
 
 // The bytes of the largest capture: ten frames of a VV5300.
 const MOST: usize = 320000;
@@ -41,30 +40,9 @@ fn room() -> [u8; MOST]
 // Each line of a script.
 fn follow(rt: HostRuntime, script: &[u8], bytes: &mut [u8]) {
     let mut at: usize = 0;
-    let mut start: usize = 0;
-    while start < script.len() {
-        let end = line_end(script, start);
-        at = step(rt, &script[start..end], bytes, at);
-        if end == script.len() {
-            return;
-        }
-        start = end + 1;
+    for line in script.split(|sign| *sign == b'\n') {
+        at = step(rt, line, bytes, at);
     }
-}
-
-// The place of the first end of a line from a place on, or the text's end.
-fn line_end(text: &[u8], from: usize) -> usize
-    requires { from ≤ length text.now }
-    ensures { (from ≤ result) × (result ≤ length text.now) }
-{
-    let mut i = from;
-    while i < text.len() {
-        if text[i] == b'\n' {
-            return i;
-        }
-        i += 1;
-    }
-    i
 }
 
 // A line of the script, by its first letter: the place of the capture's next nibble after it. Any other line is passed over.
@@ -84,7 +62,7 @@ fn step(rt: HostRuntime, line: &[u8], bytes: &mut [u8], at: usize) -> usize {
 // A title is written; the next capture begins.
 fn titled(rt: HostRuntime, line: &[u8]) -> usize {
     say(rt, line);
-    say(rt, b"\n");
+    end_line(rt);
     0
 }
 
@@ -97,41 +75,7 @@ fn sensor(number: usize) -> Profile {
 
 // The number that is a line's word with this number, the first being 0; where there is none, 0.
 fn number_at(line: &[u8], word: usize) -> usize {
-    let mut n: usize = 0;
-    let mut words: usize = 0;
-    let mut i: usize = 0;
-    while i < line.len() {
-        if words == word {
-            n = with_digit(n, line[i]);
-        }
-        words += ends_word(line[i]);
-        i += 1;
-    }
-    n
-}
-
-// 1 where a sign ends a word.
-fn ends_word(sign: u8) -> usize
-    ensures { result ≤ 1 }
-{
-    if sign == b' ' {
-        return 1;
-    }
-    0
-}
-
-// A number with one digit more; another sign, and what makes the number too large, is passed over.
-fn with_digit(n: usize, sign: u8) -> usize {
-    if sign < b'0' {
-        return n;
-    }
-    if b'9' < sign {
-        return n;
-    }
-    if MOST < n {
-        return n;
-    }
-    10 * n + (sign - b'0') as usize
+    number_to(word_at(line, word), MOST as u64) as usize
 }
 
 // Judges the first nibbles of some bytes, and writes the report: they stay the capture.
@@ -157,27 +101,13 @@ fn report(rt: HostRuntime, profile: Profile, capture: &[u8], out: &mut [u8]) {
     say_front(rt, out, last.used);
 }
 
-fn say(rt: HostRuntime, text: &[u8]) {
-    let _ = rt.stdout().write_all(text);
-}
-
-// Writes the front of a text.
-fn say_front(rt: HostRuntime, text: &[u8], count: usize) {
-    if count <= text.len() {
-        say(rt, &text[..count]);
-    }
-}
-
 // Puts lines of a frame at a nibble's place, and gives the place after them. The numbers of the script's line: the sensor, whether borders are on,
 // the frame's place to start from and the one to stop at; and what happens to each line on its way: the nibble of which two bits flip, none where
 // that is 0, and the nibbles that are missing, from one place on, up to another.
 fn put_lines(line: &[u8], bytes: &mut [u8], at: usize) -> usize {
-    let to = number_at(line, 4);
     let mut next = at;
-    let mut place = number_at(line, 3);
-    while place < to {
+    for place in number_at(line, 3)..number_at(line, 4) {
         next = put_line(line, place, bytes, next);
-        place += 1;
     }
     next
 }
@@ -231,10 +161,7 @@ fn write_line(
         0,
         nibbles,
     );
-    match filled {
-        Filled::Length(n) => n,
-        Filled::Refused(_) => 0,
-    }
+    filled.unwrap_or(0)
 }
 
 fn profile_number(profile: Profile) -> u8 {
@@ -272,30 +199,23 @@ fn kind_at(profile: Profile, on: bool, place: usize) -> Kind {
 
 fn kind_within(first: usize, last: usize, end: usize, place: usize) -> Kind {
     if place == 0 {
-        return Kind::SOF;
+        Kind::SOF
+    } else if place < 3 {
+        Kind::BK
+    } else if place == end {
+        Kind::EOF
+    } else if place < first || last < place {
+        Kind::BL
+    } else {
+        Kind::VL
     }
-    if place < 3 {
-        return Kind::BK;
-    }
-    if place == end {
-        return Kind::EOF;
-    }
-    if place < first {
-        return Kind::BL;
-    }
-    if last < place {
-        return Kind::BL;
-    }
-    Kind::VL
 }
 
 // Puts so many nibbles 0.
 fn put_zeros(count: usize, bytes: &mut [u8], at: usize) -> usize {
     let mut next = at;
-    let mut i: usize = 0;
-    while i < count {
+    for _ in 0..count {
         next = put_nibble(0, bytes, next);
-        i += 1;
     }
     next
 }
@@ -303,10 +223,8 @@ fn put_zeros(count: usize, bytes: &mut [u8], at: usize) -> usize {
 // Puts nibbles from one place to another.
 fn put_nibbles(nibbles: &[u8], from: usize, to: usize, bytes: &mut [u8], at: usize) -> usize {
     let mut next = at;
-    let mut i = from;
-    while i < to {
+    for i in from..to {
         next = put_nibble(nibble_at(nibbles, i), bytes, next);
-        i += 1;
     }
     next
 }

@@ -1,10 +1,9 @@
 -- A message read against a sensor's state (02, A6): the sensor after it, or a refusal, after which nothing has changed.
-use Rattle.std.specs.Prelude.{◌≡◌, Bool, true, false, not, cond, List, [], ◌∷◌, ℕ, zero, suc, ◌+◌, ◌%◌, eqb, leb, get_or, replicate}
+use Rattle.std.specs.Prelude.{◌≡◌, Bool, true, false, not, cond, List, [], ◌∷◌, ℕ, zero, suc, ◌+◌, ◌%◌, eqb, leb, get_or, replicate, Err, Ok, Result}
 use Rattle.refusal.specs.Refusal.{bad_state, short_message, wrong_address, wrong_index, wrong_data, past_last_register}
+use Rattle.refusal.specs.declared.Refusal.{Refusal}
 use Rattle.two_wire.specs.declared.Sensor.{Sensor}
 use Rattle.two_wire.specs.declared.Seen.{Seen}
-use Rattle.two_wire.specs.declared.MessageAnswer.{MessageAnswer}
-use Rattle.two_wire.specs.declared.MessageAnswer.TheVariants as answer
 use Rattle.message_data.specs.Registers.{register_count, last_index, next, runs_past, reached, left, stored, some_differs}
 
 -- registers, current index and increment flag, all 0 when fresh
@@ -41,9 +40,9 @@ pub data Acceptance : Type 0 where
   refused : ℕ → Acceptance
 
 -- the paper's number and values of each case of the program's answer, which comes beside the sensor
-abbrev pub acceptance_of : MessageAnswer → Sensor → Acceptance
-acceptance_of answer.Accepted s = accepted s
-acceptance_of (answer.Refused n) s = refused n
+abbrev pub acceptance_of : Result Unit Refusal → Sensor → Acceptance
+acceptance_of (Ok u) s = accepted s
+acceptance_of (Err r) s = refused r.0
 
 -- the sensor afterwards: a refused message changes nothing
 abbrev pub sensor_after : Acceptance → Sensor → Sensor

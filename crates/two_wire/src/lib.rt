@@ -10,12 +10,12 @@
 
 pub mod register;
 
-ghost use Rattle.std.specs.Prelude.{◌≡◌, ◌≤◌};
+ghost use Rattle.std.specs.Prelude.{◌≡◌, ◌≤◌, Ok};
 ghost use Rattle.message_data.specs.Registers.{last_index};
 ghost use Rattle.two_wire.specs.Messages.{fresh, index_byte, refused, AnswersMessage, write_data, read_data, read_back, addressed, message_on};
-ghost use Rattle.two_wire.specs.declared.MessageAnswer.TheVariants as answer;
 
 use message_data::{left, runs_past, some_differs, store};
+use refusal::Refusal;
 
 // A sensor as messages see it. Calls leave an index up to 127; a state with another is refused with 11.
 #[derive(Clone, Copy)]
@@ -25,18 +25,11 @@ pub struct Sensor {
     pub increment: bool,
 }
 
-// What a message is answered.
-#[derive(Clone, Copy)]
-pub enum MessageAnswer {
-    Accepted,
-    Refused(u8),
-}
-
-// The state after a message, and its answer.
+// The state after a message, and its answer: accepted, or refused.
 #[derive(Clone, Copy)]
 pub struct Seen {
     pub sensor: Sensor,
-    pub answer: MessageAnswer,
+    pub answer: Result<(), Refusal>,
 }
 
 // The first byte of a write, and of a read.
@@ -68,10 +61,10 @@ impl Sensor {
     {
         let index = self.index;
         if LAST_INDEX < index {
-            return self.refused(refusal::BAD_STATE);
+            return self.refused(Refusal::BAD_STATE);
         }
         if message.len() < 2 {
-            return self.refused(refusal::SHORT_MESSAGE);
+            return self.refused(Refusal::SHORT_MESSAGE);
         }
         self.addressed(message[0], message[1], &message[2..])
     }
@@ -87,7 +80,7 @@ impl Sensor {
         if address == READ_ADDRESS {
             return self.read_back(second, bytes);
         }
-        self.refused(refusal::WRONG_ADDRESS)
+        self.refused(Refusal::WRONG_ADDRESS)
     }
 
     // A write of data from an index on.
@@ -96,7 +89,7 @@ impl Sensor {
     {
         let mut registers = self.registers;
         if store(&mut registers, increment, index, bytes) {
-            self.refused(refusal::PAST_LAST_REGISTER)
+            self.refused(Refusal::PAST_LAST_REGISTER)
         } else {
             accepted(registers, left(increment, index, bytes), increment)
         }
@@ -113,7 +106,7 @@ impl Sensor {
         if second == expected {
             return self.read_data(bytes);
         }
-        self.refused(refusal::WRONG_INDEX)
+        self.refused(Refusal::WRONG_INDEX)
     }
 
     // A read's data.
@@ -126,29 +119,28 @@ impl Sensor {
         let different = some_differs(&registers, increment, index, bytes);
         let past = runs_past(increment, index, bytes);
         if different {
-            return self.refused(refusal::WRONG_DATA);
+            return self.refused(Refusal::WRONG_DATA);
         }
         if past {
-            return self.refused(refusal::PAST_LAST_REGISTER);
+            return self.refused(Refusal::PAST_LAST_REGISTER);
         }
         accepted(registers, left(increment, index, bytes), increment)
     }
 
     // The same state, and a refusal.
-    fn refused(self, number: u8) -> Seen
-        ensures { AnswersMessage (refused number) self result }
+    fn refused(self, refusal: Refusal) -> Seen
+        ensures { AnswersMessage (refused refusal.0) self result }
     {
-        let answer = MessageAnswer::Refused(number);
         Seen {
             sensor: self,
-            answer,
+            answer: Err(refusal),
         }
     }
 }
 
 // A new state, and acceptance.
 fn accepted(registers: [u8; 128], index: u8, increment: bool) -> Seen
-    ensures { result ≡ record { sensor = record { registers = registers; index = index; increment = increment }; answer = answer.Accepted } }
+    ensures { result ≡ record { sensor = record { registers = registers; index = index; increment = increment }; answer = Ok tt } }
 {
     let sensor = Sensor {
         registers,
@@ -157,7 +149,7 @@ fn accepted(registers: [u8; 128], index: u8, increment: bool) -> Seen
     };
     Seen {
         sensor,
-        answer: MessageAnswer::Accepted,
+        answer: Ok(()),
     }
 }
 

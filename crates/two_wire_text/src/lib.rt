@@ -8,13 +8,14 @@
 
 ghost use Rattle.std.specs.Prelude.{◌≡◌, ◌/◌, ◌<◌, length};
 ghost use Rattle.std.proofs.lemmas.List.Edits.{sets};
-ghost use Rattle.text.specs.Put.{Puts};
+ghost use Rattle.text.specs.Pages.{Writes};
 ghost use Rattle.two_wire.specs.Messages.{message_on, message};
 ghost use Rattle.two_wire_text.specs.Hex.{hex_text, digit_of, char_fits, is_message, byte_of, bytes_of};
 ghost use Rattle.two_wire_text.specs.Explained.{message_text, message_sensor, TellsIn, TellsOutcome};
 
-use text::{put, put_hex};
-use two_wire::{MessageAnswer, Sensor};
+use refusal::Refusal;
+use text::Page;
+use two_wire::Sensor;
 
 // The state after a line, and the length of its text.
 #[derive(Clone, Copy)]
@@ -31,7 +32,7 @@ pub fn explain(sensor: Sensor, line: &[u8], out: &mut [u8]) -> MessageTold
     ensures { TellsIn (message_sensor sensor line.now) (message_text sensor line.now) out.old out.new result }
 {
     if LONGEST <= line.len() / 3 {
-        let length = two_wire_words::put_refused(refusal::NO_ROOM, out);
+        let length = two_wire_words::put_refused(Refusal::NO_ROOM, out);
         return MessageTold { sensor, length };
     }
     let mut bytes = [0u8; 256];
@@ -46,14 +47,14 @@ fn read_message(sensor: Sensor, bytes: &[u8], out: &mut [u8]) -> MessageTold
     let after = seen.sensor;
     let answered = seen.answer;
     match answered {
-        MessageAnswer::Accepted => {
+        Ok(()) => {
             let length = two_wire_words::put_accepted(bytes, out);
             MessageTold {
                 sensor: after,
                 length,
             }
         }
-        MessageAnswer::Refused(refusal) => {
+        Err(refusal) => {
             let length = two_wire_words::put_refused(refusal, out);
             MessageTold {
                 sensor: after,
@@ -69,18 +70,15 @@ fn read_message(sensor: Sensor, bytes: &[u8], out: &mut [u8]) -> MessageTold
 pub fn is_message(line: &[u8]) -> bool
     ensures { result ≡ is_message line.now }
 {
-    if line.len() % 3 == 2 {
-        let mut i: usize = 0;
-        while i < line.len() {
-            if char_fits(i, line[i]) {
-                i += 1;
-            } else {
-                return false;
-            }
-        }
-        return true;
+    if line.len() % 3 != 2 {
+        return false;
     }
-    false
+    for (i, c) in line.iter().enumerate() {
+        if !char_fits(i, *c) {
+            return false;
+        }
+    }
+    true
 }
 
 // Whether a character may stand at a place of a message's line.
@@ -98,14 +96,11 @@ fn decode(line: &[u8], bytes: &mut [u8; 256]) -> usize
     requires { length line.now / 3 < 256 }
     ensures { (result ≡ length (bytes_of line.now)) × (bytes.new ≡ sets bytes.old 0 (bytes_of line.now)) }
 {
-    let mut n: usize = 0;
-    let mut i: usize = 0;
-    while i + 1 < line.len() {
-        bytes[n] = byte_of(line[i], line[i + 1]);
-        n += 1;
-        i += 3;
+    let count = (line.len() + 1) / 3;
+    for i in 0..count {
+        bytes[i] = byte_of(line[3 * i], line[3 * i + 1]);
     }
-    n
+    count
 }
 
 // The byte of two digits.
@@ -144,14 +139,14 @@ fn digit(c: u8) -> u8
 
 // Writing text.
 
-// The message of a pair in hex, on a line of its own, put at a place, as far as there is room; the place after it.
-pub fn put_message(index: u8, value: u8, out: &mut [u8], at: usize) -> usize
-    ensures { Puts out.old at (hex_text (message index value)) result out.new }
+// The message of a pair in hex, on a line of its own.
+pub fn put_message(index: u8, value: u8, page: &mut Page<'_>)
+    ensures { Writes (hex_text (message index value)) page.old page.new }
 {
-    let a = put_hex(two_wire::WRITE_ADDRESS, out, at);
-    let b = put(b" ", out, a);
-    let c = put_hex(index, out, b);
-    let d = put(b" ", out, c);
-    let e = put_hex(value, out, d);
-    put(b"\n", out, e)
+    page.put_hex(two_wire::WRITE_ADDRESS);
+    page.put(b" ");
+    page.put_hex(index);
+    page.put(b" ");
+    page.put_hex(value);
+    page.put(b"\n");
 }

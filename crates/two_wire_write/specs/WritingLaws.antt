@@ -1,11 +1,10 @@
 -- Laws of a list of pairs: its messages' length, and one pair of it after another.
-use Rattle.std.specs.Prelude.{◌≡◌, refl, false, not, ◌||◌, List, [], ◌∷◌, ◌++◌, ℕ, suc, ◌+◌, ◌*◌, ◌/◌, ◌%◌, ◌<◌, ◌≤◌, eqb, ltb, length, drop, get_or}
+use Rattle.std.specs.Prelude.{◌≡◌, refl, false, not, ◌||◌, List, [], ◌∷◌, ◌++◌, ℕ, suc, ◌+◌, ◌*◌, ◌/◌, ◌%◌, ◌<◌, ◌≤◌, eqb, ltb, length, drop, get_or, Ok}
 use Rattle.std.proofs.Common.{sym, ap, ◌∙◌, true≢false, add-one, arith, length-drop, drop-cons}
 use Rattle.std.proofs.Math.Numerals.{unary_clauses}
 use Rattle.std.proofs.lemmas.List.Edits.{sets}
 use Rattle.std.proofs.lemmas.Bool.{not-true}
 use Rattle.refusal.specs.Refusal.{short_message, past_last_register}
-use Rattle.lent_buffer.specs.declared.Filled.TheVariants.{Length}
 use Rattle.lent_buffer.specs.Filled.{used, Gives, require}
 use Rattle.lent_buffer.specs.FilledLaws.{fills, fitted_used, passed, used_fitted}
 use Rattle.lent_buffer.specs.StoringLaws.{sets_front}
@@ -35,7 +34,7 @@ unfolding write_of require
 writes pairs room e p h = simp (e, p) (fitted_used (joined (messages pairs)) room h)
 
 pub written : (pairs buffer : List ℕ) → ends_within_pair pairs ≡ false → some_index_past pairs ≡ false → length (joined (messages pairs)) ≤ length buffer
-    → Gives (write_of pairs (length buffer)) (Length (length (joined (messages pairs)))) buffer (sets buffer 0 (joined (messages pairs)))
+    → Gives (write_of pairs (length buffer)) (Ok (length (joined (messages pairs)))) buffer (sets buffer 0 (joined (messages pairs)))
 written pairs buffer e p h =
     fills _ _ (joined (messages pairs)) buffer _ (writes pairs (length buffer) e p h) refl (sets_front (joined (messages pairs)) buffer h)
 

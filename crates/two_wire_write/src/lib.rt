@@ -14,22 +14,23 @@ ghost use Rattle.two_wire.specs.Messages.{message};
 ghost use Rattle.two_wire_write.specs.Writing.{ends_within_pair, some_index_past, messages, joined, write_of};
 
 use lent_buffer::Filled;
+use refusal::Refusal;
 
 // Writes the messages of the pairs to the front of the buffer: `write_of`. The answer is the length used, three bytes a pair.
 pub fn write(pairs: &[u8], buffer: &mut [u8]) -> Filled
     ensures { Gives (write_of pairs.now (length buffer.old)) result buffer.old buffer.new }
 {
     if pairs.len() % 2 == 1 {
-        return Filled::Refused(refusal::SHORT_MESSAGE);
+        return Err(Refusal::SHORT_MESSAGE);
     }
     if some_index_past(pairs) {
-        return Filled::Refused(refusal::PAST_LAST_REGISTER);
+        return Err(Refusal::PAST_LAST_REGISTER);
     }
     if buffer.len() / 3 < pairs.len() / 2 {
-        return Filled::Refused(refusal::NO_ROOM);
+        return Err(Refusal::NO_ROOM);
     }
     let end = put_messages(pairs, buffer);
-    Filled::Length(end)
+    Ok(end)
 }
 
 // Whether an index of the pairs is above the last.
@@ -37,12 +38,10 @@ fn some_index_past(pairs: &[u8]) -> bool
     requires { ends_within_pair pairs.now ≡ false }
     ensures { result ≡ some_index_past pairs.now }
 {
-    let mut i: usize = 0;
-    while i < pairs.len() {
-        if two_wire::LAST_INDEX < pairs[i] {
+    for pair in pairs.chunks_exact(2) {
+        if two_wire::LAST_INDEX < pair[0] {
             return true;
         }
-        i += 2;
     }
     false
 }
@@ -53,10 +52,8 @@ fn put_messages(pairs: &[u8], buffer: &mut [u8]) -> usize
     ensures { (result ≡ length (joined (messages pairs.now))) × (buffer.new ≡ sets buffer.old 0 (joined (messages pairs.now))) }
 {
     let mut at: usize = 0;
-    let mut i: usize = 0;
-    while i < pairs.len() {
-        at = put_message(pairs[i], pairs[i + 1], at, buffer);
-        i += 2;
+    for pair in pairs.chunks_exact(2) {
+        at = put_message(pair[0], pair[1], at, buffer);
     }
     at
 }

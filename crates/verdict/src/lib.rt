@@ -53,28 +53,15 @@ fn by_frames(findings: Findings, lost: bool) -> Verdict
 }
 
 // Whether nothing is out of order.
+#[tactic(auto, unfolding(crate::specs::Verdict::in_order))]
 pub fn in_order(findings: Findings, lost: bool) -> bool
     ensures { result ≡ in_order findings lost }
 {
-    if lost {
-        return false;
-    }
-    let tally = findings.tally;
-    if tally.broken != 0 {
-        return false;
-    }
-    let outside = findings.outside;
-    if outside.later != 0 {
-        return false;
-    }
-    let profile = tally.profile;
-    let most = frame_layout::last_place(profile) as u64;
-    if most < outside.early {
-        return false;
-    }
-    let signal = findings.signal;
-    let refused = signal.refused;
-    counts::are_zero(&refused)
+    !lost
+        && findings.tally.broken == 0
+        && findings.outside.later == 0
+        && findings.outside.early <= frame_layout::last_place(findings.tally.profile) as u64
+        && counts::are_zero(&findings.signal.refused)
 }
 
 // Whether a reader, at the end of a capture, has taken more nibbles since its last mark than a clean stream has between two marks: the signal

@@ -1,11 +1,12 @@
 -- Exactly when each verdict comes: the tally's, the signal's and the findings' own counts are those of the answers, and a count is above 0
 -- exactly where one of them is so.
-use Rattle.std.specs.Prelude.{◌≡◌, refl, Bool, true, false, ◌&&◌, ◌||◌, not, cond, List, [], ◌∷◌, ◌++◌, ◌↔◌, ℕ, zero, suc, ◌+◌, ◌≤◌, ◌<◌, min, eqb, leb, ltb, length, get_or}
+use Rattle.std.specs.Prelude.{◌≡◌, refl, Bool, true, false, ◌&&◌, ◌||◌, not, cond, List, [], ◌∷◌, ◌++◌, ◌↔◌, ℕ, zero, suc, ◌+◌, ◌≤◌, ◌<◌, min, eqb, leb, ltb, length, get_or, None, Option, Some}
 use Rattle.std.proofs.Common.{◌∙◌, ap, ap₂, sym, subst, true≢false, append-nil, zero-add, arith, lit≤, lt-ltb, ltb-true, ltb-false, le-leb, leb-true, leb-false, eqb-true, ne_eqb, eq-eqb}
 use Rattle.std.proofs.lemmas.Bool.{false≢true, lt-leb}
 use Rattle.std.proofs.Math.Bool.{or-true, or-false, or_assoc}
 use Rattle.bits.specs.Every.{and_left, and_right, and_both}
 use Rattle.bits.specs.Tests.{or_left, or_right, or_neither}
+use Rattle.refusal.specs.declared.Refusal.{Refusal}
 use Rattle.refusal.specs.Refusal.{end_without_line, bad_kind, number_too_large}
 use Rattle.counts.specs.Counts.{all_zero}
 use Rattle.counts.specs.Counts as counts
@@ -25,8 +26,7 @@ use Rattle.signal_tally.specs.Signal.{refusals, fresh_signal, is_start, is_cut, 
 use Rattle.signal_tally.specs.Signal as signal
 use Rattle.signal_tally.specs.Seen.{signalled, capture_signal, answers_of, from_start, is_refusal, first_of}
 use Rattle.signal_tally.proofs.SignalLaws.{counts_answers}
-use Rattle.frame_handing.specs.declared.Handed.{Handed}
-use Rattle.frame_handing.specs.declared.Handed.TheVariants as hand
+use Rattle.frame_handing.specs.declared.HandedLine.{HandedLine}
 use Rattle.frame_judge.specs.declared.Judge.{Judge}
 use Rattle.frame_judge.specs.declared.Judge.TheVariants.{Waiting, Due}
 use Rattle.frame_judge.specs.declared.Ruling.{Ruling}
@@ -35,7 +35,7 @@ use Rattle.frame_judge.specs.declared.Judged.{Judged}
 use Rattle.frame_layout.specs.FrameLayout.{last_place}
 use Rattle.frame_judge.specs.Frame.{gives, refuses, opens, begun, broken_kind, judge_of, breaks_frame}
 use Rattle.frame_judge.specs.Calls.{Line, line, called, after, rulings, is_complete, is_break}
-use Rattle.frame_handing.specs.Handing.{is_broken_line, handed_over, as_lines, handed_lines, all_handed}
+use Rattle.frame_handing.specs.Handing.{is_broken_line, hand, handed_over, as_lines, handed_lines, all_handed}
 use Rattle.frame_laws.specs.FrameLaws.{opens_is}
 use Rattle.frame_tally.specs.declared.Tally.{Tally}
 use Rattle.frame_tally.specs.declared.Told.{Told}
@@ -129,7 +129,7 @@ by_first_lem v [] = refl
 by_first_lem v (answer.Nothing ∷ w) = by_first_lem v w
 by_first_lem v (answer.Line f ∷ w) = refl
 by_first_lem v (answer.Gap g ∷ w) = refl
-by_first_lem v (answer.Refused n ∷ w) = either (eqb n end_without_line)
+by_first_lem v (answer.Refused r ∷ w) = either (eqb r.0 end_without_line)
   where
     either : (b : Bool) → by_first v (cond b InsideLine Other) ≡ v
     either true = refl
@@ -141,11 +141,11 @@ unfolding signal.take_of
 take_places s answer.Nothing = refl
 take_places s (answer.Line f) = refl
 take_places s (answer.Gap g) = refl
-take_places s (answer.Refused n) = either (is_start s.first n)
+take_places s (answer.Refused r) = either (is_start s.first r.0)
   where
-    either : (b : Bool) → length (cond b (with_first s InsideLine) (refusal_seen s n)).refused ≡ length s.refused
+    either : (b : Bool) → length (cond b (with_first s InsideLine) (refusal_seen s r.0)).refused ≡ length s.refused
     either true = refl
-    either false = one_more_length s.refused n
+    either false = one_more_length s.refused r.0
 
 all_places : (s : Signal) (w : List Answer) → length (signalled s w).refused ≡ length s.refused
 all_places s [] = refl
@@ -177,16 +177,16 @@ numbered_no : (a : Answer) (n : ℕ) → n < refusals → is_refused a ≡ false
 numbered_no answer.Nothing n l h = refl
 numbered_no (answer.Line f) n l h = refl
 numbered_no (answer.Gap g) n l h = refl
-numbered_no (answer.Refused m) n l h = ne_eqb m n (λ e. omega (arith, e, l, ltb-false m refusals h))
+numbered_no (answer.Refused r) n l h = ne_eqb r.0 n (λ e. omega (arith, e, l, ltb-false r.0 refusals h))
 
 refused_no : (a : Answer) → ((n : ℕ) → n < refusals → is_refusal n a ≡ false) → is_refused a ≡ false
 refused_no answer.Nothing h = refl
 refused_no (answer.Line f) h = refl
 refused_no (answer.Gap g) h = refl
-refused_no (answer.Refused m) h = go (ltb m refusals) refl
+refused_no (answer.Refused r) h = go (ltb r.0 refusals) refl
   where
-    go : (b : Bool) → ltb m refusals ≡ b → b ≡ false
-    go true e = absurd (true≢false (sym (eq-eqb m m refl) ∙ h m (ltb-true m refusals e)))
+    go : (b : Bool) → ltb r.0 refusals ≡ b → b ≡ false
+    go true e = absurd (true≢false (sym (eq-eqb r.0 r.0 refl) ∙ h r.0 (ltb-true r.0 refusals e)))
     go false e = refl
 
 none_numbered : (w : List Answer) (n : ℕ) → n < refusals → some is_refused w ≡ false → some (is_refusal n) w ≡ false
@@ -282,7 +282,7 @@ still_waits p l e = go (leb l.kind (kind_number EOF)) (eqb l.kind broken_kind) (
     go true false false false h = (refl, refl)
     go false b c false h = (refl, refl)
 
-told_quiet : (t : Tally) (own : ℕ) (j : Judge) (v : Ruling) → j ≡ Waiting → is_break v ≡ false → FromWaiting t (told (with_judge t Waiting) own j v).tally false
+told_quiet : (t : Tally) (own : Option Refusal) (j : Judge) (v : Ruling) → j ≡ Waiting → is_break v ≡ false → FromWaiting t (told (with_judge t Waiting) own j v).tally false
 unfolding refused_by
 told_quiet t own j v e h = subst (λ (i : Judge). FromWaiting t (told (with_judge t Waiting) own i v).tally false) (sym e) (go v h)
   where
@@ -290,23 +290,23 @@ told_quiet t own j v e h = subst (λ (i : Judge). FromWaiting t (told (with_judg
     go ruling.Waiting h = record { profile = refl; judge = refl; frames = refl }
     go ruling.Going h = record { profile = refl; judge = refl; frames = refl }
     go ruling.Complete h = record { profile = refl; judge = refl; frames = refl }
-    go (ruling.Refused refusal) h = either (breaks_frame refusal) h
+    go (ruling.Refused refusal) h = either (breaks_frame refusal.0) h
       where
         either : (b : Bool) → b ≡ false → FromWaiting t (cond b (broken_by (with_judge t Waiting) Waiting refusal own) (quiet (moved (with_judge t Waiting) Waiting Waiting))).tally false
         either true e = absurd (true≢false e)
         either false e = record { profile = refl; judge = refl; frames = refl }
 
-other_call : (t : Tally) (k n own : ℕ) → opens k n ≡ false → FromWaiting t (handed (with_judge t Waiting) k n own).tally false
+other_call : (t : Tally) (k n : ℕ) (own : Option Refusal) → opens k n ≡ false → FromWaiting t (handed (with_judge t Waiting) k n own).tally false
 unfolding handed
 other_call t k n own e =
     let s = still_waits t.profile (line k n) e in
     told_quiet t own (judge_of t.profile Waiting k n).judge (judge_of t.profile Waiting k n).ruling s.0 s.1
 
-opening_call : (t : Tally) (own : ℕ) → FromWaiting t (handed (with_judge t Waiting) (kind_number SOF) 0 own).tally true
+opening_call : (t : Tally) (own : Option Refusal) → FromWaiting t (handed (with_judge t Waiting) (kind_number SOF) 0 own).tally true
 unfolding handed judge_of refused_by
 opening_call t own = record { profile = refl; judge = refl; frames = refl }
 
-from_waiting : (t : Tally) (k n own : ℕ) → t.judge ≡ Waiting → FromWaiting t (handed t k n own).tally (opens k n)
+from_waiting : (t : Tally) (k n : ℕ) (own : Option Refusal) → t.judge ≡ Waiting → FromWaiting t (handed t k n own).tally (opens k n)
 from_waiting t k n own w = subst (λ (j : Judge). FromWaiting t (handed (with_judge t j) k n own).tally (opens k n)) (sym w) (go (opens k n) refl)
   where
     go : (b : Bool) → opens k n ≡ b → FromWaiting t (handed (with_judge t Waiting) k n own).tally b
@@ -319,28 +319,28 @@ opening_stays Waiting Waiting n h = h
 opening_stays Waiting (Due place b) n h = counted n
 opening_stays (Due place b) j n h = h
 
-told_stays : (t : Tally) (own : ℕ) (j : Judge) (v : Ruling) → ltb 0 t.frames ≡ true → ltb 0 (told t own j v).tally.frames ≡ true
+told_stays : (t : Tally) (own : Option Refusal) (j : Judge) (v : Ruling) → ltb 0 t.frames ≡ true → ltb 0 (told t own j v).tally.frames ≡ true
 unfolding refused_by
 told_stays t own j ruling.Waiting h = opening_stays t.judge j t.frames h
 told_stays t own j ruling.Going h = opening_stays t.judge j t.frames h
 told_stays t own j ruling.Complete h = h
-told_stays t own j (ruling.Refused refusal) h = either (breaks_frame refusal)
+told_stays t own j (ruling.Refused refusal) h = either (breaks_frame refusal.0)
   where
     either : (b : Bool) → ltb 0 (cond b (broken_by t j refusal own) (quiet (moved t t.judge j))).tally.frames ≡ true
     either true = opening_stays Waiting j t.frames h
     either false = opening_stays t.judge j t.frames h
 
-handing_stays : (t : Tally) (h : Handed) (own : ℕ) → ltb 0 t.frames ≡ true → ltb 0 (handing t h own).tally.frames ≡ true
+handing_stays : (t : Tally) (h : Option HandedLine) (own : Option Refusal) → ltb 0 t.frames ≡ true → ltb 0 (handing t h own).tally.frames ≡ true
 unfolding handed
-handing_stays t hand.Nothing own l = l
-handing_stays t (hand.Line k n) own l = told_stays t own (judge_of t.profile t.judge k n).judge (judge_of t.profile t.judge k n).ruling l
+handing_stays t None own l = l
+handing_stays t (Some h) own l = told_stays t own (judge_of t.profile t.judge h.kind h.number).judge (judge_of t.profile t.judge h.kind h.number).ruling l
 
 take_stays : (t : Tally) (a : Answer) → ltb 0 t.frames ≡ true → ltb 0 (tally.take_of t a).tally.frames ≡ true
 unfolding tally.take_of
 take_stays t answer.Nothing h = h
-take_stays t (answer.Line f) h = handing_stays (marked t) (handed_over (answer.Line f)) 0 h
+take_stays t (answer.Line f) h = handing_stays (marked t) (handed_over (answer.Line f)) None h
 take_stays t (answer.Gap g) h = h
-take_stays t (answer.Refused n) h = handing_stays (marked t) (handed_over (answer.Refused n)) n h
+take_stays t (answer.Refused r) h = handing_stays (marked t) (handed_over (answer.Refused r)) (Some r) h
 
 -- an answer's line is outside exactly if what is handed of it is
 outside_handed : (p : Profile) (i j : Judge) (a : Answer) → j ≡ after p i (handed_lines a) → is_outside i j a ≡ some_outside p i (handed_lines a)
@@ -351,9 +351,9 @@ outside_handed p i j (answer.Line f) e =
     ∙ ap₂ (λ (b : Bool) (k : Judge). b && (is_waiting i && is_waiting k)) (sym (whole_line_lem f.kind f.number)) e
     ∙ sym (or-false (is_whole l && (is_waiting i && is_waiting (called p i l).judge)))
 outside_handed p i j (answer.Gap g) e = outside_line i j (answer.Gap g)
-outside_handed p i j (answer.Refused n) e = outside_line i j (answer.Refused n) ∙ either (is_broken_line n)
+outside_handed p i j (answer.Refused r) e = outside_line i j (answer.Refused r) ∙ either (is_broken_line r.0)
   where
-    either : (b : Bool) → false ≡ some_outside p i (as_lines (cond b (hand.Line broken_kind 0) hand.Nothing))
+    either : (b : Bool) → false ≡ some_outside p i (as_lines (cond b (hand broken_kind 0) None))
     either true = refl
     either false = refl
 
@@ -430,7 +430,7 @@ no_outside o t d a e = with_line_lem o t d a false (outside_line t.judge d.judge
 steps : (f : Findings) (a : Answer) → f.tally.judge ≡ Waiting → f.tally.frames ≡ 0 → Steps f (take_of f a).findings (handed_lines a)
 unfolding take_of tally.take_of
 steps f answer.Nothing j z = no_line_lem refl j z (no_outside f.outside f.tally f.tally answer.Nothing refl)
-steps f (answer.Line l) j z = go (opens k n) refl (from_waiting (marked t) k n 0 j)
+steps f (answer.Line l) j z = go (opens k n) refl (from_waiting (marked t) k n None j)
   where
     t : Tally
     t = f.tally
@@ -442,7 +442,7 @@ steps f (answer.Line l) j z = go (opens k n) refl (from_waiting (marked t) k n 0
     n = l.number
 
     d : Tally
-    d = (handed (marked t) k n 0).tally
+    d = (handed (marked t) k n None).tally
 
     outside : (b : Bool) → d.judge ≡ cond b begun Waiting → with_line f.outside t d (answer.Line l) ≡ cond (not b) (one_outside f.outside 0) f.outside
     outside true e = with_line_lem f.outside t d (answer.Line l) false (ap₂ (λ (x y : Judge). is_outside x y (answer.Line l)) j e)
@@ -458,20 +458,20 @@ steps f (answer.Line l) j z = go (opens k n) refl (from_waiting (marked t) k n 0
         other_line (line k n) e r.profile r.judge (r.frames ∙ z)
         (outside false r.judge ∙ ap (λ (b : Bool). cond b (one_outside f.outside 0) f.outside) (sym (whole_line_lem l.kind n)))
 steps f (answer.Gap g) j z = no_line_lem refl j z (no_outside f.outside f.tally (marked f.tally) (answer.Gap g) refl)
-steps f (answer.Refused n) j z = go (is_broken_line n)
+steps f (answer.Refused r) j z = go (is_broken_line r.0)
   where
     t : Tally
     t = f.tally
 
     after_it : Told → Findings
     after_it d =
-        record { tally = d.tally; signal = signal.take_of f.signal (answer.Refused n); outside = with_line f.outside t d.tally (answer.Refused n); cut = f.cut }
+        record { tally = d.tally; signal = signal.take_of f.signal (answer.Refused r); outside = with_line f.outside t d.tally (answer.Refused r); cut = f.cut }
 
-    go : (b : Bool) → let h : Handed = cond b (hand.Line broken_kind 0) hand.Nothing in Steps f (after_it (handing (marked t) h n)) (as_lines h)
+    go : (b : Bool) → let h : Option HandedLine = cond b (hand broken_kind 0) None in Steps f (after_it (handing (marked t) h (Some r))) (as_lines h)
     go true =
-        let r = from_waiting (marked t) broken_kind 0 n j in
-        other_line (line broken_kind 0) refl r.profile r.judge (r.frames ∙ z) (no_outside f.outside t (handed (marked t) broken_kind 0 n).tally (answer.Refused n) refl)
-    go false = no_line_lem refl j z (no_outside f.outside t (marked t) (answer.Refused n) refl)
+        let w = from_waiting (marked t) broken_kind 0 (Some r) j in
+        other_line (line broken_kind 0) refl w.profile w.judge (w.frames ∙ z) (no_outside f.outside t (handed (marked t) broken_kind 0 (Some r)).tally (answer.Refused r) refl)
+    go false = no_line_lem refl j z (no_outside f.outside t (marked t) (answer.Refused r) refl)
 
 -- a line that opens a frame is not outside
 from_opening : (p : Profile) (l : Line) (ls : List Line) → is_opening l ≡ true → some_outside p Waiting (l ∷ ls) ≡ some_outside p begun ls

@@ -1,11 +1,12 @@
 -- In a good capture the lines lie frame by frame from the first start of a frame on: the judge never waits there but between two frames, and
 -- breaks none.
-use Rattle.std.specs.Prelude.{◌≡◌, refl, Bool, true, false, ◌&&◌, not, cond, List, [], ◌∷◌, ◌++◌, ℕ, ◌+◌, ◌≤◌, eqb, leb, ltb, length}
+use Rattle.std.specs.Prelude.{◌≡◌, refl, Bool, true, false, ◌&&◌, not, cond, List, [], ◌∷◌, ◌++◌, ℕ, ◌+◌, ◌≤◌, eqb, leb, ltb, length, None, Option}
 use Rattle.std.proofs.Common.{◌∙◌, ap, ap₂, sym, subst, true≢false, append_assoc, append-nil, arith, length-append, ltb-false, eqb-true}
 use Rattle.std.proofs.lemmas.Bool.{false≢true, not-true, not-false, lt-leb}
 use Rattle.std.proofs.Math.Bool.{and-false}
 use Rattle.bits.specs.Every.{and_left, and_right, and_both}
 use Rattle.bits.specs.Tests.{or_left, or_right, or_neither}
+use Rattle.refusal.specs.declared.Refusal.{Refusal}
 use Rattle.refusal.specs.Refusal.{bad_state, end_without_line, damaged_code, no_end_of_line, bad_kind, number_too_large, not_the_line_due, broken_line}
 use Rattle.counts.specs.CountsLaws.{some}
 use Rattle.line_code.specs.declared.Kind.TheVariants.{EOF}
@@ -17,17 +18,15 @@ use Rattle.stream.specs.declared.Answer.TheVariants as answer
 use Rattle.signal_tally.specs.Signal.{refusals, is_cut}
 use Rattle.signal_tally.specs.Seen.{from_start}
 use Rattle.frame_layout.specs.declared.Borders.{Borders}
-use Rattle.frame_judge.specs.declared.KnownBorders.{KnownBorders}
 use Rattle.frame_judge.specs.declared.Judge.{Judge}
 use Rattle.frame_judge.specs.declared.Judge.TheVariants.{Waiting, Due}
-use Rattle.frame_handing.specs.declared.Handed.TheVariants as hand
 use Rattle.frame_judge.specs.declared.Ruling.{Ruling}
 use Rattle.frame_judge.specs.declared.Ruling.TheVariants as ruling
 use Rattle.frame_judge.specs.declared.Judged.{Judged}
 use Rattle.frame_layout.specs.FrameLayout.{last_place}
 use Rattle.frame_judge.specs.Frame.{passes, line_due, settled_by, gives, refuses, opens, begun, broken_kind, judge_of}
 use Rattle.frame_judge.specs.Calls.{Line, line, called, after, rulings, is_break, accepts, accepted, IsFrame}
-use Rattle.frame_handing.specs.Handing.{is_broken_line, as_lines, all_handed}
+use Rattle.frame_handing.specs.Handing.{is_broken_line, hand, as_lines, all_handed}
 use Rattle.frame_laws.specs.FrameLaws.{passes_high, rulings_append, after_snoc, accepted_snoc, Effect, wrong_kind, wrong_number, waits, breaks, strays, starts, restarts, goes, ends, effect, reached_passes}
 use Rattle.frame_laws.proofs.WholeFrames.{complete_frame}
 use Rattle.frame_tally.specs.Tally.{is_unfinished}
@@ -56,7 +55,7 @@ is_still ruling.Complete = false
 is_still (ruling.Refused refusal) = false
 
 -- within a frame no line is answered Waiting
-due_ruled : (p : Profile) (place : ℕ) (s : KnownBorders) (l : Line) → is_still (called p (Due place s) l).ruling ≡ false
+due_ruled : (p : Profile) (place : ℕ) (s : Option Borders) (l : Line) → is_still (called p (Due place s) l).ruling ≡ false
 unfolding judge_of
 due_ruled p place s l =
     go (passes p (Due place s)) (leb l.kind (kind_number EOF)) (eqb l.kind broken_kind) (leb l.number greatest)
@@ -88,7 +87,7 @@ due_ruled p place s l =
 data Moves (p : Profile) (j : Judge) : Judged → Type 0 where
   kept_kind : Moves p j (refuses j bad_kind)
   kept_number : Moves p j (refuses j number_too_large)
-  going : (place : ℕ) (s : KnownBorders) → place_of j + 1 ≡ place → Moves p j (gives (Due place s) ruling.Going)
+  going : (place : ℕ) (s : Option Borders) → place_of j + 1 ≡ place → Moves p j (gives (Due place s) ruling.Going)
   ending : last_place p ≤ place_of j → Moves p j (gives Waiting ruling.Complete)
 
 moves : (p : Profile) (j : Judge) (l : Line) (r : Judged) → Effect p j l r → is_break r.ruling ≡ false → (is_waiting j && is_waiting r.judge) ≡ false
@@ -220,13 +219,13 @@ from_whole ls h =
 
 -- Where no refused mark counts, no broken line is handed over.
 
-not_handed : (n : ℕ) → is_broken_line n ≡ false → (ls : List Line) → some is_broken ls ≡ false → some is_broken (as_lines (cond (is_broken_line n) (hand.Line broken_kind 0) hand.Nothing) ++ ls) ≡ false
-not_handed n e ls h = ap (λ (b : Bool). some is_broken (as_lines (cond b (hand.Line broken_kind 0) hand.Nothing) ++ ls)) e ∙ h
+not_handed : (n : ℕ) → is_broken_line n ≡ false → (ls : List Line) → some is_broken ls ≡ false → some is_broken (as_lines (cond (is_broken_line n) (hand broken_kind 0) None) ++ ls) ≡ false
+not_handed n e ls h = ap (λ (b : Bool). some is_broken (as_lines (cond b (hand broken_kind 0) None) ++ ls)) e ∙ h
 
-high_not_broken : (n : ℕ) → is_refused (answer.Refused n) ≡ false → is_broken_line n ≡ false
+high_not_broken : (r : Refusal) → is_refused (answer.Refused r) ≡ false → is_broken_line r.0 ≡ false
 unfolding is_broken_line
-high_not_broken n h =
-    ap (λ (b : Bool). leb damaged_code n && b) (lt-leb n no_end_of_line (let l = ltb-false n refusals h in omega arith)) ∙ and-false (leb damaged_code n)
+high_not_broken r h =
+    ap (λ (b : Bool). leb damaged_code r.0 && b) (lt-leb r.0 no_end_of_line (let l = ltb-false r.0 refusals h in omega arith)) ∙ and-false (leb damaged_code r.0)
 
 none_broken : (w v : List Answer) → some is_refused (w ++ v) ≡ false → some is_broken (all_handed w) ≡ false
 none_broken [] v h = refl
@@ -234,8 +233,8 @@ none_broken (answer.Nothing ∷ w) v h = none_broken w v h
 none_broken (answer.Line f ∷ w) v h =
     or_neither (is_broken (line (kind_number f.kind) f.number)) _ (ap not (whole_line_lem f.kind f.number)) (none_broken w v h)
 none_broken (answer.Gap g ∷ w) v h = none_broken w v h
-none_broken (answer.Refused n ∷ w) v h =
-    not_handed n (high_not_broken n (or_left (is_refused (answer.Refused n)) _ h)) (all_handed w) (none_broken w v (or_right (is_refused (answer.Refused n)) _ h))
+none_broken (answer.Refused r ∷ w) v h =
+    not_handed r.0 (high_not_broken r (or_left (is_refused (answer.Refused r)) _ h)) (all_handed w) (none_broken w v (or_right (is_refused (answer.Refused r)) _ h))
 
 eight_not_broken : (n : ℕ) → eqb n end_without_line ≡ true → is_broken_line n ≡ false
 unfolding is_broken_line
@@ -246,11 +245,11 @@ first_not_broken [] v h = refl
 first_not_broken (answer.Nothing ∷ w) v h = first_not_broken w v h
 first_not_broken (answer.Line f ∷ w) v h = none_broken (answer.Line f ∷ w) v h
 first_not_broken (answer.Gap g ∷ w) v h = none_broken w v h
-first_not_broken (answer.Refused n ∷ w) v h = go (eqb n end_without_line) refl h
+first_not_broken (answer.Refused r ∷ w) v h = go (eqb r.0 end_without_line) refl h
   where
-    go : (b : Bool) → eqb n end_without_line ≡ b → some is_refused (cond b (w ++ v) (answer.Refused n ∷ (w ++ v))) ≡ false → some is_broken (all_handed (answer.Refused n ∷ w)) ≡ false
-    go true e h = not_handed n (eight_not_broken n e) (all_handed w) (none_broken w v h)
-    go false e h = none_broken (answer.Refused n ∷ w) v h
+    go : (b : Bool) → eqb r.0 end_without_line ≡ b → some is_refused (cond b (w ++ v) (answer.Refused r ∷ (w ++ v))) ≡ false → some is_broken (all_handed (answer.Refused r ∷ w)) ≡ false
+    go true e h = not_handed r.0 (eight_not_broken r.0 e) (all_handed w) (none_broken w v h)
+    go false e h = none_broken (answer.Refused r ∷ w) v h
 
 -- the law: in a good capture every line that the judge accepted from the first start of a frame on lies in a whole frame, or in the last one,
 -- which the end of the capture cut off

@@ -102,7 +102,7 @@ abbrev pub is_refused : Answer → Bool
 is_refused answer.Nothing = false
 is_refused (answer.Line f) = false
 is_refused (answer.Gap g) = false
-is_refused (answer.Refused n) = ltb n refusals
+is_refused (answer.Refused r) = ltb r.0 refusals
 
 -- some refused mark counts: not a first mark that is an end of line, and not finish's where the end cut off a line or a gap
 abbrev pub mark_refused : List Answer → Answer → Bool

@@ -42,57 +42,57 @@ pub fn replace(rt: HostRuntime, beside: &[u8], name: &[u8]) -> bool {
     }
 }
 
-// A file that is being written, none where it can't be; whether it stands beside an older one of its name, and whether it is new.
+// A file that is being written, and how it stands to its name.
 #[derive(Drop)]
 pub struct Saving {
-    pub file: Option<File>,
-    beside: bool,
-    new: bool,
+    pub file: File,
+    standing: Standing,
+}
+
+// It is new under its name; it is an older one of that name, which held nothing; or it is new beside an older one of that name.
+#[derive(Clone, Copy)]
+enum Standing {
+    New,
+    Older,
+    Beside,
 }
 
 // Opens a file to be written, or says why it cannot. An older one that holds something stays until the new one is whole: that is written
 // beside it, under its name with .part, which is made anew: where that name is taken nothing is written.
-pub fn begin(rt: HostRuntime, name: &[u8]) -> Saving {
+pub fn begin(rt: HostRuntime, name: &[u8]) -> Option<Saving> {
     match host_calls::create(rt, name) {
-        Ok(file) => Saving {
-            file: Some(file),
-            beside: false,
-            new: true,
-        },
+        Ok(file) => {
+            let standing = Standing::New;
+            Some(Saving { file, standing })
+        }
         Err(_) => begin_again(rt, name),
     }
 }
 
 // The same, where the name may be taken.
-fn begin_again(rt: HostRuntime, name: &[u8]) -> Saving {
+fn begin_again(rt: HostRuntime, name: &[u8]) -> Option<Saving> {
     match host_calls::open_update(rt, name) {
         Ok(old) => begin_over(rt, name, old),
         Err(error) => {
             host_calls::fail(rt, name, error);
-            Saving {
-                file: None,
-                beside: false,
-                new: false,
-            }
+            None
         }
     }
 }
 
 // The same, where there is an older one.
-fn begin_over(rt: HostRuntime, name: &[u8], mut old: File) -> Saving {
+fn begin_over(rt: HostRuntime, name: &[u8], mut old: File) -> Option<Saving> {
     if holds_something(old.seek(SeekFrom::End(0))) {
         drop(old);
-        return Saving {
-            file: begin_part(rt, name),
-            beside: true,
-            new: true,
-        };
+        let file = begin_part(rt, name)?;
+        let standing = Standing::Beside;
+        return Some(Saving { file, standing });
     }
-    Saving {
-        file: Some(old),
-        beside: false,
-        new: false,
-    }
+    let standing = Standing::Older;
+    Some(Saving {
+        file: old,
+        standing,
+    })
 }
 
 // Whether a file holds something, whose end is here. One without a place holds nothing that is kept.
@@ -118,17 +118,16 @@ fn put_part(name: &[u8], part: &mut [u8]) -> usize
 
 // Ends a file: where it is whole it takes its name, else what was written of it goes.
 pub fn end(rt: HostRuntime, saving: Saving, name: &[u8], whole: bool) {
-    let Saving { file, beside, new } = saving;
+    let Saving { file, standing } = saving;
     drop(file);
-    if beside {
-        end_part(rt, name, whole);
-        return;
-    }
-    if whole {
-        return;
-    }
-    if new {
-        let _ = host_calls::remove(rt, name);
+    match standing {
+        Standing::New => {
+            if !whole {
+                let _ = host_calls::remove(rt, name);
+            }
+        }
+        Standing::Older => {}
+        Standing::Beside => end_part(rt, name, whole),
     }
 }
 

@@ -35,23 +35,17 @@ fn words(rt: HostRuntime) -> Asked {
 
 fn seek_asked(rt: HostRuntime, asked: Asked) {
     let mut name = [0u8; host_calls::ROOM];
-    let Input { source, length } = command::open_capture(rt, asked.first, &mut name);
-    let Some(mut source) = source else {
-        return;
-    };
-    if name.len() < length {
-        return;
+    let opened = command::open_capture(rt, asked.first, &mut name);
+    if let Some(Input { mut source, length }) = opened {
+        seek_all(rt, asked.profile, asked.mark, &mut source, &name[..length]);
     }
-    let profile = asked.profile;
-    seek_all(rt, profile, asked.mark, &mut source, &name[..length]);
 }
 
-// A search: the finder, whether a line was told, and whether the search has ended.
+// A search: the finder, and whether a line was told.
 #[derive(Clone, Copy)]
 struct Search {
     finder: Finder,
     told: bool,
-    ended: bool,
 }
 
 fn seek_all(rt: HostRuntime, profile: Profile, wanted: u64, source: &mut Source, name: &[u8]) {
@@ -79,15 +73,14 @@ fn seek_in(
     let mut search = Search {
         finder,
         told: false,
-        ended: false,
     };
     let mut n = text::put(&mark_finder::FRONT, buf, 0);
     let mut from: usize = 0;
     for _ in 0..u64::MAX {
-        search = seek_piece(rt, search, wanted, buf, n, from, held, out);
-        if search.ended {
+        let Some(next) = seek_piece(rt, search, wanted, buf, n, from, held, out) else {
             return;
-        }
+        };
+        search = next;
         mark_finder::carry(buf, n);
         let Some(got) = read_behind(rt, source, name, buf) else {
             return;
@@ -119,7 +112,7 @@ fn with_overlap(got: usize, buf: &[u8]) -> usize {
 }
 
 // Searches the first n bytes of a buffer, mark after mark, from a nibble's place on. The lines on them are collected, and written when the buffer for
-// them may have no room for one more, and at the end.
+// them may have no room for one more, and at the end. None where the search has ended.
 fn seek_piece(
     rt: HostRuntime,
     search: Search,
@@ -129,72 +122,50 @@ fn seek_piece(
     from: usize,
     held: &mut [u8],
     out: &mut [u8],
-) -> Search {
+) -> Option<Search> {
     let mut finder = search.finder;
     let mut told = search.told;
     if buf.len() < n {
-        return end(finder, told);
+        return None;
     }
     let piece = &buf[..n];
     let mut at = from;
     let mut used: usize = 0;
+    // Not a for: each turn goes on by what the call took.
     while at / 2 < piece.len() {
         let found = finder.find(piece, at, held);
         let next = later(at, found.taken);
         if next <= at {
             write_front(rt, out, used);
-            return end(finder, told);
+            return None;
         }
         at = next;
         finder = found.finder;
         if found.answered {
             let mark = found.mark;
             if mark_finder::is_wanted(mark, wanted) {
-                used = tell(rt, mark, held, found.length, out, used);
-                told = 0 < used;
-                if is_last(told, wanted) {
+                used = tell(rt, mark, held, found.length, out, used)?;
+                told = true;
+                if 0 < wanted {
                     write_front(rt, out, used);
-                    return end(finder, told);
+                    return None;
                 }
             }
         }
     }
     if write_front(rt, out, used) {
         let finder = finder.end_piece(piece, held);
-        return Search {
-            finder,
-            told,
-            ended: false,
-        };
+        return Some(Search { finder, told });
     }
-    end(finder, told)
+    None
 }
 
 // A place and some nibbles more: the same place where there are more than any piece has.
 fn later(at: usize, taken: usize) -> usize {
-    if 1_000_000 < at {
-        return at;
-    }
-    if 1_000_000 < taken {
+    if 1_000_000 < at || 1_000_000 < taken {
         return at;
     }
     at + taken
-}
-
-fn end(finder: Finder, told: bool) -> Search {
-    Search {
-        finder,
-        told,
-        ended: true,
-    }
-}
-
-// Whether a line that was told, or could not be, is the last.
-fn is_last(told: bool, wanted: u64) -> bool {
-    if told {
-        return 0 < wanted;
-    }
-    true
 }
 
 // Tells the last mark, where it is asked for. Where nothing was told, says so.
@@ -202,8 +173,9 @@ fn finish(rt: HostRuntime, search: Search, wanted: u64, held: &[u8], out: &mut [
     let finder = search.finder;
     let mark = finder.finish();
     if mark_finder::is_wanted(mark, wanted) {
-        let used = tell(rt, mark, held, finder.length, out, 0);
-        write_front(rt, out, used);
+        if let Some(used) = tell(rt, mark, held, finder.length, out, 0) {
+            write_front(rt, out, used);
+        }
         return;
     }
     if search.told {
@@ -221,7 +193,7 @@ fn finish(rt: HostRuntime, search: Search, wanted: u64, held: &[u8], out: &mut [
 }
 
 // Puts the line on a mark, whose bytes are the first n of those held, behind the lines collected, and gives how many bytes are collected then.
-// Where there may be no room for it, those are written first. 0 where that fails.
+// Where there may be no room for it, those are written first. None where that fails.
 fn tell(
     rt: HostRuntime,
     mark: Located,
@@ -229,25 +201,22 @@ fn tell(
     n: usize,
     out: &mut [u8],
     used: usize,
-) -> usize {
+) -> Option<usize> {
     if held.len() < n {
-        return 0;
+        return None;
     }
     if has_room(out.len(), used) {
-        return put_line(mark, &held[..n], out, used);
+        return Some(put_line(mark, &held[..n], out, used));
     }
     if write_front(rt, out, used) {
-        return put_line(mark, &held[..n], out, 0);
+        return Some(put_line(mark, &held[..n], out, 0));
     }
-    0
+    None
 }
 
 // Whether a buffer of this length has room for a line behind its first n bytes.
 fn has_room(length: usize, n: usize) -> bool {
-    if n <= length {
-        return why_line::ROOM <= length - n;
-    }
-    false
+    n <= length && why_line::ROOM <= length - n
 }
 
 fn put_line(mark: Located, bytes: &[u8], out: &mut [u8], at: usize) -> usize {
@@ -263,8 +232,5 @@ fn put_line(mark: Located, bytes: &[u8], out: &mut [u8], at: usize) -> usize {
 
 // Writes the first n bytes of a buffer, or says why it cannot.
 fn write_front(rt: HostRuntime, buf: &[u8], n: usize) -> bool {
-    if buf.len() < n {
-        return false;
-    }
-    host_calls::print_or_tell(rt, &buf[..n])
+    n <= buf.len() && host_calls::print_or_tell(rt, &buf[..n])
 }

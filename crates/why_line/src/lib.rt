@@ -9,13 +9,14 @@
 
 ghost use Rattle.std.specs.Prelude.{◌≡◌, ◌≤◌, ◌<◌, min, length, get_or};
 ghost use Rattle.profile.specs.Profile.{profile_number};
-ghost use Rattle.text.specs.Put.{Puts, AtFront};
+ghost use Rattle.text.specs.Pages.{Writes};
+ghost use Rattle.text.specs.Put.{AtFront};
 ghost use Rattle.why_line.specs.ReasonText.{nibbles_before, reason_of_run, reason_in, code_in, mark_words, bad_place, spaced_hex, hexes, around_bad, around_words, mark_line, line_if_room};
 
 use mark_finder::Located;
 use profile::Profile;
 use reason::Reason;
-use text::{put, put_decimal, put_hex};
+use text::Page;
 
 // The bytes of a mark that are looked at.
 pub const MOST: usize = 1024;
@@ -33,21 +34,23 @@ pub fn tell(mark: Located, bytes: &[u8], out: &mut [u8]) -> usize
     if out.len() < ROOM {
         return 0;
     }
-    put_all(mark, bytes, out)
+    let mut page = Page::new(out);
+    put_all(mark, bytes, &mut page);
+    page.used
 }
 
-fn put_all(mark: Located, bytes: &[u8], out: &mut [u8]) -> usize
-    ensures { Puts out.old 0 (mark_line mark bytes.now) result out.new }
+fn put_all(mark: Located, bytes: &[u8], page: &mut Page<'_>)
+    ensures { Writes (mark_line mark bytes.now) page.old page.new }
 {
     let why = reason_in(mark, bytes);
     let code = code_in(mark.low, bytes);
     let cut = MOST < bytes.len();
-    let at = put_mark(mark.number, mark.place, out);
-    let at = why_words::put_explained(cut, mark.refusal, code, why, out, at);
+    put_mark(mark.number, mark.place, page);
+    why_words::put_explained(cut, mark.refusal, code, why, page);
     let profile = mark.profile;
     let bad = bad_place(profile, why);
-    let at = put_around(bytes, mark.low, bad, out, at);
-    put(b"\n", out, at)
+    put_around(bytes, mark.low, bad, page);
+    page.put(b"\n");
 }
 
 // The reason. A good mark that goes on beyond what is looked at is an end of line, since no line is that long.
@@ -124,14 +127,14 @@ fn lesser(a: usize, b: usize) -> usize
     b
 }
 
-fn put_mark(number: u64, place: u64, out: &mut [u8]) -> usize
-    ensures { Puts out.old 0 (mark_words number place) result out.new }
+fn put_mark(number: u64, place: u64, page: &mut Page<'_>)
+    ensures { Writes (mark_words number place) page.old page.new }
 {
-    let at = put(b"mark ", out, 0);
-    let at = put_decimal(number, out, at);
-    let at = put(b", byte ", out, at);
-    let at = put_decimal(place, out, at);
-    put(b": ", out, at)
+    page.put(b"mark ");
+    page.put_decimal(number);
+    page.put(b", byte ");
+    page.put_decimal(place);
+    page.put(b": ");
 }
 
 // The bad place, in nibbles from the mark's first; 0 where there is none.
@@ -163,55 +166,50 @@ const NUMBER: usize = 8;
 const BODY: usize = 12;
 
 // The bytes around the bad place, where there is one.
-fn put_around(bytes: &[u8], low: bool, bad: usize, out: &mut [u8], at: usize) -> usize
+fn put_around(bytes: &[u8], low: bool, bad: usize, page: &mut Page<'_>)
     requires { bad ≤ 8192 }
-    ensures { Puts out.old at (around_words bytes.now low bad) result out.new }
+    ensures { Writes (around_words bytes.now low bad) page.old page.new }
 {
     if 0 < bad {
         let n = nibbles_before(low) + bad;
         if n / 2 < bytes.len() {
-            let at = put(b"; there:", out, at);
-            return put_bytes_around(bytes, n / 2, n % 2, out, at);
+            page.put(b"; there:");
+            put_bytes_around(bytes, n / 2, n % 2, page);
         }
     }
-    at
 }
 
 // A byte in brackets, with some more, four before these and four after.
-fn put_bytes_around(bytes: &[u8], i: usize, more: usize, out: &mut [u8], at: usize) -> usize
+fn put_bytes_around(bytes: &[u8], i: usize, more: usize, page: &mut Page<'_>)
     requires { (i < length bytes.now) × (i ≤ 8192) × (more ≤ 1) }
-    ensures { Puts out.old at (around_bad bytes.now i more) result out.new }
+    ensures { Writes (around_bad bytes.now i more) page.old page.new }
 {
     let from = i - lesser(i, SHOWN);
     let end = lesser(bytes.len(), i + 1 + more);
     let to = lesser(bytes.len(), end + SHOWN);
-    let at = put_bytes(&bytes[from..i], out, at);
-    let at = put(b" [", out, at);
-    let at = put_hex(bytes[i], out, at);
-    let at = put_bytes(&bytes[i + 1..end], out, at);
-    let at = put(b"]", out, at);
-    put_bytes(&bytes[end..to], out, at)
+    put_bytes(&bytes[from..i], page);
+    page.put(b" [");
+    page.put_hex(bytes[i]);
+    put_bytes(&bytes[i + 1..end], page);
+    page.put(b"]");
+    put_bytes(&bytes[end..to], page);
 }
 
 // The bytes that are shown on either side of a bad one.
 const SHOWN: usize = 4;
 
 // Bytes in hex, a space before each.
-fn put_bytes(bytes: &[u8], out: &mut [u8], at: usize) -> usize
-    ensures { Puts out.old at (hexes bytes.now) result out.new }
+fn put_bytes(bytes: &[u8], page: &mut Page<'_>)
+    ensures { Writes (hexes bytes.now) page.old page.new }
 {
-    let mut next = at;
-    let mut i: usize = 0;
-    while i < bytes.len() {
-        next = put_spaced(bytes[i], out, next);
-        i += 1;
+    for byte in bytes {
+        put_spaced(*byte, page);
     }
-    next
 }
 
-fn put_spaced(byte: u8, out: &mut [u8], at: usize) -> usize
-    ensures { Puts out.old at (spaced_hex byte) result out.new }
+fn put_spaced(byte: u8, page: &mut Page<'_>)
+    ensures { Writes (spaced_hex byte) page.old page.new }
 {
-    let at = put(b" ", out, at);
-    put_hex(byte, out, at)
+    page.put(b" ");
+    page.put_hex(byte);
 }

@@ -1,10 +1,8 @@
 -- A reason in words (02, A9).
-use Rattle.std.specs.Prelude.{Bool, cond, List, [], ◌++◌, ℕ, eqb}
+use Rattle.std.specs.Prelude.{Bool, cond, List, [], ◌++◌, ℕ, eqb, None, Option, Some}
 use Rattle.text.specs.Text.{ascii, decimal, hex_byte}
 use Rattle.line_code.specs.declared.Kind.{Kind}
 use Rattle.line_code.specs.declared.Kind.TheVariants.{BL, BK, VL, SOF, EOF}
-use Rattle.line_code.specs.declared.LineKind.{LineKind}
-use Rattle.line_code.specs.declared.LineKind.TheVariants.{NotLine, LineOf}
 use Rattle.line_code.specs.LineCode.{reading_of, kind_of}
 use Rattle.reason.specs.declared.FailedSums.{FailedSums}
 use Rattle.reason.specs.declared.Reason.{Reason}
@@ -19,9 +17,9 @@ kind_in_words SOF = ascii "start of frame (SOF)"
 kind_in_words EOF = ascii "end of frame (EOF)"
 
 -- what a mark is called
-abbrev pub line_name : LineKind → List ℕ
-line_name NotLine = ascii "line"
-line_name (LineOf k) = kind_in_words k
+abbrev pub line_name : Option Kind → List ℕ
+line_name None = ascii "line"
+line_name (Some k) = kind_in_words k
 
 -- words, and what a mark with this code begins: `refused 4: visible line (VL)`
 unfoldable pub with_line_name : List ℕ → ℕ → List ℕ
@@ -100,4 +98,4 @@ explained_words cut refusal code (NoEndOfLine next) = end_words code next
 explained_words cut refusal code EndWithoutLine = ascii "refused 8: end of line without a line before it"
 explained_words cut refusal code (BadGap place nibble) = count_words (ascii "refused 9: end of line, a bad gap from its nibble ") place (ascii " on")
 explained_words cut refusal code (ShortGap length) = count_words (ascii "refused 9: end of line, a gap of ") length (ascii " nibbles, 4 at least are wanted")
-explained_words cut refusal code (Refused number) = refused_number number
+explained_words cut refusal code (Refused r) = refused_number r.0

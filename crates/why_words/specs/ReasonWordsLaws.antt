@@ -1,12 +1,10 @@
 -- How long the words of a reason can be.
-use Rattle.std.specs.Prelude.{Bool, true, false, cond, List, ℕ, ◌+◌, ◌≤◌, eqb, length}
+use Rattle.std.specs.Prelude.{Bool, true, false, cond, List, ℕ, ◌+◌, ◌≤◌, eqb, length, None, Option, Some}
 use Rattle.std.proofs.Common.{arith, length-append}
 use Rattle.text.specs.Text.{ascii}
 use Rattle.text.specs.TextLaws.{decimal_short}
 use Rattle.line_code.specs.declared.Kind.{Kind}
 use Rattle.line_code.specs.declared.Kind.TheVariants.{BL, BK, VL, SOF, EOF}
-use Rattle.line_code.specs.declared.LineKind.{LineKind}
-use Rattle.line_code.specs.declared.LineKind.TheVariants.{NotLine, LineOf}
 use Rattle.line_code.specs.LineCode.{reading_of, kind_of}
 use Rattle.reason.specs.declared.FailedSums.{FailedSums}
 use Rattle.reason.specs.declared.Reason.{Reason}
@@ -20,9 +18,9 @@ kind_short VL = omega arith
 kind_short SOF = omega arith
 kind_short EOF = omega arith
 
-name_short : (k : LineKind) → length (line_name k) ≤ 20
-name_short NotLine = omega arith
-name_short (LineOf k) = kind_short k
+name_short : (k : Option Kind) → length (line_name k) ≤ 20
+name_short None = omega arith
+name_short (Some k) = kind_short k
 
 line_short : (words : List ℕ) (code : ℕ) → length (with_line_name words code) ≤ length words + 20
 unfolding with_line_name
@@ -72,4 +70,4 @@ reason_short cut refusal code (NoEndOfLine next) = simp length-append (omega (ar
 reason_short cut refusal code EndWithoutLine = omega arith
 reason_short cut refusal code (BadGap place nibble) = simp length-append (omega (arith, decimal_short place))
 reason_short cut refusal code (ShortGap nibbles) = simp length-append (omega (arith, decimal_short nibbles))
-reason_short cut refusal code (Refused number) = simp length-append (omega (arith, decimal_short number))
+reason_short cut refusal code (Refused r) = simp length-append (omega (arith, decimal_short r.0))

@@ -1,37 +1,29 @@
 // The words of a reason (paper 02, A9).
 //
-// In: what is known of a mark, a lent buffer and a place in it. Out: the words there, and the place after them. Nothing is refused: where the
-// buffer ends before the words do, the rest is left out. Cost: linear in the words.
+// In: what is known of a mark, and a page. Out: the words on the page, as far as there is room. Nothing is refused. Cost: linear in the words.
 
 #![tactic(auto)]
 
-ghost use Rattle.text.specs.Put.{Puts};
+ghost use Rattle.text.specs.Pages.{Writes};
 ghost use Rattle.why_words.specs.ReasonWords.{kind_in_words, line_name, with_line_name, sum_word, sum_words, damaged_words, reserved_words, unfinished_words, length_words, bad_byte_words, end_words, count_words, long_line_words, answer_words, long_gap_words, good_gap_words, refused_number, explained_words};
 
-use line_code::{Kind, LineKind};
+use line_code::Kind;
 use reason::{FailedSums, Reason};
-use text::{put, put_decimal, put_hex};
+use text::Page;
 
-// Puts the words of a reason at a place: whether the mark goes on beyond what is looked at, the number that the reader refuses it with, its code
-// and its reason.
-pub fn put_explained(
-    cut: bool,
-    refusal: u8,
-    code: u8,
-    why: Reason,
-    out: &mut [u8],
-    at: usize,
-) -> usize
-    ensures { Puts out.old at (explained_words cut refusal code why) result out.new }
+// Puts the words of a reason: whether the mark goes on beyond what is looked at, the number that the reader refuses it with, its code
+// and its reason. The number is 0 for a good mark, and no option of a Refusal: the words are promised for every number, and put where it is 0 too.
+pub fn put_explained(cut: bool, refusal: u8, code: u8, why: Reason, page: &mut Page<'_>)
+    ensures { Writes (explained_words cut refusal code why) page.old page.new }
 {
     match why {
-        Reason::GoodLine => put_line(b"good ", code, out, at),
-        Reason::GoodGap => put_good_gap(cut, refusal, out, at),
-        Reason::DamagedCode(byte, sums) => put_damaged(byte, sums, out, at),
-        Reason::ReservedCode => put_reserved(code, out, at),
-        Reason::UnfinishedLine => put_unfinished(cut, refusal, code, out, at),
+        Reason::GoodLine => put_line(b"good ", code, page),
+        Reason::GoodGap => put_good_gap(cut, refusal, page),
+        Reason::DamagedCode(byte, sums) => put_damaged(byte, sums, page),
+        Reason::ReservedCode => put_reserved(code, page),
+        Reason::UnfinishedLine => put_unfinished(cut, refusal, code, page),
         Reason::WrongLength(found, wanted) => {
-            put_length(code, found as u64, wanted as u64, out, at)
+            put_length(code, found as u64, wanted as u64, page)
         }
         Reason::BadNumber(place, byte) => put_bad_byte(
             b"refused 5: ",
@@ -39,8 +31,7 @@ pub fn put_explained(
             place as u64,
             b" of its number is ",
             byte,
-            out,
-            at,
+            page,
         ),
         Reason::BadBody(place, byte) => put_bad_byte(
             b"refused 6: ",
@@ -48,201 +39,184 @@ pub fn put_explained(
             place as u64,
             b" of its body is ",
             byte,
-            out,
-            at,
+            page,
         ),
-        Reason::NoEndOfLine(next) => put_end(code, next, out, at),
-        Reason::EndWithoutLine => put(b"refused 8: end of line without a line before it", out, at),
+        Reason::NoEndOfLine(next) => put_end(code, next, page),
+        Reason::EndWithoutLine => page.put(b"refused 8: end of line without a line before it"),
         Reason::BadGap(place, _) => put_counted(
             b"refused 9: end of line, a bad gap from its nibble ",
             place as u64,
             b" on",
-            out,
-            at,
+            page,
         ),
         Reason::ShortGap(length) => put_counted(
             b"refused 9: end of line, a gap of ",
             length as u64,
             b" nibbles, 4 at least are wanted",
-            out,
-            at,
+            page,
         ),
-        Reason::Refused(number) => put_refused(number, out, at),
+        Reason::Refused(refused) => put_refused(refused.0, page),
     }
 }
 
 // Words, and what a mark with this code begins.
-fn put_line(words: &[u8], code: u8, out: &mut [u8], at: usize) -> usize
-    ensures { Puts out.old at (with_line_name words.now code) result out.new }
+fn put_line(words: &[u8], code: u8, page: &mut Page<'_>)
+    ensures { Writes (with_line_name words.now code) page.old page.new }
 {
-    let at = put(words, out, at);
+    page.put(words);
     let reading = line_code::read(code);
     let kind = reading.kind();
-    put_line_name(kind, out, at)
+    put_line_name(kind, page);
 }
 
-fn put_line_name(kind: LineKind, out: &mut [u8], at: usize) -> usize
-    ensures { Puts out.old at (line_name kind) result out.new }
+fn put_line_name(kind: Option<Kind>, page: &mut Page<'_>)
+    ensures { Writes (line_name kind) page.old page.new }
 {
     match kind {
-        LineKind::NotLine => put(b"line", out, at),
-        LineKind::LineOf(k) => put_kind_in_words(k, out, at),
+        None => page.put(b"line"),
+        Some(k) => put_kind_in_words(k, page),
     }
 }
 
-fn put_kind_in_words(kind: Kind, out: &mut [u8], at: usize) -> usize
-    ensures { Puts out.old at (kind_in_words kind) result out.new }
+fn put_kind_in_words(kind: Kind, page: &mut Page<'_>)
+    ensures { Writes (kind_in_words kind) page.old page.new }
 {
     match kind {
-        Kind::BL => put(b"blank line (BL)", out, at),
-        Kind::BK => put(b"black line (BK)", out, at),
-        Kind::VL => put(b"visible line (VL)", out, at),
-        Kind::SOF => put(b"start of frame (SOF)", out, at),
-        Kind::EOF => put(b"end of frame (EOF)", out, at),
+        Kind::BL => page.put(b"blank line (BL)"),
+        Kind::BK => page.put(b"black line (BK)"),
+        Kind::VL => page.put(b"visible line (VL)"),
+        Kind::SOF => page.put(b"start of frame (SOF)"),
+        Kind::EOF => page.put(b"end of frame (EOF)"),
     }
 }
 
-fn put_good_gap(cut: bool, refusal: u8, out: &mut [u8], at: usize) -> usize
-    ensures { Puts out.old at (good_gap_words cut refusal) result out.new }
+fn put_good_gap(cut: bool, refusal: u8, page: &mut Page<'_>)
+    ensures { Writes (good_gap_words cut refusal) page.old page.new }
 {
     if cut {
-        return put_long_gap(refusal, out, at);
+        put_long_gap(refusal, page);
+    } else {
+        page.put(b"good end of line");
     }
-    put(b"good end of line", out, at)
 }
 
 // An end of line whose gap is longer than what is looked at.
-fn put_long_gap(refusal: u8, out: &mut [u8], at: usize) -> usize
-    ensures { Puts out.old at (long_gap_words refusal) result out.new }
+fn put_long_gap(refusal: u8, page: &mut Page<'_>)
+    ensures { Writes (long_gap_words refusal) page.old page.new }
 {
-    let at = put_answer(refusal, out, at);
-    put(
-        b"end of line with a gap of more than 1000 bytes: a signal that was lost?",
-        out,
-        at,
-    )
+    put_answer(refusal, page);
+    page.put(b"end of line with a gap of more than 1000 bytes: a signal that was lost?");
 }
 
 // The reader's answer, before what it answers.
-fn put_answer(refusal: u8, out: &mut [u8], at: usize) -> usize
-    ensures { Puts out.old at (answer_words refusal) result out.new }
+fn put_answer(refusal: u8, page: &mut Page<'_>)
+    ensures { Writes (answer_words refusal) page.old page.new }
 {
     if refusal == 0 {
-        return put(b"good ", out, at);
+        page.put(b"good ");
+    } else {
+        put_refused(refusal, page);
+        page.put(b": ");
     }
-    let at = put_refused(refusal, out, at);
-    put(b": ", out, at)
 }
 
 // A refusal's number alone.
-fn put_refused(refusal: u8, out: &mut [u8], at: usize) -> usize
-    ensures { Puts out.old at (refused_number refusal) result out.new }
+fn put_refused(refusal: u8, page: &mut Page<'_>)
+    ensures { Writes (refused_number refusal) page.old page.new }
 {
-    let at = put(b"refused ", out, at);
-    put_decimal(refusal as u64, out, at)
+    page.put(b"refused ");
+    page.put_decimal(refusal as u64);
 }
 
-fn put_damaged(code: u8, sums: FailedSums, out: &mut [u8], at: usize) -> usize
-    ensures { Puts out.old at (damaged_words code sums) result out.new }
+fn put_damaged(code: u8, sums: FailedSums, page: &mut Page<'_>)
+    ensures { Writes (damaged_words code sums) page.old page.new }
 {
-    let at = put(b"refused 1: damaged code ", out, at);
-    let at = put_hex(code, out, at);
-    let at = put(b", its parity fails in", out, at);
-    put_sums(sums, out, at)
+    page.put(b"refused 1: damaged code ");
+    page.put_hex(code);
+    page.put(b", its parity fails in");
+    put_sums(sums, page);
 }
 
 // The parity sums that fail.
-fn put_sums(sums: FailedSums, out: &mut [u8], at: usize) -> usize
-    ensures { Puts out.old at (sum_words sums) result out.new }
+fn put_sums(sums: FailedSums, page: &mut Page<'_>)
+    ensures { Writes (sum_words sums) page.old page.new }
 {
-    let at = put_if(sums.p0, b" P0", out, at);
-    let at = put_if(sums.p1, b" P1", out, at);
-    let at = put_if(sums.p2, b" P2", out, at);
-    put_if(sums.p3, b" P3", out, at)
+    put_if(sums.p0, b" P0", page);
+    put_if(sums.p1, b" P1", page);
+    put_if(sums.p2, b" P2", page);
+    put_if(sums.p3, b" P3", page);
 }
 
-fn put_if(fails: bool, name: &[u8], out: &mut [u8], at: usize) -> usize
-    ensures { Puts out.old at (sum_word fails name.now) result out.new }
+fn put_if(fails: bool, name: &[u8], page: &mut Page<'_>)
+    ensures { Writes (sum_word fails name.now) page.old page.new }
 {
     if fails {
-        return put(name, out, at);
+        page.put(name);
     }
-    at
 }
 
-fn put_reserved(code: u8, out: &mut [u8], at: usize) -> usize
-    ensures { Puts out.old at (reserved_words code) result out.new }
+fn put_reserved(code: u8, page: &mut Page<'_>)
+    ensures { Writes (reserved_words code) page.old page.new }
 {
-    let at = put(b"refused 2: reserved code ", out, at);
-    put_hex(code, out, at)
+    page.put(b"refused 2: reserved code ");
+    page.put_hex(code);
 }
 
 // A line that the capture's end cuts off, or one longer than what is looked at.
-fn put_unfinished(cut: bool, refusal: u8, code: u8, out: &mut [u8], at: usize) -> usize
-    ensures { Puts out.old at (unfinished_words cut refusal code) result out.new }
+fn put_unfinished(cut: bool, refusal: u8, code: u8, page: &mut Page<'_>)
+    ensures { Writes (unfinished_words cut refusal code) page.old page.new }
 {
     if cut {
-        return put_long_line(refusal, code, out, at);
+        put_long_line(refusal, code, page);
+    } else {
+        put_line(b"refused 3: ", code, page);
+        page.put(b", cut off by the end of the capture");
     }
-    let at = put_line(b"refused 3: ", code, out, at);
-    put(b", cut off by the end of the capture", out, at)
 }
 
-fn put_long_line(refusal: u8, code: u8, out: &mut [u8], at: usize) -> usize
-    ensures { Puts out.old at (long_line_words refusal code) result out.new }
+fn put_long_line(refusal: u8, code: u8, page: &mut Page<'_>)
+    ensures { Writes (long_line_words refusal code) page.old page.new }
 {
-    let at = put_refused(refusal, out, at);
-    let at = put_line(b": ", code, out, at);
-    put(
-        b" of more than 1000 bytes: a signal that was lost?",
-        out,
-        at,
-    )
+    put_refused(refusal, page);
+    put_line(b": ", code, page);
+    page.put(b" of more than 1000 bytes: a signal that was lost?");
 }
 
-fn put_length(code: u8, found: u64, wanted: u64, out: &mut [u8], at: usize) -> usize
-    ensures { Puts out.old at (length_words code found wanted) result out.new }
+fn put_length(code: u8, found: u64, wanted: u64, page: &mut Page<'_>)
+    ensures { Writes (length_words code found wanted) page.old page.new }
 {
-    let at = put_line(b"refused 4: ", code, out, at);
-    let at = put(b" of ", out, at);
-    let at = put_decimal(found, out, at);
-    let at = put(b" nibbles, not ", out, at);
-    let at = put_decimal(wanted, out, at);
-    put(b": a clip that slipped?", out, at)
+    put_line(b"refused 4: ", code, page);
+    page.put(b" of ");
+    page.put_decimal(found);
+    page.put(b" nibbles, not ");
+    page.put_decimal(wanted);
+    page.put(b": a clip that slipped?");
 }
 
 // A line with a bad byte: words, its place, words, and the byte.
-fn put_bad_byte(
-    words: &[u8],
-    code: u8,
-    place: u64,
-    part: &[u8],
-    byte: u8,
-    out: &mut [u8],
-    at: usize,
-) -> usize
-    ensures { Puts out.old at (bad_byte_words words.now code place part.now byte) result out.new }
+fn put_bad_byte(words: &[u8], code: u8, place: u64, part: &[u8], byte: u8, page: &mut Page<'_>)
+    ensures { Writes (bad_byte_words words.now code place part.now byte) page.old page.new }
 {
-    let at = put_line(words, code, out, at);
-    let at = put(b", byte ", out, at);
-    let at = put_decimal(place, out, at);
-    let at = put(part, out, at);
-    put_hex(byte, out, at)
+    put_line(words, code, page);
+    page.put(b", byte ");
+    page.put_decimal(place);
+    page.put(part);
+    page.put_hex(byte);
 }
 
-fn put_end(code: u8, next: u8, out: &mut [u8], at: usize) -> usize
-    ensures { Puts out.old at (end_words code next) result out.new }
+fn put_end(code: u8, next: u8, page: &mut Page<'_>)
+    ensures { Writes (end_words code next) page.old page.new }
 {
-    let at = put_line(b"refused 7: ", code, out, at);
-    let at = put(b", not ended: the next mark has the code ", out, at);
-    put_hex(next, out, at)
+    put_line(b"refused 7: ", code, page);
+    page.put(b", not ended: the next mark has the code ");
+    page.put_hex(next);
 }
 
 // A number among words.
-fn put_counted(words: &[u8], count: u64, rest: &[u8], out: &mut [u8], at: usize) -> usize
-    ensures { Puts out.old at (count_words words.now count rest.now) result out.new }
+fn put_counted(words: &[u8], count: u64, rest: &[u8], page: &mut Page<'_>)
+    ensures { Writes (count_words words.now count rest.now) page.old page.new }
 {
-    let at = put(words, out, at);
-    let at = put_decimal(count, out, at);
-    put(rest, out, at)
+    page.put(words);
+    page.put_decimal(count);
+    page.put(rest);
 }

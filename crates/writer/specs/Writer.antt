@@ -1,15 +1,11 @@
 -- The writer (01, the writer's paragraph): one line, its end, its two gap bytes and its null bytes, into a lent buffer of nibbles.
-use Rattle.std.specs.Prelude.{Bool, ◌&&◌, List, ℕ, ◌+◌, ◌*◌, eqb, leb, length}
+use Rattle.std.specs.Prelude.{Bool, ◌&&◌, List, ℕ, ◌+◌, ◌*◌, eqb, leb, length, None, Option, Some}
 use Rattle.refusal.specs.Refusal.{bad_state, no_room, bad_kind, number_too_large, wrong_body_length, byte_not_allowed, too_many_nulls}
 use Rattle.lent_buffer.specs.Filled.{Output, used, refused, require}
 use Rattle.line_code.specs.declared.Kind.{Kind}
-use Rattle.line_code.specs.declared.LineKind.{LineKind}
-use Rattle.line_code.specs.declared.LineKind.TheVariants.{NotLine, LineOf}
 use Rattle.line_code.specs.LineCode.{kind_numbered}
 use Rattle.line_number.specs.LineNumber.{greatest}
 use Rattle.profile.specs.declared.Profile.{Profile}
-use Rattle.profile.specs.declared.Numbered.{Numbered}
-use Rattle.profile.specs.declared.Numbered.TheVariants as numbered
 use Rattle.profile.specs.Profile.{profile_numbered, body_length}
 use Rattle.profile.specs.Layout.{rules, fits, gap_fits}
 use Rattle.stream.specs.Written.{Sent, most_nulls, written}
@@ -39,14 +35,14 @@ abbrev pub sent : Kind → ℕ → List ℕ → ℕ → ℕ → ℕ → Sent
 sent k number body a b nulls = record { kind = k; number = number; body = body; gap_one = a; gap_two = b; nulls = nulls }
 
 -- 13, or by the kind
-abbrev pub write_kind : Profile → LineKind → ℕ → List ℕ → ℕ → ℕ → ℕ → ℕ → Output
-write_kind p NotLine number body a b nulls room = refused bad_kind
-write_kind p (LineOf k) number body a b nulls room = write_line p (sent k number body a b nulls) room
+abbrev pub write_kind : Profile → Option Kind → ℕ → List ℕ → ℕ → ℕ → ℕ → ℕ → Output
+write_kind p None number body a b nulls room = refused bad_kind
+write_kind p (Some k) number body a b nulls room = write_line p (sent k number body a b nulls) room
 
 -- 11, or by the profile
-abbrev pub write_profile : Numbered → ℕ → ℕ → List ℕ → ℕ → ℕ → ℕ → ℕ → Output
-write_profile numbered.NoProfile kind number body a b nulls room = refused bad_state
-write_profile (numbered.Profile p) kind number body a b nulls room = write_kind p (kind_numbered kind) number body a b nulls room
+abbrev pub write_profile : Option Profile → ℕ → ℕ → List ℕ → ℕ → ℕ → ℕ → ℕ → Output
+write_profile None kind number body a b nulls room = refused bad_state
+write_profile (Some p) kind number body a b nulls room = write_kind p (kind_numbered kind) number body a b nulls room
 
 -- what the writer answers: profile and kind by their numbers, number, body, the two gap bytes, how many null bytes, and the room
 unfoldable pub write_of : ℕ → ℕ → ℕ → List ℕ → ℕ → ℕ → ℕ → ℕ → Output

@@ -1,5 +1,5 @@
 -- Laws of the writer: how long a line is as written, and exactly when each answer comes.
-use Rattle.std.specs.Prelude.{◌≡◌, Bool, true, false, List, ◌++◌, ◌↔◌, ℕ, ◌≤◌, ◌<◌, length, replicate}
+use Rattle.std.specs.Prelude.{◌≡◌, Bool, true, false, List, ◌++◌, ◌↔◌, ℕ, ◌≤◌, ◌<◌, length, replicate, None, Option, Some}
 use Rattle.std.proofs.Math.Path.{refl}
 use Rattle.std.proofs.Common.{sym, subst, ◌∙◌, arith, leb-true, leb-false, eqb-true, le-leb, eq-eqb, ne_eqb, length-append}
 use Rattle.std.proofs.lemmas.Bool.{eqb-false, lt-leb}
@@ -9,14 +9,10 @@ use Rattle.refusal.specs.Refusal.{no_room}
 use Rattle.lent_buffer.specs.Filled.{Output, used, refused, require}
 use Rattle.line_code.specs.declared.Kind.{Kind}
 use Rattle.line_code.specs.declared.Kind.TheVariants.{BL, BK, VL, SOF, EOF}
-use Rattle.line_code.specs.declared.LineKind.{LineKind}
-use Rattle.line_code.specs.declared.LineKind.TheVariants.{NotLine, LineOf}
 use Rattle.line_code.specs.LineCode.{kind_number, kind_numbered}
 use Rattle.line_number.specs.LineNumber.{greatest}
 use Rattle.profile.specs.declared.Profile.{Profile}
 use Rattle.profile.specs.declared.Profile.TheVariants.{VV5404, VV5300}
-use Rattle.profile.specs.declared.Numbered.{Numbered}
-use Rattle.profile.specs.declared.Numbered.TheVariants as numbered
 use Rattle.profile.specs.Profile.{profile_number, profile_numbered, body_length, null_byte}
 use Rattle.profile.specs.Layout.{rules, fits}
 use Rattle.profile.specs.LayoutLaws.{rules_length, fits_length}
@@ -72,15 +68,15 @@ line_answer_lem p s room =
     A = LineAnswer p s room
 
 module _ (profile kind number : ℕ) (body : List ℕ) (a b nulls room : ℕ) where
-  by_kind : (p : Profile) → profile_numbered profile ≡ numbered.Profile p → (k : LineKind) → kind_numbered kind ≡ k
+  by_kind : (p : Profile) → profile_numbered profile ≡ Some p → (k : Option Kind) → kind_numbered kind ≡ k
       → WriteAnswer profile kind number body a b nulls room (write_kind p k number body a b nulls room)
-  by_kind p e NotLine f = bad_kind_lem p e f
-  by_kind p e (LineOf k) f = of_line p k e f (line_answer_lem p (sent k number body a b nulls) room)
+  by_kind p e None f = bad_kind_lem p e f
+  by_kind p e (Some k) f = of_line p k e f (line_answer_lem p (sent k number body a b nulls) room)
 
-  by_profile : (n : Numbered) → profile_numbered profile ≡ n
+  by_profile : (n : Option Profile) → profile_numbered profile ≡ n
       → WriteAnswer profile kind number body a b nulls room (write_profile n kind number body a b nulls room)
-  by_profile numbered.NoProfile e = bad_profile e
-  by_profile (numbered.Profile p) e = by_kind p e (kind_numbered kind) refl
+  by_profile None e = bad_profile e
+  by_profile (Some p) e = by_kind p e (kind_numbered kind) refl
 
   -- the writer's answer is the table's, and there is no other
   pub answer : WriteAnswer profile kind number body a b nulls room (write_of profile kind number body a b nulls room)
@@ -95,12 +91,12 @@ module _ (profile kind number : ℕ) (body : List ℕ) (a b nulls room : ℕ) wh
 
 -- Lines of a profile.
 
-profile_back : (p : Profile) → profile_numbered (profile_number p) ≡ numbered.Profile p
+profile_back : (p : Profile) → profile_numbered (profile_number p) ≡ Some p
 unfolding profile_numbered
 profile_back VV5404 = refl
 profile_back VV5300 = refl
 
-kind_back : (k : Kind) → kind_numbered (kind_number k) ≡ LineOf k
+kind_back : (k : Kind) → kind_numbered (kind_number k) ≡ Some k
 unfolding kind_numbered
 kind_back BL = refl
 kind_back BK = refl

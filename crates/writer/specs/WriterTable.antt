@@ -1,13 +1,11 @@
 -- The table of 01 for the writer's answers, each exactly when named, in the writer's order; and its answer to a line. Definitions only.
-use Rattle.std.specs.Prelude.{◌≡◌, true, false, List, ℕ, ◌≤◌, ◌<◌, length}
+use Rattle.std.specs.Prelude.{◌≡◌, true, false, List, ℕ, ◌≤◌, ◌<◌, length, None, Some}
 use Rattle.refusal.specs.Refusal.{bad_state, no_room, bad_kind, number_too_large, wrong_body_length, byte_not_allowed, too_many_nulls}
 use Rattle.lent_buffer.specs.Filled.{Output, used, refused}
 use Rattle.line_code.specs.declared.Kind.{Kind}
-use Rattle.line_code.specs.declared.LineKind.TheVariants.{NotLine, LineOf}
 use Rattle.line_code.specs.LineCode.{kind_number, kind_numbered}
 use Rattle.line_number.specs.LineNumber.{greatest}
 use Rattle.profile.specs.declared.Profile.{Profile}
-use Rattle.profile.specs.declared.Numbered.TheVariants as numbered
 use Rattle.profile.specs.Profile.{profile_number, profile_numbered, body_length}
 use Rattle.stream.specs.Written.{Sent, Writable, most_nulls, written}
 use Rattle.writer.specs.Writer.{room_for, bytes_fit, sent, write_of}
@@ -25,10 +23,10 @@ pub data LineAnswer (p : Profile) (s : Sent) (room : ℕ) : Output → Type 0 wh
 
 -- to any call
 pub data WriteAnswer (profile kind number : ℕ) (body : List ℕ) (a b nulls room : ℕ) : Output → Type 0 where
-  bad_profile : profile_numbered profile ≡ numbered.NoProfile → WriteAnswer profile kind number body a b nulls room (refused bad_state)
-  bad_kind_lem : (p : Profile) → profile_numbered profile ≡ numbered.Profile p → kind_numbered kind ≡ NotLine
+  bad_profile : profile_numbered profile ≡ None → WriteAnswer profile kind number body a b nulls room (refused bad_state)
+  bad_kind_lem : (p : Profile) → profile_numbered profile ≡ Some p → kind_numbered kind ≡ None
       → WriteAnswer profile kind number body a b nulls room (refused bad_kind)
-  of_line : (p : Profile) (k : Kind) {o : Output} → profile_numbered profile ≡ numbered.Profile p → kind_numbered kind ≡ LineOf k
+  of_line : (p : Profile) (k : Kind) {o : Output} → profile_numbered profile ≡ Some p → kind_numbered kind ≡ Some k
       → LineAnswer p (sent k number body a b nulls) room o
       → WriteAnswer profile kind number body a b nulls room o
 

@@ -16,9 +16,9 @@ ghost use Rattle.writer.specs.Parts.{Room, PutNibbles, mark_bytes, line_bytes};
 
 use allowed_bytes::has_bad_byte;
 use lent_buffer::Filled;
-use line_code::{Kind, LineKind, Meaning};
-use line_number::Encoded;
-use profile::{Numbered, Profile};
+use line_code::{Kind, Meaning};
+use profile::Profile;
+use refusal::Refusal;
 
 // The most null bytes after a line.
 const MOST_NULLS: u32 = 255;
@@ -39,30 +39,24 @@ pub fn write(
 ) -> Filled
     ensures { Gives (write_of profile kind number body.now first second nulls (length buffer.old)) result buffer.old buffer.new }
 {
-    let Numbered::Profile(p) = Profile::numbered(profile) else {
-        return Filled::Refused(refusal::BAD_STATE);
-    };
-    let LineKind::LineOf(k) = Kind::numbered(kind) else {
-        return Filled::Refused(refusal::BAD_KIND);
-    };
-    let Encoded::Bytes(high, low) = line_number::encode(number) else {
-        return Filled::Refused(refusal::NUMBER_TOO_LARGE);
-    };
+    let p = Profile::numbered(profile).ok_or(Refusal::BAD_STATE)?;
+    let k = Kind::numbered(kind).ok_or(Refusal::BAD_KIND)?;
+    let (high, low) = line_number::encode(number).ok_or(Refusal::NUMBER_TOO_LARGE)?;
     if body.len() != p.body_length() {
-        return Filled::Refused(refusal::WRONG_BODY_LENGTH);
+        return Err(Refusal::WRONG_BODY_LENGTH);
     }
     if has_bad_byte(p, k, body, first, second) {
-        return Filled::Refused(refusal::BYTE_NOT_ALLOWED);
+        return Err(Refusal::BYTE_NOT_ALLOWED);
     }
     if MOST_NULLS < nulls {
-        return Filled::Refused(refusal::TOO_MANY_NULLS);
+        return Err(Refusal::TOO_MANY_NULLS);
     }
     let count = nulls as usize;
     if buffer.len() < AROUND + 2 * body.len() + 2 * count {
-        return Filled::Refused(refusal::NO_ROOM);
+        return Err(Refusal::NO_ROOM);
     }
     let end = put_line(k, high, low, body, first, second, count, buffer);
-    Filled::Length(end)
+    Ok(end)
 }
 
 // The writing. Each function stores the nibbles of some bytes from a place on, and gives the place after them.
@@ -110,10 +104,8 @@ fn put_bytes(bytes: &[u8], at: usize, buffer: &mut [u8]) -> usize
     ensures { PutNibbles bytes.now buffer.old at result buffer.new }
 {
     let mut place = at;
-    let mut i: usize = 0;
-    while i < bytes.len() {
-        place = put_byte(bytes[i], place, buffer);
-        i += 1;
+    for byte in bytes {
+        place = put_byte(*byte, place, buffer);
     }
     place
 }
@@ -123,10 +115,8 @@ fn put_nulls(count: usize, at: usize, buffer: &mut [u8]) -> usize
     ensures { PutNibbles (replicate count null_byte) buffer.old at result buffer.new }
 {
     let mut place = at;
-    let mut done: usize = 0;
-    while done < count {
+    for _done in 0..count {
         place = put_byte(Profile::NULL, place, buffer);
-        done += 1;
     }
     place
 }

@@ -1,14 +1,8 @@
 -- Each byte adds at most one; where none added any, no mark begins.
-use mathlib.Core.Path.{◌≡◌, subst}
-use Prim.Native.Nat.{◌-◌, ◌≤◌}
-use native.Mathlib.Omega.{arith}
-use borrow.Author.Rules.{rules}
+use mathlib.Core.Path.{◌≡◌}
+use Prim.Native.Nat.{◌≤◌}
 use Rattle.capture_bytes.specs.Packed.{NoneBegins}
-use Rattle.capture_bytes.proofs.Blocks.{none_begins, begins_more}
 use Rattle.capture_bytes.proofs.beginnings.Given as goal
 
 abbrev pub invariant-loop-k : goal.invariant-loop-k
-invariant-loop-k l = (l.k ≤ l.n) × (l.count ≤ l.k) × (l.count ≡ 0 → NoneBegins l.bytes l.i l.k)
-
-abbrev pub decreases-loop-k : goal.decreases-loop-k
-decreases-loop-k l = l.n - l.k
+invariant-loop-k l = (l.count ≤ l.k) × (l.count ≡ 0 → NoneBegins l.bytes l.i l.k)

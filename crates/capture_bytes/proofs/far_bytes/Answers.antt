@@ -2,8 +2,6 @@
 use mathlib.Core.Path.{refl}
 use Prim.Native.Nat.{◌+◌, ◌-◌, ◌≤◌}
 use native.Mathlib.Omega.{arith}
-use borrow.Author.Rules.{rules}
-use Rattle.capture_bytes.specs.Packed.{NoneBegins}
 use Rattle.capture_bytes.proofs.Blocks.{none_begins, begins_on}
 use Rattle.capture_bytes.proofs.far_bytes.Goals as goal
 

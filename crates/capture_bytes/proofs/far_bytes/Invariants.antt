@@ -1,10 +1,6 @@
 -- At each turn the bytes that are passed are as the test says; then fewer are left, or the blocks are smaller.
-use mathlib.Core.Path.{refl}
 use Prim.Native.Nat.{◌+◌, ◌-◌, ◌≤◌}
-use native.Mathlib.Omega.{arith}
-use borrow.Author.Rules.{rules}
 use Rattle.capture_bytes.specs.Packed.{NoneBegins}
-use Rattle.capture_bytes.proofs.Blocks.{none_begins, begins_on}
 use Rattle.capture_bytes.proofs.far_bytes.Given as goal
 
 abbrev pub invariant-loop-block : goal.invariant-loop-block

@@ -1,10 +1,6 @@
 -- At each turn the bytes that are passed are as the test says; then fewer are left, or the blocks are smaller.
-use mathlib.Core.Path.{refl}
 use Prim.Native.Nat.{◌+◌, ◌-◌, ◌≤◌}
-use native.Mathlib.Omega.{arith}
-use borrow.Author.Rules.{rules}
 use Rattle.capture_bytes.specs.Packed.{AllNull}
-use Rattle.capture_bytes.proofs.Blocks.{none_null_yet, nulls_on}
 use Rattle.capture_bytes.proofs.null_bytes.Given as goal
 
 abbrev pub invariant-loop-block : goal.invariant-loop-block

@@ -1,11 +1,10 @@
 -- At each turn what is left brings what the whole does, and the line buffer is as lent; a portion that is answered or the last gives the whole, and any
 -- other is taken whole, and blocks after it.
-use mathlib.Core.Path.{◌≡◌, refl, ◌∙◌}
-use Prim.Native.Nat.{ℕ, ◌-◌, ◌*◌, ◌≤◌, ◌<◌}
+use mathlib.Core.Path.{refl, ◌∙◌}
+use Prim.Native.Nat.{ℕ, ◌*◌, ◌≤◌, ◌<◌}
 use native.Mathlib.Omega.{arith}
 use lib.ListN.{length, get_or}
-use borrow.Author.Rules.{rules}
-use Rattle.capture_bytes.proofs.Portions.{Upto, start, upto_on, still_within, portion_within, next_turn, last_turn, turn_less}
+use Rattle.capture_bytes.proofs.Portions.{start, upto_on, still_within, portion_within, next_turn, last_turn, turn_less}
 use Rattle.capture_bytes.proofs.run.Goals as goal
 
 pub loop-most-init : goal.loop-most-init

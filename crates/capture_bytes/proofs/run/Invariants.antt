@@ -1,11 +1,9 @@
 -- At each turn what is left brings what the whole does, and the line buffer is as lent; a portion that is answered or the last gives the whole, and any
 -- other is taken whole, and blocks after it.
-use mathlib.Core.Path.{◌≡◌, refl, ◌∙◌}
-use Prim.Native.Nat.{ℕ, ◌-◌, ◌*◌, ◌≤◌, ◌<◌}
-use native.Mathlib.Omega.{arith}
-use lib.ListN.{length, get_or}
-use borrow.Author.Rules.{rules}
-use Rattle.capture_bytes.proofs.Portions.{Upto, start, upto_on, still_within, portion_within, next_turn, last_turn, turn_less}
+use mathlib.Core.Path.{◌≡◌}
+use Prim.Native.Nat.{◌-◌, ◌*◌, ◌≤◌, ◌<◌}
+use lib.ListN.{length}
+use Rattle.capture_bytes.proofs.Portions.{Upto}
 use Rattle.capture_bytes.proofs.run.Given as goal
 
 abbrev pub invariant-loop-most : goal.invariant-loop-most

@@ -13,7 +13,6 @@ use Rattle.capture_bytes.specs.Unpacked.{unpacked}
 use Rattle.stream.specs.NibblesLaws.{nibbles_length}
 use Rattle.capture_bytes.specs.UnpackedLaws.{front_nibbles, portion_bytes, drop_most}
 use Rattle.capture_bytes.proofs.Portions.{gives_as}
-use borrow.Author.Rules.{rules}
 use Rattle.capture_bytes.proofs.run_portion.Goals as goal
 
 whole : (bs d w : List ℕ) (r : ℕ) → r ≡ length bs → w ≡ unpacked bs d r → take (2 * r) w ≡ nibbles bs

@@ -2,7 +2,6 @@
 use mathlib.Core.Path.{◌≡◌, ◌∙◌}
 use Prim.Native.Nat.{ℕ, ◌+◌, ◌*◌}
 use native.Mathlib.Omega.{arith}
-use borrow.Author.Rules.{rules}
 use Rattle.stream.specs.Written.{nibbles}
 use Rattle.capture_bytes.proofs.Blocks.{window_word}
 use Rattle.capture_bytes.proofs.word.Goals as goal

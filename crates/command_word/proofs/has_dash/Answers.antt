@@ -1,17 +1,10 @@
--- An empty text has no first character; else that is compared.
-use mathlib.Core.Path.{sym}
-use native.Mathlib.Omega.{arith}
-use borrow.Author.Rules.{rules}
-use lib.ListN.{take, length-take}
-use lib.Seq.{length-take-le}
+-- The first character is compared; an empty text has none.
+use Rattle.std.proofs.Common.{◌∙◌, take}
 use Rattle.text.specs.Text.{ascii}
-use Rattle.command_word.specs.WordLaws.{same_lengths}
+use Rattle.command_word.proofs.Equal.{equal_is, same_turned}
 use Rattle.command_word.proofs.has_dash.Goals as goal
 
-pub returns-then-text-lt1 : goal.returns-then-text-lt1
-returns-then-text-lt1 c =
+pub returns : goal.returns
+returns c =
     let text = c.args.text.now in
-    simp (same_lengths (take 1 text) (ascii "-") (λ e. omega (arith, e, length-take 1 text, c.if-text-lt1.true)))
-
-pub slice_bounds-is-end : goal.slice_bounds-is-end
-slice_bounds-is-end c = sym (length-take-le 1 c.before.before.before.args.text.now c.if-text-lt1.false)
+    c.starts_with.ensures.value ∙ equal_is (ascii "-") (take 1 text) ∙ same_turned (ascii "-") (take 1 text)

@@ -1,5 +1,4 @@
 -- A number that is not 0 is a mark's.
-use borrow.Author.Rules.{rules}
 use borrow.Author.Tests.{eq-eqb, ne_eqb}
 use Rattle.command_word.specs.Word.{name_word}
 use Rattle.command_word.proofs.mark_or_name.Goals as goal

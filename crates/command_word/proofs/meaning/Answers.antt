@@ -1,6 +1,5 @@
 -- The tests in order, each by its answer; a word that names no sensor is told by the rest.
 use Rattle.command_word.specs.Word.{word_of}
-use borrow.Author.Rules.{rules}
 use Rattle.command_word.proofs.meaning.Goals as goal
 
 pub returns-then-is : goal.returns-then-is

@@ -1,6 +1,5 @@
 -- The tests in order, each by its answer.
 use Rattle.command_word.specs.Word.{other_word}
-use borrow.Author.Rules.{rules}
 use Rattle.command_word.proofs.other_meaning.Goals as goal
 
 pub returns-then-is : goal.returns-then-is

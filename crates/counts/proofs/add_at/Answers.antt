@@ -1,7 +1,6 @@
 -- A place that is there gets one more; any other leaves all as it was.
 use borrow.Author.Tests.{lt-ltb, le-ltb}
 use Rattle.counts.specs.Counts.{one_more_at}
-use borrow.Author.Rules.{rules}
 use Rattle.counts.proofs.add_at.Goals as goal
 
 pub returns-then-i-counts : goal.returns-then-i-counts

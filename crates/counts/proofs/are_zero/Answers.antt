@@ -1,26 +1,18 @@
--- Those looked at so far are 0; the first that is not decides, and else the end.
-use mathlib.Core.Path.{◌≡◌, refl, ◌∙◌}
-use Prim.Native.Nat.{◌-◌}
-use native.Mathlib.Omega.{arith}
+-- The test of each count decides whether it is 0; the definition joins the tests by `&&`.
+use mathlib.Core.Path.{◌≡◌, refl}
+use mathlib.Core.Bool.{Bool}
+use mathlib.Core.List.{List}
+use Prim.Native.Nat.{ℕ}
+use lib.Dec.{eqb}
 use borrow.Author.Rules.{rules}
-use borrow.Author.Tests.{eq-eqb, ne_eqb}
-use lib.ListN.{length, get_or, drop, drop_of_length-le}
+use Rattle.std.specs.Bool.{Decides}
+use Rattle.std.specs.List.{All}
+use Rattle.std.proofs.lemmas.Bool.Decides.{same_from_decides, Decides-by_and, Decides-eqb}
 use Rattle.counts.specs.Counts.{all_zero}
-use Rattle.counts.specs.CountsLaws.{zero_step}
 use Rattle.counts.proofs.are_zero.Goals as goal
 
-pub loop-i-init : goal.loop-i-init
-loop-i-init c = refl
-
-pub returns-then-counts-i-gt0 : goal.returns-then-counts-i-gt0
-returns-then-counts-i-gt0 c =
-    let all = c.args.counts.now in
-    simp (c.loop-i.invariant, zero_step all c.loop-i.i c.loop-i-test.true, ne_eqb (get_or all c.loop-i.i 0) 0 (λ e. omega (arith, e, c.if-counts-i-gt0.true)))
-
-pub loop-i-preserved : goal.loop-i-preserved
-loop-i-preserved c =
-    let all = c.args.counts.now in
-    c.loop-i.invariant ∙ zero_step all c.loop-i.i c.loop-i-test.true ∙ simp (eq-eqb (get_or all c.loop-i.i 0) 0 (omega (arith, c.if-counts-i-gt0.false)))
+decided : (counts : List ℕ) (r : Bool) → Decides r (All (λ n. n ≡ 0) counts) → r ≡ all_zero counts
+decided counts r h = same_from_decides r (all_zero counts) h (Decides-by_and (λ n. eqb n 0) (λ n. n ≡ 0) all_zero (λ n. Decides-eqb n 0) refl (λ _ _. refl) counts)
 
 pub returns : goal.returns
-returns c = simp (c.loop-i.invariant, drop_of_length-le c.args.counts.now c.loop-i-test.false)
+returns c = decided c.args.counts.now c.all.result (search rules)

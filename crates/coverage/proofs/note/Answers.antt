@@ -1,5 +1,4 @@
 -- A line by its kind and number; any other answer changes nothing.
-use borrow.Author.Rules.{rules}
 use Rattle.coverage.proofs.note.Goals as goal
 
 pub returns-in-Line : goal.returns-in-Line

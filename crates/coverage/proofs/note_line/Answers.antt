@@ -1,7 +1,6 @@
 -- A cell of the table gets a 1; behind it there is none.
 use borrow.Author.Tests.{lt-ltb, le-ltb}
 use Rattle.coverage.specs.Coverage.{with_line}
-use borrow.Author.Rules.{rules}
 use Rattle.coverage.proofs.note_line.Goals as goal
 
 pub returns-then-cell-came : goal.returns-then-cell-came

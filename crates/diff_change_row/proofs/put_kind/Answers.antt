@@ -1,7 +1,6 @@
 -- The words of the kind that it is, by the tests before; any other byte in decimal.
 use mathlib.Core.Path.{sym, ◌∙◌}
 use borrow.Author.Tests.{eq-eqb, ne_eqb}
-use borrow.Author.Rules.{rules}
 use Rattle.line_code.specs.declared.Kind.TheVariants.{BL, BK, VL, SOF, EOF}
 use Rattle.line_code.specs.LineCode.{kind_number}
 use Rattle.diff_change_row.specs.ChangeRow.{kind_word}

@@ -10,7 +10,6 @@ use Rattle.line_records.specs.Lines.{full_lines}
 use Rattle.diff_records.specs.Difference.{differences, encoded_all}
 use Rattle.diff_lines.specs.Compare.{compare_of}
 use mathlib.Core.List.{◌++◌}
-use borrow.Author.Rules.{rules}
 use Rattle.diff_lines.proofs.compare.Goals as goal
 
 pub returns-then-either_falls : goal.returns-then-either_falls

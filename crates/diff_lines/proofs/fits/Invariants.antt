@@ -1,13 +1,10 @@
 -- The room left, and the bytes of the differences still to come, are those of the start.
-use mathlib.Core.Path.{◌≡◌, sym, ap}
-use Prim.Native.Nat.{◌≤◌, ◌<◌, ◌-◌, ◌+◌}
-use native.Mathlib.Omega.{arith}
-use borrow.Author.Tests.{lt-leb, le-leb}
+use mathlib.Core.Path.{◌≡◌}
+use Prim.Native.Nat.{◌≤◌, ◌-◌, ◌+◌}
 use lib.ListN.{length}
 use Rattle.line_records.specs.Lines.{full_lines}
 use Rattle.diff_records.specs.Difference.{differences, encoded_all}
-use Rattle.diff_records.proofs.NextLaws.{left_bytes, left_length, left_end, in_first, in_second}
-use borrow.Author.Rules.{rules}
+use Rattle.diff_records.proofs.NextLaws.{left_bytes}
 use Rattle.diff_lines.proofs.fits.Given as goal
 
 abbrev pub invariant-loop-a : goal.invariant-loop-a

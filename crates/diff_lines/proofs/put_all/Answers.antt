@@ -1,11 +1,7 @@
 -- The differences still to come are left to put; each turn puts those of the next number.
-use Prim.Native.Nat.{◌≤◌, ◌-◌, ◌+◌}
 use native.Mathlib.Omega.{arith}
-use lib.ListN.{length}
-use Rattle.line_records.specs.Lines.{full_lines}
-use Rattle.diff_records.specs.Difference.{differences, encoded_all}
 use Rattle.diff_records.proofs.NextLaws.{left_bytes, left_step, left_end, in_first, in_second}
-use Rattle.diff_records.specs.RestLaws.{Rest, rest_all, rest_put, rest_none}
+use Rattle.diff_records.specs.RestLaws.{rest_all, rest_put, rest_none}
 use borrow.Author.Rules.{rules}
 use Rattle.diff_lines.proofs.put_all.Goals as goal
 

@@ -2,7 +2,6 @@
 use native.Mathlib.Omega.{arith}
 use Rattle.line_records.specs.Lines.{front_line}
 use Rattle.diff_records.proofs.DifferenceLaws.{between_size}
-use borrow.Author.Rules.{rules}
 use Rattle.diff_records.proofs.between_size.Goals as goal
 
 pub returns : goal.returns

@@ -3,7 +3,6 @@ use mathlib.Core.Path.{sym}
 use Rattle.text.specs.PutLaws.{then}
 use Rattle.diff_records.proofs.DifferenceLaws.{between_is}
 use Rattle.diff_records.specs.RestLaws.{puts_is}
-use borrow.Author.Rules.{rules}
 use Rattle.diff_records.proofs.put_between.Goals as goal
 
 pub returns : goal.returns

@@ -3,7 +3,6 @@ use mathlib.Core.Path.{sym}
 use Rattle.text.specs.PutLaws.{puts_none}
 use Rattle.diff_records.proofs.DifferenceLaws.{kinds_are, none_is}
 use Rattle.diff_records.specs.RestLaws.{puts_is}
-use borrow.Author.Rules.{rules}
 use Rattle.diff_records.proofs.put_kinds.Goals as goal
 
 pub returns-then-x-y : goal.returns-then-x-y

@@ -1,7 +1,6 @@
 -- The four bytes before the body, and then the body, are the line whole.
 use Rattle.text.specs.PutLaws.{then}
 use Rattle.line_records.specs.Lines.{front_line}
-use borrow.Author.Rules.{rules}
 use Rattle.diff_records.proofs.put_line.Goals as goal
 
 pub returns : goal.returns

@@ -1,29 +1,28 @@
--- The places from one on are left to put; each turn puts one, where the bytes differ.
-use mathlib.Core.Path.{ap}
-use mathlib.Core.List.{List}
-use Prim.Native.Nat.{ℕ, ◌≤◌, ◌-◌}
-use lib.ListN.{length, drop, drop_of_length-le}
+-- Each turn puts one place, where the bytes differ.
+use Rattle.std.proofs.Common.{List, ℕ, ◌≤◌, length, drop, drop_of_length-le, ap, arith}
+use Rattle.std.proofs.lemmas.List.{length_push}
+use Rattle.std.proofs.lemmas.Iterator.{YieldsList-from_slice, YieldsList-from_zip}
+use Rattle.std.proofs.lemmas.Iterator.Consumers.{YieldsList-from_enumerate, YieldsList-turn, YieldsList-end}
+use Rattle.std.specs.List.{zip}
+use Rattle.std.proofs.lemmas.List.FromFn.{length-enumerate_from}
+use Rattle.std.proofs.lemmas.Slice.Zip.{length-zip}
 use Rattle.diff_records.specs.Difference.{places_from, encoded_all}
-use Rattle.diff_records.proofs.DifferenceLaws.{places_step}
-use Rattle.diff_records.specs.RestLaws.{Rest, rest_all, rest_put, rest_none}
-use borrow.Author.Rules.{rules}
+use Rattle.diff_records.specs.RestLaws.{rest_put, rest_none}
+use Rattle.diff_records.proofs.PairLaws.{pair_at, places_pair}
 use Rattle.diff_records.proofs.put_places.Goals as goal
-
-pub loop-p-init : goal.loop-p-init
-loop-p-init c = (search rules, rest_all _ _ _)
 
 pub loop-p-preserved : goal.loop-p-preserved
 loop-p-preserved c =
-    let a = c.args in
     let l = c.loop-p in
-    let step = places_step a.a.now a.b.now l.p c.loop-p-test.true (search rules) a.n in
-    (search rules, rest_put _ _ _ step l.invariant.1 c.put_place-next.ensures)
-
-pub shape_of-buffer : goal.shape_of-buffer
-shape_of-buffer c = c.loop-p.invariant.1.kept
+    let t = YieldsList-turn (YieldsList-from_enumerate {s = c.into_iter-p-iterator.result} (YieldsList-from_zip (YieldsList-from_slice c.args.a.now (cc)) (YieldsList-from_slice c.args.b.now (cc))) (cc)) l.yielded l.p-iterator l.yielded_by c.next.result c.next.new.self (c.in-Some.p, (c.in-Some.x, c.in-Some.y)) c.in-Some.is c.next.ensures.steps in
+    let q = pair_at _ _ _ _ _ _ t.0 t.1 in
+    simp (length_push l.yielded (c.in-Some.p, (c.in-Some.x, c.in-Some.y))) (rest_put _ _ _ (places_pair q c.args.n) l.invariant c.put_place-next.ensures)
 
 pub returns : goal.returns
 returns c =
-    let a = c.args in
     let l = c.loop-p in
-    rest_none _ (ap (λ (xs : List ℕ). encoded_all (places_from a.n l.p xs (drop l.p a.b.now))) (drop_of_length-le a.a.now c.loop-p-test.false)) l.invariant.1
+    let a = c.args.a.now in
+    let b = c.args.b.now in
+    let e = YieldsList-end (YieldsList-from_enumerate {s = c.into_iter-p-iterator.result} (YieldsList-from_zip (YieldsList-from_slice a (cc)) (YieldsList-from_slice b (cc))) (cc)) l.yielded l.p-iterator l.yielded_by c.next.result c.next.new.self c.in-None.is c.next.ensures.steps in
+    let n : length a ≤ length l.yielded = omega (arith, e.1, length-enumerate_from 0 (zip a b), length-zip a b) in
+    rest_none _ (ap (λ (xs : List ℕ). encoded_all (places_from c.args.n (length l.yielded) xs (drop (length l.yielded) b))) (drop_of_length-le a n)) l.invariant

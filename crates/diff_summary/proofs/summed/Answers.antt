@@ -1,12 +1,8 @@
 -- The differences from a place of each list on are left to count; each turn counts those of the next number.
-use mathlib.Core.Path.{◌≡◌, sym, ap, ◌∙◌}
-use Prim.Native.Nat.{◌≤◌, ◌-◌, ◌+◌}
+use mathlib.Core.Path.{sym, ap, ◌∙◌}
 use native.Mathlib.Omega.{arith}
-use lib.ListN.{length}
-use Rattle.line_records.specs.Lines.{full_lines}
-use Rattle.diff_records.specs.Difference.{differences}
 use Rattle.diff_records.proofs.NextLaws.{in_first, in_second}
-use Rattle.diff_summary.specs.Summary.{with_differences, summary_of}
+use Rattle.diff_summary.specs.Summary.{with_differences}
 use Rattle.diff_summary.specs.SummaryLaws.{differences_from, walk_counted, walk_end}
 use borrow.Author.Rules.{rules}
 use Rattle.diff_summary.proofs.summed.Goals as goal

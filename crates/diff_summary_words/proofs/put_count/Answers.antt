@@ -1,5 +1,5 @@
 -- Words, number, newline, one after another.
-use Rattle.text.specs.PutLaws.{then}
+use Rattle.text.specs.PagesLaws.{next}
 use Rattle.diff_summary_words.specs.SummaryWords.{count_text}
 use borrow.Author.Rules.{rules}
 use Rattle.diff_summary_words.proofs.put_count.Goals as goal
@@ -7,4 +7,4 @@ use Rattle.diff_summary_words.proofs.put_count.Goals as goal
 pub returns : goal.returns
 unfolding count_text
 returns c =
-    then c.put-at.ensures (then c.put_decimal-at.ensures c.put.ensures)
+    next c.put.ensures (next c.put_decimal.ensures c.put-2.ensures)

@@ -1,13 +1,18 @@
--- Both halves are read, and 64 bytes hold a list.
-use Rattle.std.proofs.Common.{ap₂, ◌∙◌, List, ◌++◌}
-use Rattle.saved_setting.specs.declared.SavedSetting.{SavedSetting}
+-- One place after another is read, and 64 bytes hold a list.
+use Rattle.std.proofs.Common.{◌≡◌, sym, ◌∙◌, arith, length-set, take_all}
 use Rattle.fluturenc_settings.specs.SavedBytesLaws.{held_list}
-use Rattle.fluturenc_settings.proofs.Halves.{halves_read}
+use Rattle.fluturenc_settings.proofs.Reading.{place_read}
 use Rattle.fluturenc_settings.proofs.places_in.Goals as goal
+
+pub loop-i-preserved : goal.loop-i-preserved
+loop-i-preserved c =
+    let l = c.loop-i.invariant in
+    (simp length-set l.0, place_read c.args.list.now c.loop-i.i c.loop-i.places _ (omega (arith, l.0)) l.1 c.setting_at.ensures)
 
 pub returns : goal.returns
 returns c =
-    c.from_halves.ensures
-    ∙ ap₂ (λ (l m : List SavedSetting). l ++ m) c.four_at.ensures c.four_at-2.ensures
-    ∙ halves_read c.args.list.now
+    let l = c.loop-i.invariant in
+    let i : c.loop-i.i ≡ 8 = omega arith in
+    sym (take_all 8 c.loop-i.places (omega (arith, l.0)))
+    ∙ rw i at l.1
     ∙ held_list c.args.list.now c.requires

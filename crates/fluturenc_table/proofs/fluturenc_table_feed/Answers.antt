@@ -3,39 +3,40 @@ use Rattle.std.proofs.Common.{◌≡◌, arith}
 use Rattle.std.specs.Prelude.{◌+◌, ◌-◌, ◌*◌}
 use Rattle.fluturenc_table.specs.TableBytes.{place_start, state_at, with_state}
 use Rattle.fluturenc_table.specs.TableCalls.{feed_table}
+use Rattle.technician.specs.TechnicianLaws.{granted as nothing_denied}
 use Rattle.fluturenc_table.proofs.Granted.{granted}
 use Rattle.fluturenc_table.proofs.fluturenc_table_feed.Goals as goal
 
 pub overflow_mul-from : goal.overflow_mul-from
 overflow_mul-from c =
-    let k = granted c.args.table.now c.args.technician c.args.place c.denial_at-n.ensures c.if-n-eq0.true in
+    let k = granted c.args.table.now c.args.technician c.args.place c.in-None.ensures in
     omega (arith, k.0, k.1)
 
 pub overflow_add-from : goal.overflow_add-from
 overflow_add-from c =
-    let k = granted c.args.table.now c.args.technician c.args.place c.denial_at-n.ensures c.if-n-eq0.true in
+    let k = granted c.args.table.now c.args.technician c.args.place c.in-None.ensures in
     omega (arith, k.0, k.1)
 
-pub overflow_add-from-then-n-eq0 : goal.overflow_add-from-then-n-eq0
-overflow_add-from-then-n-eq0 c =
-    let k = granted c.args.table.now c.args.technician c.args.place c.denial_at-n.ensures c.if-n-eq0.true in
+pub overflow_add-from-in-None : goal.overflow_add-from-in-None
+overflow_add-from-in-None c =
+    let k = granted c.args.table.now c.args.technician c.args.place c.in-None.ensures in
     omega (arith, k.0, k.1)
 
 pub slice_bounds-fluturenc_feed-end : goal.slice_bounds-fluturenc_feed-end
 slice_bounds-fluturenc_feed-end c =
-    let k = granted c.args.table.now c.args.technician c.args.place c.denial_at-n.ensures c.if-n-eq0.true in
+    let k = granted c.args.table.now c.args.technician c.args.place c.in-None.ensures in
     omega (arith, k.0, k.1)
 
-pub returns-then-n-eq0 : goal.returns-then-n-eq0
+pub returns-in-None : goal.returns-in-None
 unfolding feed_table state_at with_state place_start
-returns-then-n-eq0 c =
+returns-in-None c =
     let i = c.args.place in
-    let d = c.denial_at-n.ensures in
+    let d = nothing_denied _ c.in-None.ensures in
     let e = c.fluturenc_feed.ensures in
     let k : 371 * i + 1 + 370 - (371 * i + 1) ≡ 370 = omega arith in
     record {
-      says = simp (← d, c.if-n-eq0.true, e.says, k);
-      count = simp (← d, c.if-n-eq0.true, e.count, k);
-      keeps = simp (← d, c.if-n-eq0.true, e.keeps, k);
-      leaves = simp (← d, c.if-n-eq0.true, e.leaves, k);
+      says = simp (d, e.says, k);
+      count = simp (d, e.count, k);
+      keeps = simp (d, e.keeps, k);
+      leaves = simp (d, e.leaves, k);
     }

@@ -1,12 +1,8 @@
 -- Place after place: those below the place reached are taken.
-use Rattle.std.proofs.Common.{◌≡◌, ◌≤◌, ◌-◌, length}
+use Rattle.std.proofs.Common.{◌≡◌, ◌-◌}
 use Rattle.reader_table.specs.Table.{place_count}
-use Rattle.fluturenc_table.specs.TableBytes.{table_length, lowest_from}
+use Rattle.fluturenc_table.specs.TableBytes.{lowest_from}
 use Rattle.fluturenc_table.proofs.lowest_free.Given as goal
 
 abbrev pub invariant-loop-i : goal.invariant-loop-i
-invariant-loop-i l =
-    (l.i ≤ place_count) × (table_length ≤ length l.table) × (lowest_from place_count 0 l.table ≡ lowest_from (place_count - l.i) l.i l.table)
-
-abbrev pub decreases-loop-i : goal.decreases-loop-i
-decreases-loop-i l = 8 - l.i
+invariant-loop-i l = lowest_from place_count 0 l.table ≡ lowest_from (place_count - l.i) l.i l.table

@@ -13,11 +13,8 @@ pub returns-then-line-lt-WIDTH : goal.returns-then-line-lt-WIDTH
 unfolding row_fits
 returns-then-line-lt-WIDTH c =
     let l = c.args.line.now in
-    record {
-      fitting = simp (ne_eqb (length (take width l)) width (λ e. omega (arith, e, length-take width l)));
-      ending = refl;
-      leaves = refl;
-    }
+    let short = ne_eqb (length (take width l)) width (λ e. omega (arith, e, length-take width l)) in
+    record { ending = simp short; leaves = simp short }
 
 pub slice_bounds-put_row-end : goal.slice_bounds-put_row-end
 slice_bounds-put_row-end c =
@@ -37,18 +34,18 @@ pub returns-then-has_room : goal.returns-then-has_room
 unfolding row_fits
 returns-then-has_room c =
     let l = c.args.line.now in
+    let whole = eq-eqb (length (take width l)) width (length-take-le width l c.if-line-lt-WIDTH.false) in
     record {
-      fitting = simp (eq-eqb (length (take width l)) width (length-take-le width l c.if-line-lt-WIDTH.false), ← c.row_size-size.ensures, ← c.has_room.ensures, c.if-has_room.true);
-      ending = simp c.row_size-size.ensures;
-      leaves = c.put_row.ensures;
+      ending = simp (whole, ← c.row_size-size.ensures, ← c.has_room.ensures, c.if-has_room.true);
+      leaves = simp (whole, ← c.row_size-size.ensures, ← c.has_room.ensures, c.if-has_room.true) c.put_row.ensures;
     }
 
 pub returns : goal.returns
 unfolding row_fits
 returns c =
     let l = c.args.line.now in
+    let whole = eq-eqb (length (take width l)) width (length-take-le width l c.if-line-lt-WIDTH.false) in
     record {
-      fitting = simp (eq-eqb (length (take width l)) width (length-take-le width l c.if-line-lt-WIDTH.false), ← c.row_size-size.ensures, ← c.has_room.ensures, c.if-has_room.false);
-      ending = refl;
-      leaves = refl;
+      ending = simp (whole, ← c.row_size-size.ensures, ← c.has_room.ensures, c.if-has_room.false);
+      leaves = simp (whole, ← c.row_size-size.ensures, ← c.has_room.ensures, c.if-has_room.false);
     }

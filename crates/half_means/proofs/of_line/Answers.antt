@@ -22,7 +22,7 @@ pub returns-then-gap_fits : goal.returns-then-gap_fits
 unfolding first_sum second_sum
 returns-then-gap_fits c =
     let a = c.args in
-    c.beside.ensures
+    c.beside-halves.ensures
     ∙ (λ i. beside_of (c.half_sum.ensures i) (c.half_sum-then-gap_fits.ensures i) a.first a.second)
     ∙ sym
     (passed a.profile a.kind a.body.now a.first a.second

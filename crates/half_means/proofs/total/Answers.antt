@@ -4,15 +4,15 @@ use borrow.Author.Rules.{rules}
 use Rattle.half_means.proofs.Adding.{total_step, total_end}
 use Rattle.half_means.proofs.total.Goals as goal
 
-pub loop-i-init : goal.loop-i-init
-loop-i-init c = (search rules, omega arith, omega arith)
+pub loop-byte-init : goal.loop-byte-init
+loop-byte-init c = (omega arith, omega arith)
 
-pub loop-i-preserved : goal.loop-i-preserved
-loop-i-preserved c =
-    let l = c.loop-i in
-    let t = c.loop-i-test.true in
-    (omega arith, omega (arith, total_step c.args.half.now l.i t, l.invariant.1), search rules)
+pub loop-byte-preserved : goal.loop-byte-preserved
+loop-byte-preserved c =
+    let l = c.loop-byte in
+    let t = c.loop-byte-test.true in
+    (omega (arith, total_step c.args.half.now l.byte-index t, l.invariant.0), search rules)
 
 pub returns : goal.returns
 returns c =
-    omega (arith, total_end c.args.half.now c.loop-i.i c.loop-i-test.false, c.loop-i.invariant.1)
+    omega (arith, total_end c.args.half.now c.loop-byte.byte-index c.loop-byte-test.false, c.loop-byte.invariant.0)

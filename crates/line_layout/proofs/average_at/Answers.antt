@@ -1,7 +1,6 @@
 -- EOF's rules as a list are pixels at even places as far as averages reach; these stay inside the image, so the sum cannot overflow.
 use mathlib.Core.Path.{sym}
 use native.Mathlib.Omega.{arith}
-use borrow.Author.Rules.{rules}
 use Rattle.profile.specs.LayoutLaws.{body_small, image_centred}
 use Rattle.line_layout.proofs.PlaceLaws.{averages_inside, average_places}
 use Rattle.line_layout.proofs.average_at.Goals as goal

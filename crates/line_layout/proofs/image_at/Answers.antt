@@ -1,6 +1,5 @@
 -- A margin no wider than the space before the image can be subtracted, and a body is short, so no sum overflows.
 use native.Mathlib.Omega.{arith}
-use borrow.Author.Rules.{rules}
 use Rattle.profile.specs.LayoutLaws.{body_small, image_centred}
 use Rattle.line_layout.proofs.image_at.Goals as goal
 

@@ -1,7 +1,6 @@
 -- BK's rules as a list are pixels within the image and its border, and the border is no wider than the space before the image.
 use mathlib.Core.Path.{sym}
 use native.Mathlib.Omega.{arith}
-use borrow.Author.Rules.{rules}
 use Rattle.line_layout.proofs.PlaceLaws.{border_outside, pixel_places}
 use Rattle.line_layout.proofs.pixel_at.Goals as goal
 

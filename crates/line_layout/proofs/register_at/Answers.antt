@@ -1,6 +1,5 @@
 -- SOF's rules as a list allow any byte at the even places of the image, which here has no margin.
 use mathlib.Core.Path.{sym}
-use borrow.Author.Rules.{rules}
 use Rattle.line_layout.proofs.PlaceLaws.{register_places}
 use Rattle.line_layout.proofs.register_at.Goals as goal
 

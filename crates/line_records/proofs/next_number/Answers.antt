@@ -1,6 +1,5 @@
 -- There is a line exactly if there are bytes for one.
 use Rattle.line_records.specs.Lines.{none, some}
-use borrow.Author.Rules.{rules}
 use Rattle.line_records.proofs.next_number.Goals as goal
 
 pub returns-then-list-lt-LINE : goal.returns-then-list-lt-LINE

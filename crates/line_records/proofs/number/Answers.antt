@@ -1,7 +1,6 @@
 -- The number is that of the two bytes after the kind.
 use native.Mathlib.Omega.{arith}
 use Rattle.line_records.specs.Lines.{front_line}
-use borrow.Author.Rules.{rules}
 use Rattle.line_records.proofs.number.Goals as goal
 
 pub returns : goal.returns

@@ -1,11 +1,10 @@
--- A row is never longer than the room asked for, so it is put whole.
-use native.Mathlib.Omega.{arith}
-use Rattle.text.specs.PutLaws.{whole}
+-- A row is never longer than the room asked for, so it is put whole at the place.
+use Rattle.std.proofs.Common.{arith}
 use Rattle.mean_rows.specs.MeanRowsLaws.{row_short}
-use borrow.Author.Rules.{rules}
+use Rattle.lister_laws.specs.PartLaws.{part_front}
 use Rattle.list_means.proofs.put_row.Goals as goal
 
 pub returns : goal.returns
 returns c =
     let a = c.args in
-    whole c.put_row.ensures (omega (arith, c.requires, row_short a.number a.first a.second a.halves))
+    part_front _ _ _ _ _ (omega (arith, c.requires, row_short a.number a.first a.second a.halves)) c.row.ensures

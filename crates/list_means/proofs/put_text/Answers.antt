@@ -6,10 +6,10 @@ use Rattle.list_means.specs.MeanLister.{text_of}
 use borrow.Author.Rules.{rules}
 use Rattle.list_means.proofs.put_text.Goals as goal
 
-pub returns-in-Line : goal.returns-in-Line
+pub returns-in-None : goal.returns-in-None
 unfolding text_of
-returns-in-Line c = simp c.in-Line.is (none _ _ _ (omega (arith, c.requires.1)) refl)
+returns-in-None c = simp c.in-None.is (none _ _ _ (omega (arith, c.requires.1)) refl)
 
-pub returns-in-Gap : goal.returns-in-Gap
+pub returns-in-Some : goal.returns-in-Some
 unfolding text_of
-returns-in-Gap c = simp c.in-Gap.is c.put_answer.ensures
+returns-in-Some c = simp c.in-Some.is c.put_answer.ensures

@@ -1,12 +1,12 @@
 -- The parts of the line, one after another.
 use borrow.Author.Rules.{rules}
-use Rattle.text.specs.PutLaws.{then}
+use Rattle.text.specs.PagesLaws.{next}
 use Rattle.list_news.specs.NewsLines.{broken_line_of}
 use Rattle.list_news.proofs.put_broken.Goals as goal
 
 pub returns : goal.returns
 unfolding broken_line_of
 returns c =
-    then c.put_frame-at.ensures
-    (then c.put-at.ensures
-    (then c.put_decimal-at.ensures (then c.put-at-2.ensures (then c.put_decimal-at-2.ensures c.put_reason.ensures))))
+    next c.put_frame.ensures
+    (next c.put.ensures
+    (next c.put_decimal.ensures (next c.put-2.ensures (next c.put_decimal-2.ensures c.put_reason.ensures))))

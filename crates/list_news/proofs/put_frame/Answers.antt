@@ -1,7 +1,7 @@
 -- The word, then the frame's number.
 use borrow.Author.Rules.{rules}
-use Rattle.text.specs.PutLaws.{then}
+use Rattle.text.specs.PagesLaws.{next}
 use Rattle.list_news.proofs.put_frame.Goals as goal
 
 pub returns : goal.returns
-returns c = then c.put-at.ensures c.put_decimal.ensures
+returns c = next c.put.ensures c.put_decimal.ensures

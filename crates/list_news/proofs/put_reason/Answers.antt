@@ -1,18 +1,16 @@
 -- Refusals 18 and 19 have their words, by the two tests; any other has none.
-use borrow.Author.Tests.{eq-eqb, ne_eqb}
-use borrow.Author.Rules.{rules}
-use Rattle.text.specs.PutLaws.{puts_none}
+use Rattle.text.specs.PagesLaws.{nothing}
 use Rattle.list_news.specs.NewsLines.{reason_words}
 use Rattle.list_news.proofs.put_reason.Goals as goal
 
-pub returns-then-refusal-eq-NOT_THE_LINE_DUE : goal.returns-then-refusal-eq-NOT_THE_LINE_DUE
+pub returns-then-eq : goal.returns-then-eq
 unfolding reason_words
-returns-then-refusal-eq-NOT_THE_LINE_DUE c = simp (eq-eqb _ _ c.if-refusal-eq-NOT_THE_LINE_DUE.true) c.put.ensures
+returns-then-eq c = simp (← c.eq.ensures, c.if-eq.true) c.put.ensures
 
-pub returns-then-refusal-eq-BROKEN_LINE : goal.returns-then-refusal-eq-BROKEN_LINE
+pub returns-then-eq-2 : goal.returns-then-eq-2
 unfolding reason_words
-returns-then-refusal-eq-BROKEN_LINE c = simp (ne_eqb _ _ c.if-refusal-eq-NOT_THE_LINE_DUE.false, eq-eqb _ _ c.if-refusal-eq-BROKEN_LINE.true) c.put_broken_line.ensures
+returns-then-eq-2 c = simp (← c.eq.ensures, c.if-eq.false, ← c.eq-2.ensures, c.if-eq-2.true) c.put_broken_line.ensures
 
 pub returns : goal.returns
 unfolding reason_words
-returns c = simp (ne_eqb _ _ c.if-refusal-eq-NOT_THE_LINE_DUE.false, ne_eqb _ _ c.if-refusal-eq-BROKEN_LINE.false) (puts_none _ _)
+returns c = simp (← c.eq.ensures, c.if-eq.false, ← c.eq-2.ensures, c.if-eq-2.false) (nothing _)

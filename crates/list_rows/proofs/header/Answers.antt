@@ -1,9 +1,7 @@
 -- The first row fits in ROW bytes, so it is put whole at the front; in less room nothing is put.
-use mathlib.Core.Path.{refl}
-use native.Mathlib.Omega.{arith}
+use Rattle.std.proofs.Common.{refl, arith, rules}
 use borrow.Author.Tests.{lt-ltb, le-ltb}
-use borrow.Author.Rules.{rules}
-use Rattle.text.specs.PutLaws.{puts_front}
+use Rattle.text.specs.PagesLaws.{at_front}
 use Rattle.list_rows.specs.Rows.{row_if_room}
 use Rattle.list_rows.proofs.header.Goals as goal
 
@@ -13,4 +11,6 @@ returns-then-out-lt-ROW c = simp (lt-ltb _ _ c.if-out-lt-ROW.true) (record { cou
 
 pub returns : goal.returns
 unfolding row_if_room
-returns c = simp (le-ltb _ _ c.if-out-lt-ROW.false) (puts_front c.put.ensures (omega (arith, c.if-out-lt-ROW.false)))
+returns c =
+    simp (le-ltb _ _ c.if-out-lt-ROW.false)
+    (search (rules, at_front c.new-page.ensures c.put.ensures (omega (arith, c.if-out-lt-ROW.false))))

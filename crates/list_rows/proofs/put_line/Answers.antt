@@ -1,6 +1,6 @@
 -- Kind, number and note, one after another; the note by the facts' own test of repair.
 use borrow.Author.Rules.{rules}
-use Rattle.text.specs.PutLaws.{then}
+use Rattle.text.specs.PagesLaws.{next}
 use Rattle.list_rows.specs.Rows.{line_words}
 use Rattle.list_rows.proofs.put_line.Goals as goal
 
@@ -8,4 +8,4 @@ pub returns : goal.returns
 unfolding line_words
 returns c =
     simp (← c.is_repaired.ensures)
-    (then c.put_kind-at.ensures (then c.put-at.ensures (then c.put_decimal-at.ensures (then c.put-at-2.ensures c.put_note.ensures))))
+    (next c.put_kind.ensures (next c.put.ensures (next c.put_decimal.ensures (next c.put-2.ensures c.put_note.ensures))))

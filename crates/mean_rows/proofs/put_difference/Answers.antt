@@ -2,8 +2,8 @@
 use mathlib.Core.Path.{sym, subst}
 use mathlib.Core.List.{List}
 use Prim.Native.Nat.{ℕ, ◌*◌}
-use Rattle.text.specs.Put.{Puts}
-use Rattle.text.specs.PutLaws.{then}
+use Rattle.text.specs.Pages.{Writes}
+use Rattle.text.specs.PagesLaws.{next}
 use Rattle.half_means.specs.HalfMeans.{difference}
 use Rattle.mean_rows.specs.MeanRowsLaws.{signed_less, signed_more}
 use borrow.Author.Rules.{rules}
@@ -13,14 +13,14 @@ pub returns-then-scaled-sum : goal.returns-then-scaled-sum
 unfolding difference
 returns-then-scaled-sum c =
     let a = c.args in
-    subst (λ (v : List ℕ). Puts a.out.now a.at v c.put_decimal.result c.put_decimal.new.out)
+    subst (λ (v : List ℕ). Writes v a.page.now c.put_decimal.new.self)
     (sym (signed_less (64 * a.byte) a.sum c.if-scaled-sum.true))
-    (then c.put-at.ensures c.put_decimal.ensures)
+    (next c.put.ensures c.put_decimal.ensures)
 
 pub returns : goal.returns
 unfolding difference
 returns c =
     let a = c.args in
-    subst (λ (v : List ℕ). Puts a.out.now a.at v c.put_decimal-2.result c.put_decimal-2.new.out)
+    subst (λ (v : List ℕ). Writes v a.page.now c.put_decimal-2.new.self)
     (sym (signed_more (64 * a.byte) a.sum c.if-scaled-sum.false))
     c.put_decimal-2.ensures

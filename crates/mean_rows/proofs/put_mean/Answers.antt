@@ -1,5 +1,5 @@
 -- The whole part, the point, and the fraction's six digits.
-use Rattle.text.specs.PutLaws.{then}
+use Rattle.text.specs.PagesLaws.{next}
 use Rattle.mean_rows.specs.MeanRows.{mean_text}
 use borrow.Author.Rules.{rules}
 use Rattle.mean_rows.proofs.put_mean.Goals as goal
@@ -7,4 +7,4 @@ use Rattle.mean_rows.proofs.put_mean.Goals as goal
 pub returns : goal.returns
 unfolding mean_text
 returns c =
-    then c.put_decimal-at.ensures (then c.put-at.ensures c.put_places.ensures)
+    next c.put_decimal.ensures (next c.put.ensures c.put_places.ensures)

@@ -1,14 +1,13 @@
 -- The words where it is a gap's refusal, and nothing elsewhere.
-use borrow.Author.Tests.{eq-eqb, ne_eqb}
-use Rattle.text.specs.PutLaws.{puts_none}
+use Rattle.text.specs.PagesLaws.{nothing}
 use Rattle.mean_rows.specs.MeanRows.{gap_refusal_words}
 use borrow.Author.Rules.{rules}
 use Rattle.mean_rows.proofs.put_reason.Goals as goal
 
-pub returns-then-refusal-eq-BAD_GAP : goal.returns-then-refusal-eq-BAD_GAP
+pub returns-then-eq : goal.returns-then-eq
 unfolding gap_refusal_words
-returns-then-refusal-eq-BAD_GAP c = simp (eq-eqb _ _ c.if-refusal-eq-BAD_GAP.true) c.put.ensures
+returns-then-eq c = simp (← c.eq.ensures, c.if-eq.true) c.put.ensures
 
-pub returns : goal.returns
+pub returns-else-eq : goal.returns-else-eq
 unfolding gap_refusal_words
-returns c = simp (ne_eqb _ _ c.if-refusal-eq-BAD_GAP.false) (puts_none _ _)
+returns-else-eq c = simp (← c.eq.ensures, c.if-eq.false) (nothing _)

@@ -3,10 +3,10 @@ use Rattle.mean_rows.specs.MeanRows.{means_row}
 use borrow.Author.Rules.{rules}
 use Rattle.mean_rows.proofs.put_row.Goals as goal
 
-pub returns-in-Given : goal.returns-in-Given
+pub returns-in-Ok : goal.returns-in-Ok
 unfolding means_row
-returns-in-Given c = simp c.in-Given.is c.put_given.ensures
+returns-in-Ok c = simp c.in-Ok.is c.put_given.ensures
 
-pub returns-in-Refused : goal.returns-in-Refused
+pub returns-in-Err : goal.returns-in-Err
 unfolding means_row
-returns-in-Refused c = simp c.in-Refused.is c.put_refused.ensures
+returns-in-Err c = simp c.in-Err.is c.put_refused.ensures

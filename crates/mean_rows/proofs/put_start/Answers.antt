@@ -1,5 +1,5 @@
 -- The three numbers, with a space after each.
-use Rattle.text.specs.PutLaws.{then}
+use Rattle.text.specs.PagesLaws.{next}
 use Rattle.mean_rows.specs.MeanRows.{start_words}
 use borrow.Author.Rules.{rules}
 use Rattle.mean_rows.proofs.put_start.Goals as goal
@@ -7,6 +7,6 @@ use Rattle.mean_rows.proofs.put_start.Goals as goal
 pub returns : goal.returns
 unfolding start_words
 returns c =
-    then c.put_decimal-at.ensures
-    (then c.put-at.ensures
-    (then c.put_decimal-at-2.ensures (then c.put-at-2.ensures (then c.put_decimal-at-3.ensures c.put.ensures))))
+    next c.put_decimal.ensures
+    (next c.put.ensures
+    (next c.put_decimal-2.ensures (next c.put-2.ensures (next c.put_decimal-3.ensures c.put-3.ensures))))

@@ -4,7 +4,6 @@ use Rattle.message_data.specs.RegisterLaws.{reached_counts, reached_still, reach
 use Rattle.message_data.specs.Registers.{reached}
 use Prim.Native.Nat.{◌+◌, ◌-◌, ◌<◌}
 use lib.ListN.{length}
-use borrow.Author.Rules.{rules}
 use native.Mathlib.Omega.{arith}
 use Rattle.message_data.proofs.left.Goals as goal
 

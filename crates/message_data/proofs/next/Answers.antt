@@ -1,6 +1,5 @@
 -- With increment it is one more, which cannot overflow up to 127; without it the index stays.
 use Rattle.message_data.specs.Registers.{next}
-use borrow.Author.Rules.{rules}
 use Rattle.message_data.proofs.next.Goals as goal
 
 pub returns-then-increment : goal.returns-then-increment

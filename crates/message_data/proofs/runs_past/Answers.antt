@@ -12,6 +12,6 @@ pub returns-then-increment : goal.returns-then-increment
 returns-then-increment c = let a = c.args in
     simp c.if-increment.true (sym (runs_past_counts a.index a.bytes.now (search rules)))
 
-pub returns : goal.returns
-returns c = let a = c.args in
+pub returns-else-increment : goal.returns-else-increment
+returns-else-increment c = let a = c.args in
     simp c.if-increment.false (sym (runs_past_still a.index a.bytes.now c.if-index-gt-LAST_INDEX.false))

@@ -1,7 +1,6 @@
 -- Data that passes 127 leaves the registers as they stand; any other may be stored whole.
 use mathlib.Core.Path.{sym, ◌∙◌}
 use Rattle.message_data.specs.Registers.{stored_whole}
-use borrow.Author.Rules.{rules}
 use Rattle.message_data.proofs.store.Goals as goal
 
 pub returns-then-runs_past : goal.returns-then-runs_past

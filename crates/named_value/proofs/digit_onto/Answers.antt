@@ -1,7 +1,6 @@
 -- Each test that fails makes it no number; past them one digit more stays within 65,535.
 use borrow.Author.Tests.{lt-ltb, le-ltb}
 use Rattle.named_value.specs.Number.{digit_onto}
-use borrow.Author.Rules.{rules}
 use Rattle.named_value.proofs.digit_onto.Goals as goal
 
 pub returns-then-c-lt48 : goal.returns-then-c-lt48

@@ -1,5 +1,4 @@
 -- Blanks stand before the number; a line that ends before them, or goes on otherwise, has none.
-use borrow.Author.Rules.{rules}
 use lib.ListN.{drop_of_length-le}
 use Rattle.named_value.specs.NumberLaws.{value_step}
 use Rattle.named_value.proofs.value.Goals as goal

@@ -1,18 +1,14 @@
--- At each turn every byte so far is a pixel; the bytes left fall.
-use mathlib.Core.Path.{refl, sym, ◌∙◌}
-use borrow.Author.Rules.{rules}
-use Rattle.pgm.proofs.Scanning.{pixels_step, pixels_end}
+-- `all` answers as the definition does, which recurses as `list_all`.
+use Rattle.std.proofs.Common.{◌&&◌, refl, ◌∙◌, rules, tests}
+use Rattle.std.specs.List.{list_all}
+use Rattle.std.proofs.lemmas.Iterator.{YieldsList-from_slice}
+use Rattle.std.proofs.lemmas.Iterator.Search.{all_from_yields_List}
+use Rattle.std.proofs.lemmas.List.Recursion.{same_from_clauses}
+use Rattle.profile.specs.Layout.{is_pixel}
+use Rattle.picture_file.specs.PictureFile.{pixels}
 use Rattle.pgm.proofs.all_pixels.Goals as goal
 
-pub loop-i-init : goal.loop-i-init
-loop-i-init c = (search rules, refl)
-
-pub loop-i-preserved : goal.loop-i-preserved
-loop-i-preserved c =
-    (search rules, c.loop-i.invariant.1 ∙ pixels_step _ _ c.loop-i-test.true ∙ simp (← c.is_pixel.ensures, c.if-is_pixel.true))
-
-pub returns-else-is_pixel : goal.returns-else-is_pixel
-returns-else-is_pixel c = sym (c.loop-i.invariant.1 ∙ pixels_step _ _ c.loop-i-test.true ∙ simp (← c.is_pixel.ensures, c.if-is_pixel.false))
-
 pub returns : goal.returns
-returns c = sym (c.loop-i.invariant.1 ∙ pixels_end _ _ c.loop-i-test.false)
+returns c =
+    all_from_yields_List is_pixel _ _ _ c.all.ensures.ran (YieldsList-from_slice c.args.bytes.now cc) (λ x b q k. search (rules, tests))
+    ∙ same_from_clauses (list_all is_pixel) pixels (λ x r. is_pixel x && r) refl (λ _ _. refl) (λ _ _. refl) c.args.bytes.now

@@ -1,7 +1,6 @@
 -- An odd pixel is at place (i - 1) / 2, an even one at 178 + i / 2, by the paper's test; after halving the sum cannot overflow.
 use borrow.Author.Tests.{eq-eqb, ne_eqb}
 use Rattle.pixel_order.specs.PixelOrder.{place_of}
-use borrow.Author.Rules.{rules}
 use Rattle.pixel_order.proofs.place_of.Goals as goal
 
 pub returns-then-i-eq1 : goal.returns-then-i-eq1

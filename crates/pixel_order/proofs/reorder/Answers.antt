@@ -8,7 +8,6 @@ use Rattle.lent_buffer.specs.Filled.{require}
 use Rattle.lent_buffer.specs.FilledLaws.{refuses, fills}
 use Rattle.pixel_order.specs.PixelOrder.{reorder_of}
 use Rattle.pixel_order.proofs.PixelOrderLaws.{reordered_length, in_order_lem}
-use borrow.Author.Rules.{rules}
 use Rattle.pixel_order.proofs.reorder.Goals as goal
 
 pub returns-then-kind-number : goal.returns-then-kind-number

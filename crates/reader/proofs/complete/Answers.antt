@@ -1,7 +1,6 @@
 -- The mark's answer is judged with what has left the window; the buffer follows that answer, and so does what the next mark keeps of it.
 use mathlib.Core.Path.{refl}
 use Rattle.mark_answer.specs.SoundLaws.{legible_body}
-use borrow.Author.Rules.{rules}
 use Rattle.reader.proofs.complete.Goals as goal
 
 pub returns : goal.returns

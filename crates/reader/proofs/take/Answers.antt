@@ -3,7 +3,6 @@ use mathlib.Core.Path.{sym, ap, ◌∙◌}
 use Prim.Native.Nat.{◌≤◌, ◌<◌}
 use native.Mathlib.Omega.{arith}
 use lib.ListN.{length}
-use borrow.Author.Rules.{rules}
 use Rattle.profile.specs.Profile.{body_length}
 use Rattle.reader.specs.Reader.{reader_of, taking}
 use Rattle.reader.proofs.Taking.{take_wrong, take_above, take_short, take_goes, gives_as, refuses}

@@ -1,6 +1,5 @@
 -- The oldest nibble leaves the window first; then a mark is complete, and answered with the body as it then is, or the window slides.
 use Rattle.reader.specs.Reader.{take_head, take_outcome}
-use borrow.Author.Rules.{rules}
 use Rattle.reader.proofs.taken.Goals as goal
 
 pub returns : goal.returns

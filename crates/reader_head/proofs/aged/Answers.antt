@@ -2,7 +2,6 @@
 use mathlib.Core.Path.{sym}
 use native.Mathlib.Omega.{arith}
 use Rattle.reader_head.proofs.Window.{aged_shift, all_aged}
-use borrow.Author.Rules.{rules}
 use Rattle.reader_head.proofs.aged.Goals as goal
 
 pub returns-then-k-lt-WINDOW : goal.returns-then-k-lt-WINDOW

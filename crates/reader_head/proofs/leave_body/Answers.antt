@@ -2,7 +2,6 @@
 use borrow.Author.Tests.{le-leb, lt-leb}
 use Rattle.reader_head.specs.Head.{leave_body}
 use Rattle.reader_head.proofs.Window.{body_nibble}
-use borrow.Author.Rules.{rules}
 use Rattle.reader_head.proofs.leave_body.Goals as goal
 
 pub returns-then-h-lt-WINDOW : goal.returns-then-h-lt-WINDOW

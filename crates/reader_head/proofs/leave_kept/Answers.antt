@@ -2,7 +2,6 @@
 use borrow.Author.Tests.{le-leb, lt-leb}
 use Rattle.reader_head.specs.Head.{leave_kept}
 use Rattle.reader_head.proofs.Window.{kept_nibble}
-use borrow.Author.Rules.{rules}
 use Rattle.reader_head.proofs.leave_kept.Goals as goal
 
 pub returns-then-h-lt-WINDOW : goal.returns-then-h-lt-WINDOW

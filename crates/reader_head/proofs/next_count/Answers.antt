@@ -1,7 +1,6 @@
 -- Below its stop the count goes up by one; at the stop it stays.
 use borrow.Author.Tests.{lt-ltb, le-ltb}
 use Rattle.reader_head.specs.Head.{bump}
-use borrow.Author.Rules.{rules}
 use Rattle.reader_head.proofs.next_count.Goals as goal
 
 pub returns-then-count-lt-COUNT_STOP : goal.returns-then-count-lt-COUNT_STOP

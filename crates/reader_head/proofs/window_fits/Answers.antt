@@ -1,5 +1,4 @@
 -- By whether a mark is open: each case is its own call.
-use borrow.Author.Rules.{rules}
 use Rattle.reader_head.proofs.window_fits.Goals as goal
 
 pub returns-in-NoMark : goal.returns-in-NoMark

@@ -2,7 +2,6 @@
 use mathlib.Core.Path.{◌≡◌}
 use Prim.Native.Nat.{◌/◌}
 use native.Mathlib.Omega.{arith}
-use borrow.Author.Rules.{rules}
 use Rattle.reason.specs.Sums.{failed_sums}
 use Rattle.reason.proofs.failed_sums.Goals as goal
 

@@ -1,7 +1,6 @@
 -- The text is all before the next mark, and the code is the pair that it begins with.
 use mathlib.Core.Path.{sym, ap, ◌∙◌}
 use lib.Seq.{length-take-le}
-use borrow.Author.Rules.{rules}
 use Rattle.reason.specs.Explanation.{code_at}
 use Rattle.reason.proofs.Steps.{nibbles_take, nibbles_rest, part_rest, first_of}
 use Rattle.reason.proofs.first_reason.Goals as goal

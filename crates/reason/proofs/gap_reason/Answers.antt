@@ -1,6 +1,5 @@
 -- By the profile: nothing but F, or two bytes first.
 use mathlib.Core.Path.{sym, ap, ◌∙◌}
-use borrow.Author.Rules.{rules}
 use Rattle.profile.specs.declared.Profile.{Profile}
 use Rattle.reason.specs.Explanation.{gap_reason}
 use Rattle.reason.proofs.gap_reason.Goals as goal

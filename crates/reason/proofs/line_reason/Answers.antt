@@ -3,7 +3,6 @@ use mathlib.Core.Path.{sym, ap, ◌∙◌}
 use Prim.Native.Nat.{ℕ, ◌+◌, ◌*◌}
 use native.Mathlib.Omega.{arith}
 use lib.ListN.{length}
-use borrow.Author.Rules.{rules}
 use Rattle.profile.specs.LayoutLaws.{body_small}
 use Rattle.reason.specs.declared.Reason.TheVariants.{WrongLength}
 use Rattle.reason.specs.Explanation.{line_reason}
@@ -19,16 +18,16 @@ overflow_add-wanted c = omega (arith, c.body_length.ensures, body_small c.args.p
 pub returns-then-text-wanted : goal.returns-then-text-wanted
 returns-then-text-wanted c =
     let a = c.args in
-    c.number_reason.ensures ∙ sym (ap (line_reason a.profile a.kind a.text.now) c.in-Code.is ∙ line_long a.profile a.kind a.text.now _ (c.if-text-wanted.true ∙ ap (λ (n : ℕ). 2 * n + 6) c.body_length.ensures))
+    c.number_reason.ensures ∙ sym (ap (line_reason a.profile a.kind a.text.now) c.in-Some.is ∙ line_long a.profile a.kind a.text.now _ (c.if-text-wanted.true ∙ ap (λ (n : ℕ). 2 * n + 6) c.body_length.ensures))
 
-pub returns-in-Finish : goal.returns-in-Finish
+pub returns-in-None : goal.returns-in-None
 unfolding line_reason
-returns-in-Finish c =
+returns-in-None c =
     let a = c.args in
-    sym (ap (line_reason a.profile a.kind a.text.now) c.in-Finish.is)
+    sym (ap (line_reason a.profile a.kind a.text.now) c.in-None.is)
 
 pub returns-else-text-wanted : goal.returns-else-text-wanted
 returns-else-text-wanted c =
     let a = c.args in
     let e = ap (λ (n : ℕ). 2 * n + 6) c.body_length.ensures in
-    sym (ap (line_reason a.profile a.kind a.text.now) c.in-Code.is ∙ line_wrong a.profile a.kind a.text.now _ (λ q. c.if-text-wanted.false (q ∙ sym e)) ∙ ap (WrongLength (length a.text.now)) (sym e))
+    sym (ap (line_reason a.profile a.kind a.text.now) c.in-Some.is ∙ line_wrong a.profile a.kind a.text.now _ (λ q. c.if-text-wanted.false (q ∙ sym e)) ∙ ap (WrongLength (length a.text.now)) (sym e))

@@ -1,6 +1,5 @@
 -- By the reading of the code: a meaning, or damaged with the sums that fail.
 use mathlib.Core.Path.{sym, ap, ◌∙◌}
-use borrow.Author.Rules.{rules}
 use Rattle.line_code.specs.declared.Reading.{Reading}
 use Rattle.reason.specs.declared.Reason.TheVariants.{DamagedCode}
 use Rattle.reason.specs.Explanation.{reading_reason, reason_of}

@@ -1,6 +1,5 @@
 -- By the meaning of the code.
 use mathlib.Core.Path.{sym, ap, ◌∙◌}
-use borrow.Author.Rules.{rules}
 use Rattle.line_code.specs.declared.Meaning.{Meaning}
 use Rattle.reason.specs.Explanation.{meaning_reason}
 use Rattle.reason.proofs.meaning_reason.Goals as goal

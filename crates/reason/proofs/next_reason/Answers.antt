@@ -1,5 +1,4 @@
 -- By whether the next code reads as end of line.
-use borrow.Author.Rules.{rules}
 use Rattle.reason.specs.Explanation.{next_reason}
 use Rattle.reason.proofs.next_reason.Goals as goal
 

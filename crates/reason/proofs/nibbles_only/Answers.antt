@@ -1,21 +1,12 @@
--- Input after input: none before the place reached is above 15.
-use mathlib.Core.Path.{◌≡◌, refl, sym, ◌∙◌}
-use Prim.Native.Nat.{◌≤◌, ◌-◌}
-use lib.ListN.{length, drop}
+-- Each input is tried: all are at most 15, or one is above.
+use Prim.Native.Nat.{◌<◌, ◌≤◌}
 use borrow.Author.Rules.{rules}
-use borrow.Author.Tests.{le-leb, lt-leb}
-use Rattle.stream.specs.Nibbles.{nibbles_only}
-use Rattle.reason.proofs.Steps.{nibbles_step, nibbles_end}
+use borrow.Author.Tests.{tests}
+use Rattle.std.proofs.lemmas.Iterator.{cases_from_all, YieldsList-from_slice}
+use Rattle.reason.proofs.Steps.{nibbles_tried}
 use Rattle.reason.proofs.nibbles_only.Goals as goal
 
-pub loop-i-init : goal.loop-i-init
-loop-i-init c = (search rules, refl)
-
-pub returns-then-run-i-gt15 : goal.returns-then-run-i-gt15
-returns-then-run-i-gt15 c = sym (c.loop-i.invariant.1 ∙ nibbles_step _ _ c.loop-i-test.true ∙ simp (lt-leb _ _ c.if-run-i-gt15.true))
-
-pub loop-i-preserved : goal.loop-i-preserved
-loop-i-preserved c = (search rules, c.loop-i.invariant.1 ∙ nibbles_step _ _ c.loop-i-test.true ∙ simp (le-leb _ _ c.if-run-i-gt15.false))
-
 pub returns : goal.returns
-returns c = sym (c.loop-i.invariant.1 ∙ nibbles_end _ _ c.loop-i-test.false)
+returns c =
+    nibbles_tried _ _
+    (cases_from_all _ _ _ (λ x. x ≤ 15) (λ x. 15 < x) c.all.ensures.ran (YieldsList-from_slice c.args.run.now cc) (λ x q k. search (rules, tests)) (λ x q k. search (rules, tests)))

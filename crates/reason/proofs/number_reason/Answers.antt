@@ -1,6 +1,5 @@
 -- The first number byte, then the second, then the body.
 use mathlib.Core.Path.{sym, ap, ◌∙◌}
-use borrow.Author.Rules.{rules}
 use Rattle.line_number.specs.LineNumber.{number_good}
 use Rattle.reason.specs.declared.Reason.TheVariants.{BadNumber}
 use Rattle.reason.specs.Explanation.{pair_at, line_from_body}

@@ -1,6 +1,5 @@
 -- Two nibbles make a byte, since neither is above 15.
 use Prim.Native.Nat.{◌+◌}
-use borrow.Author.Rules.{rules}
 use Rattle.reason.proofs.Steps.{nibble_small}
 use Rattle.reason.proofs.pair_at.Goals as goal
 

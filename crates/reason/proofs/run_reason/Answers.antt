@@ -2,7 +2,6 @@
 use mathlib.Core.Path.{sym, ap, ap₂, ◌∙◌}
 use native.Mathlib.Omega.{arith}
 use lib.ListN.{length, length-drop}
-use borrow.Author.Rules.{rules}
 use Rattle.reason.specs.Explanation.{first_reason}
 use Rattle.reason.proofs.Steps.{nibbles_rest, part_rest, run_13, run_10, run_36, run_first}
 use Rattle.reason.proofs.run_reason.Goals as goal

@@ -1,6 +1,5 @@
 -- By the length, the first byte, the second, and then what follows.
 use mathlib.Core.Path.{sym, ap₂, ◌∙◌}
-use borrow.Author.Rules.{rules}
 use Rattle.profile.specs.Layout.{allows}
 use Rattle.reason.proofs.Steps.{gap_short, two_good, two_second, two_first}
 use Rattle.reason.proofs.two_bytes_reason.Goals as goal

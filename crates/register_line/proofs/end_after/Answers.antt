@@ -1,5 +1,4 @@
 -- A blank leaves the end where it is; any other character moves it.
-use borrow.Author.Rules.{rules}
 use Rattle.register_line.proofs.end_after.Goals as goal
 
 pub returns-then-is_blank : goal.returns-then-is_blank

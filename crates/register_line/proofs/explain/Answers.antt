@@ -1,6 +1,5 @@
 -- A message's line is explained as one; any other line is unknown.
 use mathlib.Core.Path.{refl}
-use borrow.Author.Rules.{rules}
 use Rattle.register_line.specs.Line.{text_by, refused_by, sensor_by}
 use Rattle.register_line.proofs.explain.Goals as goal
 

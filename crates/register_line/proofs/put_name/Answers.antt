@@ -1,7 +1,6 @@
 -- A line that ends before the place is put whole; of a longer one the front is.
 use mathlib.Core.Path.{sym}
 use native.Mathlib.Omega.{arith}
-use borrow.Author.Rules.{rules}
 use lib.Seq.{take_all, length-take-le}
 use Rattle.register_line.proofs.put_name.Goals as goal
 

@@ -2,7 +2,6 @@
 use mathlib.Core.Path.{sym, ◌∙◌}
 use native.Mathlib.Omega.{arith}
 use lib.ListN.{length}
-use borrow.Author.Rules.{rules}
 use Rattle.reader.specs.Reader.{reader_of}
 use Rattle.run.proofs.LegibleRuns.{legible_run}
 use Rattle.run.proofs.Running.{lent_wrong, lent_right, run_fails, run_short, run_goes, gives_lent, refuses}

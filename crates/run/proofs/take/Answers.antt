@@ -1,7 +1,6 @@
 -- Nothing is refused, so what the reader's own call gives is a nibble taken.
 use native.Mathlib.Omega.{arith}
 use lib.ListN.{length}
-use borrow.Author.Rules.{rules}
 use Rattle.reader.specs.Reader.{reader_of}
 use Rattle.reader.proofs.Taking.{take_goes, gives_as}
 use Rattle.run.proofs.take.Goals as goal

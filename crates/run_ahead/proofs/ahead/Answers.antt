@@ -1,5 +1,4 @@
 -- Up to the body's end, and past it, which leads on from where that stopped.
-use borrow.Author.Rules.{rules}
 use Rattle.run_ahead.proofs.Pairs.{nothing_ahead, wrong_body, wherever, gives_ahead}
 use Rattle.run_ahead.proofs.ahead.Goals as goal
 

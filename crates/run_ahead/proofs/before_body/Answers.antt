@@ -2,12 +2,11 @@
 use mathlib.Core.Path.{◌≡◌, refl, sym}
 use mathlib.Core.List.{List}
 use mathlib.Core.Logic.{◌⊎◌, inl, inr}
-use Prim.Native.Nat.{ℕ, ◌+◌, ◌-◌, ◌%◌, ◌≤◌, ◌<◌}
+use Prim.Native.Nat.{ℕ, ◌+◌, ◌-◌, ◌<◌}
 use native.Mathlib.Omega.{arith}
 use lib.ListN.{length}
 use borrow.Author.Rules.{rules}
-use Rattle.run_ahead.specs.Parts.{Leads}
-use Rattle.run_ahead.proofs.Pairs.{head, Stands, Turn, turn, reads, fewer, stands_next, leads_before, leads_here, leads_on, here, reaches, ended}
+use Rattle.run_ahead.proofs.Pairs.{turn, reads, fewer, stands_next, leads_before, leads_here, leads_on, here, reaches, ended}
 use Rattle.run_ahead.proofs.before_body.Goals as goal
 
 -- the part's own end, or the run's
@@ -31,30 +30,22 @@ loop-kept-init c =
 
 pub slide_byte-window-requires : goal.slide_byte-window-requires
 slide_byte-window-requires c =
-    let there : let a = c.args in
-    let l = c.loop-kept in
-    Turn a.s.now a.from c.sooner-end.result l.window l.i = (turn c.loop-kept.invariant.1 c.is_pair.ensures c.loop-kept-test.true) in
-    reads (there)
+    let there = turn c.loop-kept.invariant.1 c.is_pair.ensures c.loop-kept-test.true in
+    reads there
 
 pub overflow_add-i : goal.overflow_add-i
 overflow_add-i c =
-    let there : let a = c.args in
-    let l = c.loop-kept in
-    Turn a.s.now a.from c.sooner-end.result l.window l.i = (turn c.loop-kept.invariant.1 c.is_pair.ensures c.loop-kept-test.true) in
-    omega (arith, (reads (there)).0)
+    let there = turn c.loop-kept.invariant.1 c.is_pair.ensures c.loop-kept-test.true in
+    omega (arith, (reads there).0)
 
 pub loop-kept-smaller : goal.loop-kept-smaller
 loop-kept-smaller c =
-    let there : let a = c.args in
-    let l = c.loop-kept in
-    Turn a.s.now a.from c.sooner-end.result l.window l.i = (turn c.loop-kept.invariant.1 c.is_pair.ensures c.loop-kept-test.true) in
-    fewer (there)
+    let there = turn c.loop-kept.invariant.1 c.is_pair.ensures c.loop-kept-test.true in
+    fewer there
 
 pub loop-kept-preserved : goal.loop-kept-preserved
 loop-kept-preserved c =
-    let there : let a = c.args in
-    let l = c.loop-kept in
-    Turn a.s.now a.from c.sooner-end.result l.window l.i = (turn c.loop-kept.invariant.1 c.is_pair.ensures c.loop-kept-test.true) in
+    let there = turn c.loop-kept.invariant.1 c.is_pair.ensures c.loop-kept-test.true in
     let l = c.loop-kept in
     let t = there in
     let f = t.fits in (

@@ -1,5 +1,4 @@
 -- The byte that leaves at count 10 is the first after the code, at 12 the second; before that it is the code's own.
-use borrow.Author.Rules.{rules}
 use borrow.Author.Tests.{lt-ltb, le-ltb, eq-eqb, ne_eqb}
 use Rattle.run_ahead.specs.Parts.{byte_kept}
 use Rattle.run_ahead.proofs.keep_byte.Goals as goal

@@ -1,7 +1,6 @@
 -- A count at its stop is held there; one that would pass it comes to it.
 use native.Mathlib.Omega.{arith}
 use mathlib.Core.Path.{sym}
-use borrow.Author.Rules.{rules}
 use Rattle.run_ahead.proofs.Blocks.{later_held, later_below, later_stop}
 use Rattle.run_ahead.proofs.later_count.Goals as goal
 

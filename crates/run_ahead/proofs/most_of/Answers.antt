@@ -1,22 +1,12 @@
 -- At each turn no input that is passed is above the number.
-use Prim.Native.Nat.{ℕ, ◌+◌, ◌-◌, ◌≤◌, ◌<◌}
+use Prim.Native.Nat.{◌+◌, ◌-◌, ◌<◌}
 use native.Mathlib.Omega.{arith}
-use lib.ListN.{get_or}
-use borrow.Author.Rules.{rules}
-use Rattle.run_ahead.proofs.Blocks.{more_below}
+use Rattle.std.proofs.lemmas.List.Edits.{length-between}
+use Rattle.run_ahead.proofs.Blocks.{in_part}
 use Rattle.run_ahead.proofs.most_of.Goals as goal
 
-pub loop-k-init : goal.loop-k-init
-loop-k-init c = (omega arith, λ x a b. absurd (omega arith))
-
-pub loop-k-preserved : goal.loop-k-preserved
-loop-k-preserved c =
-    let l = c.loop-k in
-    let a = c.args in
-    let e = c.at_least-most.ensures in (
-      omega arith,
-      more_below (λ (x : ℕ). get_or a.s.now x 0 ≤ c.at_least-most.result) a.i l.k (λ x u v. omega (arith, l.invariant.1 x u v, e.0)) e.1,
-    )
-
 pub returns : goal.returns
-returns c = λ x u v. c.loop-k.invariant.1 x u (omega arith)
+returns c = λ x u v.
+    let a = c.args in
+    let passed : x - a.i < c.loop-x.x-index = omega (arith, c.loop-x-test.false, length-between a.s.now a.i (a.i + a.n) (omega (arith, c.requires))) in
+    omega (arith, c.loop-x.invariant (x - a.i) passed, in_part a.s.now a.i a.n x u v)

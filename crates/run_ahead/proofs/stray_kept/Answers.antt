@@ -1,5 +1,4 @@
 -- In profile 0 each byte after the code must be F F; in profile 1 the two bytes are the gap's own, and nothing is noted.
-use borrow.Author.Rules.{rules}
 use Rattle.run_ahead.proofs.stray_kept.Goals as goal
 
 pub returns-in-VV5404 : goal.returns-in-VV5404

@@ -1,7 +1,6 @@
 -- Four bytes slid into an empty window.
 use Prim.Native.Nat.{◌+◌}
 use native.Mathlib.Omega.{arith}
-use borrow.Author.Rules.{rules}
 use Rattle.run_ahead.proofs.Blocks.{window_slid}
 use Rattle.run_ahead.proofs.window_from.Goals as goal
 

@@ -1,8 +1,7 @@
 -- The name, then the number.
-use borrow.Author.Rules.{rules}
-use Rattle.text.specs.PutLaws.{then}
+use Rattle.text.specs.PagesLaws.{next}
 use Rattle.saved_lines.proofs.put_field.Goals as goal
 
 pub returns : goal.returns
 returns c =
-    then c.put-next.ensures c.put_decimal.ensures
+    next c.put.ensures c.put_decimal.ensures

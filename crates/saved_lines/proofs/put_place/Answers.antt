@@ -1,14 +1,13 @@
 -- An unused place has no line; any other has its setting's.
-use borrow.Author.Rules.{rules}
 use borrow.Author.Tests.{eq-eqb, ne_eqb}
-use Rattle.text.specs.PutLaws.{puts_none}
+use Rattle.text.specs.PagesLaws.{nothing}
 use Rattle.saved_lines.specs.SavedLines.{place_line}
 use Rattle.saved_lines.proofs.put_place.Goals as goal
 
-pub returns-then-version-eq0 : goal.returns-then-version-eq0
+pub returns-then-version-ne0 : goal.returns-then-version-ne0
 unfolding place_line
-returns-then-version-eq0 c = simp (eq-eqb _ _ c.if-version-eq0.true) (puts_none _ _)
+returns-then-version-ne0 c = simp (ne_eqb _ _ c.if-version-ne0.true) c.put_setting.ensures
 
-pub returns : goal.returns
+pub returns-else-version-ne0 : goal.returns-else-version-ne0
 unfolding place_line
-returns c = simp (ne_eqb _ _ c.if-version-eq0.false) c.put_setting.ensures
+returns-else-version-ne0 c = simp (eq-eqb _ _ c.if-version-ne0.false) (nothing _)

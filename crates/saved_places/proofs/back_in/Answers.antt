@@ -3,10 +3,10 @@ use borrow.Author.Rules.{rules}
 use Rattle.saved_setting.specs.SavedSettings.{saved_again}
 use Rattle.saved_places.proofs.back_in.Goals as goal
 
-pub returns-in-Setting : goal.returns-in-Setting
+pub returns-in-Ok : goal.returns-in-Ok
 unfolding saved_again
-returns-in-Setting c = record { answers = simp (c.save_next.ensures.answers, ← c.find_in-found.ensures, c.in-Setting.is); leaves = simp (c.save_next.ensures.leaves, ← c.find_in-found.ensures, c.in-Setting.is) }
+returns-in-Ok c = record { answers = simp (c.save_next.ensures.answers, ← c.in-Ok.ensures); leaves = simp (c.save_next.ensures.leaves, ← c.in-Ok.ensures) }
 
-pub returns-in-Refused : goal.returns-in-Refused
+pub returns-in-Err : goal.returns-in-Err
 unfolding saved_again
-returns-in-Refused c = record { answers = simp (c.refused.ensures.0, ← c.find_in-found.ensures, c.in-Refused.is); leaves = simp (c.refused.ensures.1, ← c.find_in-found.ensures, c.in-Refused.is) }
+returns-in-Err c = record { answers = simp (c.refused.ensures.0, ← c.in-Err.ensures); leaves = simp (c.refused.ensures.1, ← c.in-Err.ensures) }

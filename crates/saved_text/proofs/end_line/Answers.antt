@@ -1,5 +1,4 @@
 -- Where a place is left the line's setting is stored there; otherwise the places stay.
-use borrow.Author.Rules.{rules}
 use borrow.Author.Tests.{lt-ltb, le-ltb}
 use Rattle.saved_text.proofs.end_line.Goals as goal
 

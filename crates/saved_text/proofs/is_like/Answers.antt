@@ -1,24 +1,21 @@
--- At each turn the texts so far were alike, and what is left of them decides; the characters left fall.
-use mathlib.Core.Path.{◌≡◌, refl, sym, ◌∙◌}
-use Prim.Native.Nat.{◌≤◌, ◌-◌}
+-- At each turn the texts so far were alike, and what is left of them decides.
+use mathlib.Core.Path.{refl, sym, ◌∙◌}
 use borrow.Author.Rules.{rules}
-use lib.ListN.{length, drop}
-use Rattle.saved_text.specs.SettingsText.{is_like}
 use Rattle.saved_text.specs.SettingsTextLaws.{like_step, like_end}
 use Rattle.saved_text.proofs.is_like.Goals as goal
 
-pub loop-i-init : goal.loop-i-init
-loop-i-init c = (search rules, search rules, refl)
+pub loop-c-init : goal.loop-c-init
+loop-c-init c = (search rules, refl)
 
-pub loop-i-preserved : goal.loop-i-preserved
-loop-i-preserved c =
+pub loop-c-preserved : goal.loop-c-preserved
+loop-c-preserved c =
     let a = c.args in
-    (search rules, search rules, c.loop-i.invariant.2 ∙ like_step a.text.now c.loop-i.i c.loop-i-test.true a.whole.now c.loop-i.at ∙ simp (← c.stands.ensures, c.if-stands.true, c.covers-at.ensures.0))
+    (search rules, c.loop-c.invariant.1 ∙ like_step a.text.now c.loop-c.c-index c.loop-c-test.true a.whole.now c.loop-c.at ∙ simp (← c.stands.ensures, c.if-not-stands.false, c.covers-at.ensures.0))
 
-pub returns-else-stands : goal.returns-else-stands
-returns-else-stands c =
+pub returns-then-not-stands : goal.returns-then-not-stands
+returns-then-not-stands c =
     let a = c.args in
-    sym (c.loop-i.invariant.2 ∙ like_step a.text.now c.loop-i.i c.loop-i-test.true a.whole.now c.loop-i.at ∙ simp (← c.stands.ensures, c.if-stands.false))
+    sym (c.loop-c.invariant.1 ∙ like_step a.text.now c.loop-c.c-index c.loop-c-test.true a.whole.now c.loop-c.at ∙ simp (← c.stands.ensures, c.if-not-stands.true))
 
 pub returns : goal.returns
-returns c = c.at_most_newline.ensures ∙ sym (c.loop-i.invariant.2 ∙ like_end _ _ _ c.loop-i-test.false)
+returns c = c.at_most_newline.ensures ∙ sym (c.loop-c.invariant.1 ∙ like_end _ _ _ c.loop-c-test.false)

@@ -1,5 +1,4 @@
 -- Eight unused places, and no numbers.
-use borrow.Author.Rules.{rules}
 use Rattle.saved_text.proofs.nothing_gathered.Goals as goal
 
 pub returns : goal.returns

@@ -1,5 +1,4 @@
 -- Both tests are made of the list of the text's numbers, the second where the first is passed.
-use borrow.Author.Rules.{rules}
 use Rattle.saved_text.specs.SettingsText.{is_settings_text}
 use Rattle.saved_text.proofs.read.Goals as goal
 

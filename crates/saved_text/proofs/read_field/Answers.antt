@@ -1,5 +1,4 @@
 -- The tests in the definition's order.
-use borrow.Author.Rules.{rules}
 use borrow.Author.Tests.{le-leb, lt-leb, eq-eqb, ne_eqb}
 use Rattle.saved_text.specs.SettingsText.{fields_after}
 use Rattle.saved_text.proofs.read_field.Goals as goal

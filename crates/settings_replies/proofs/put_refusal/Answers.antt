@@ -1,7 +1,6 @@
 -- The number, then its words.
-use Rattle.text.specs.PutLaws.{then}
-use borrow.Author.Rules.{rules}
+use Rattle.text.specs.PagesLaws.{next}
 use Rattle.settings_replies.proofs.put_refusal.Goals as goal
 
 pub returns : goal.returns
-returns c = then c.put_field-next.ensures c.put_words.ensures
+returns c = next c.put_field.ensures c.put_words.ensures

@@ -1,25 +1,23 @@
--- One number after another is tried, in the order of the definition; the words of the one that it is are put.
-use borrow.Author.Tests.{eq-eqb, ne_eqb}
+-- One refusal after another is tried, in the order of the definition; the words of the one that it is are put.
 use Rattle.settings_replies.specs.SettingsWords.{settings_refusal}
-use borrow.Author.Rules.{rules}
 use Rattle.settings_replies.proofs.put_words.Goals as goal
 
-pub returns-then-number-eq-BAD_SETTING : goal.returns-then-number-eq-BAD_SETTING
+pub returns-then-eq : goal.returns-then-eq
 unfolding settings_refusal
-returns-then-number-eq-BAD_SETTING c =
-    simp (eq-eqb _ _ c.if-number-eq-BAD_SETTING.true) c.put.ensures
+returns-then-eq c =
+    simp (← c.eq.ensures, c.if-eq.true) c.put.ensures
 
-pub returns-then-number-eq-VERSION_NOT_HELD : goal.returns-then-number-eq-VERSION_NOT_HELD
+pub returns-then-eq-2 : goal.returns-then-eq-2
 unfolding settings_refusal
-returns-then-number-eq-VERSION_NOT_HELD c =
-    simp (ne_eqb _ _ c.if-number-eq-BAD_SETTING.false, eq-eqb _ _ c.if-number-eq-VERSION_NOT_HELD.true) c.put-then-number-eq-VERSION_NOT_HELD.ensures
+returns-then-eq-2 c =
+    simp (← c.eq.ensures, c.if-eq.false, ← c.eq-2.ensures, c.if-eq-2.true) c.put-then-eq-2.ensures
 
-pub returns-then-number-eq-NO_VERSION_LEFT : goal.returns-then-number-eq-NO_VERSION_LEFT
+pub returns-then-eq-3 : goal.returns-then-eq-3
 unfolding settings_refusal
-returns-then-number-eq-NO_VERSION_LEFT c =
-    simp (ne_eqb _ _ c.if-number-eq-BAD_SETTING.false, ne_eqb _ _ c.if-number-eq-VERSION_NOT_HELD.false, eq-eqb _ _ c.if-number-eq-NO_VERSION_LEFT.true) c.put-then-number-eq-NO_VERSION_LEFT.ensures
+returns-then-eq-3 c =
+    simp (← c.eq.ensures, c.if-eq.false, ← c.eq-2.ensures, c.if-eq-2.false, ← c.eq-3.ensures, c.if-eq-3.true) c.put-then-eq-3.ensures
 
 pub returns : goal.returns
 unfolding settings_refusal
 returns c =
-    simp (ne_eqb _ _ c.if-number-eq-BAD_SETTING.false, ne_eqb _ _ c.if-number-eq-VERSION_NOT_HELD.false, ne_eqb _ _ c.if-number-eq-NO_VERSION_LEFT.false) c.put-2.ensures
+    simp (← c.eq.ensures, c.if-eq.false, ← c.eq-2.ensures, c.if-eq-2.false, ← c.eq-3.ensures, c.if-eq-3.false) c.put-2.ensures

@@ -1,5 +1,4 @@
 -- Each request by its own function.
-use borrow.Author.Rules.{rules}
 use Rattle.settings_request.proofs.respond.Goals as goal
 
 pub returns-in-Save : goal.returns-in-Save

@@ -1,16 +1,17 @@
 -- What was saved again is said as it is then found; a refusal is said as such.
 use mathlib.Core.Path.{refl}
 use mathlib.Core.List.{append-nil}
+use Rattle.text.specs.PagesLaws.{from_front}
 use Rattle.settings_request.specs.SettingsRequest.{saving}
 use borrow.Author.Rules.{rules}
 use Rattle.settings_request.proofs.respond_back.Goals as goal
 
-pub returns-in-Version : goal.returns-in-Version
+pub returns-in-Ok : goal.returns-in-Ok
 unfolding saving
-returns-in-Version c =
-    simp (← c.back_held-kept.ensures.answers, ← c.back_held-kept.ensures.leaves, c.in-Version.is, append-nil) (record { lists = refl; changes = refl; refuses = refl; says = c.put_held-said.ensures })
+returns-in-Ok c =
+    simp (← c.back_held-kept.ensures.answers, ← c.back_held-kept.ensures.leaves, c.in-Ok.is, append-nil) (record { lists = refl; changes = refl; refuses = refl; says = search (rules, from_front c.new-page.ensures c.put_held.ensures) })
 
-pub returns-in-Refused : goal.returns-in-Refused
+pub returns-in-Err : goal.returns-in-Err
 unfolding saving
-returns-in-Refused c =
-    simp (← c.back_held-kept.ensures.answers, ← c.back_held-kept.ensures.leaves, c.in-Refused.is) c.refuse.ensures
+returns-in-Err c =
+    simp (← c.back_held-kept.ensures.answers, ← c.back_held-kept.ensures.leaves, c.in-Err.is) c.refuse.ensures

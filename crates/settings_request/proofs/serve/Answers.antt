@@ -2,6 +2,7 @@
 use mathlib.Core.Path.{◌≡◌, refl, sym, ap, ◌∙◌}
 use mathlib.Core.Bool.{true, false}
 use Rattle.text.specs.PutLaws.{puts_none}
+use Rattle.text.specs.PagesLaws.{from_front}
 use Rattle.saved_text.specs.declared.Restored.{Restored}
 use Rattle.saved_text.specs.SettingsText.{numbers_of, is_settings_text}
 use Rattle.settings_request.specs.SettingsRequest.{service}
@@ -17,7 +18,7 @@ returns-then-read c =
     simp (valid, list) (record {
       changes = c.respond-response.ensures.changes;
       refuses = c.respond-response.ensures.refuses;
-      writes = rw (← c.respond-response.ensures.lists) c.put_settings-end.ensures;
+      writes = rw (← c.respond-response.ensures.lists) (search (rules, from_front c.new-page.ensures c.put_settings.ensures));
       says = c.respond-response.ensures.says;
     })
 
@@ -26,4 +27,4 @@ unfolding service
 returns c =
     let text = c.args.text.now in
     let invalid : is_settings_text text ≡ false = sym (ap (λ (r : Restored). r.valid) c.read-read.ensures) ∙ c.if-read.false in
-    simp invalid (record { changes = refl; refuses = refl; writes = puts_none _ _; says = c.put_refusal-said.ensures })
+    simp invalid (record { changes = refl; refuses = refl; writes = puts_none _ _; says = search (rules, from_front c.new-page-2.ensures c.put_refusal.ensures) })

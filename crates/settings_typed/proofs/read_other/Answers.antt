@@ -1,6 +1,5 @@
 -- One verb after another is tried, in the order of the definition.
 use Rattle.settings_typed.specs.RequestWords.{other_asked}
-use borrow.Author.Rules.{rules}
 use Rattle.settings_typed.proofs.read_other.Goals as goal
 
 pub returns-then-is : goal.returns-then-is

@@ -1,7 +1,6 @@
 -- By the one test.
 use borrow.Author.Tests.{le-leb, lt-leb}
 use Rattle.settings_typed.specs.RequestWords.{up_to}
-use borrow.Author.Rules.{rules}
 use Rattle.settings_typed.proofs.short.Goals as goal
 
 pub returns-then-n-le-GREATEST : goal.returns-then-n-le-GREATEST

@@ -1,5 +1,4 @@
 -- Each number within its limit.
-use borrow.Author.Rules.{rules}
 use Rattle.settings_typed.proofs.wanted.Goals as goal
 
 pub returns : goal.returns

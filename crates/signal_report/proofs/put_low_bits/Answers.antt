@@ -1,13 +1,13 @@
 -- A line for each, one after another.
 use Rattle.signal_report.specs.SignalReport.{low_bits}
-use Rattle.text.specs.PutLaws.{then}
+use Rattle.text.specs.PagesLaws.{next}
 use borrow.Author.Rules.{rules}
 use Rattle.signal_report.proofs.put_low_bits.Goals as goal
 
 pub returns : goal.returns
 unfolding low_bits
 returns c =
-    then c.put_bit-at.ensures
-    (then c.put_bit-at-2.ensures
-    (then c.put_bit-at-3.ensures
-    c.put_bit.ensures))
+    next c.put_bit.ensures
+    (next c.put_bit-2.ensures
+    (next c.put_bit-3.ensures
+    c.put_bit-4.ensures))

@@ -6,5 +6,5 @@ use Rattle.signal_report.proofs.put_noun.Goals as goal
 pub returns-then-count-eq1 : goal.returns-then-count-eq1
 returns-then-count-eq1 c = simp (eq-eqb _ _ c.if-count-eq1.true) c.put.ensures
 
-pub returns : goal.returns
-returns c = simp (ne_eqb _ _ c.if-count-eq1.false) c.put-2.ensures
+pub returns-else-count-eq1 : goal.returns-else-count-eq1
+returns-else-count-eq1 c = simp (ne_eqb _ _ c.if-count-eq1.false) c.put-else-count-eq1.ensures

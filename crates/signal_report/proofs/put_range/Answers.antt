@@ -1,11 +1,11 @@
 -- The parts, one after another.
-use Rattle.text.specs.PutLaws.{then}
+use Rattle.text.specs.PagesLaws.{next}
 use borrow.Author.Rules.{rules}
 use Rattle.signal_report.proofs.put_range.Goals as goal
 
 pub returns : goal.returns
 returns c =
-    then c.put_decimal-at.ensures
-    (then c.put-at.ensures
-    (then c.put_decimal-at-2.ensures
-    c.put.ensures))
+    next c.put_decimal.ensures
+    (next c.put.ensures
+    (next c.put_decimal-2.ensures
+    c.put-2.ensures))

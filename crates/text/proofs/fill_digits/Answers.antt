@@ -1,10 +1,9 @@
 -- From the last digit on: those left to put, and those behind the place, are the number's.
-use mathlib.Core.Path.{◌≡◌, sym, ap, ◌∙◌}
+use mathlib.Core.Path.{sym, ap, ◌∙◌}
 use mathlib.Core.List.{List, ◌++◌, append-nil}
-use Prim.Native.Nat.{ℕ, ◌-◌, ◌<◌, ◌≤◌}
+use Prim.Native.Nat.{ℕ, ◌-◌}
 use native.Mathlib.Omega.{arith}
-use borrow.Author.Rules.{rules}
-use lib.ListN.{length, drop, length-set, drop_of_length-le}
+use lib.ListN.{length-set, drop_of_length-le}
 use Rattle.text.specs.Text.{digits, decimal}
 use Rattle.text.specs.TextLaws.{more_places, digit_put, last_put}
 use Rattle.text.proofs.fill_digits.Goals as goal

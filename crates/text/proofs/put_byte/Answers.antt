@@ -1,5 +1,4 @@
 -- A byte beyond the buffer's end is left out, and the place stays.
-use borrow.Author.Rules.{rules}
 use Rattle.text.specs.PutLaws.{puts_one, puts_out}
 use Rattle.text.proofs.put_byte.Goals as goal
 

@@ -1,7 +1,6 @@
 -- The greatest u64 has 20 digits: so many places hold any number, and the digits in them are put as a text.
 use Prim.Native.Nat.{◌-◌}
 use native.Mathlib.Omega.{arith}
-use borrow.Author.Rules.{rules}
 use Rattle.text.specs.PutLaws.{puts_rest}
 use Rattle.text.proofs.put_decimal.Goals as goal
 

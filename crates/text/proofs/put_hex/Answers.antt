@@ -1,5 +1,4 @@
 -- The high digit, then the low one.
-use borrow.Author.Rules.{rules}
 use Rattle.text.specs.PutLaws.{then}
 use Rattle.text.proofs.put_hex.Goals as goal
 

@@ -1,6 +1,5 @@
 -- Two digits, each at most 16, joined and cut to a byte: nothing overflows sixteen bits.
 use Rattle.two_wire_text.specs.Hex.{byte_of}
-use borrow.Author.Rules.{rules}
 use Rattle.two_wire_text.proofs.byte_of.Goals as goal
 
 pub returns : goal.returns

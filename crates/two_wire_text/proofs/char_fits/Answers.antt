@@ -2,7 +2,6 @@
 use Prim.Native.Nat.{◌%◌}
 use borrow.Author.Tests.{eq-eqb, ne_eqb}
 use Rattle.two_wire_text.specs.Hex.{char_fits}
-use borrow.Author.Rules.{rules}
 use Rattle.two_wire_text.proofs.char_fits.Goals as goal
 
 pub returns-then-place-eq2 : goal.returns-then-place-eq2

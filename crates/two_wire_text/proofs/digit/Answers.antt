@@ -1,7 +1,6 @@
 -- The ranges are tested from the lowest character up: where one test holds all before it have failed.
 use borrow.Author.Tests.{lt-ltb, le-ltb, le-leb, lt-leb}
 use Rattle.two_wire_text.specs.Hex.{digit_of}
-use borrow.Author.Rules.{rules}
 use Rattle.two_wire_text.proofs.digit.Goals as goal
 
 pub returns-then-c-lt48 : goal.returns-then-c-lt48

@@ -8,7 +8,6 @@ use native.Mathlib.Omega.{arith}
 use lib.ListN.{length}
 use lib.Seq.{sets}
 use borrow.Author.Tests.{le-leb, lt-leb}
-use borrow.Author.Rules.{rules}
 use Rattle.text.specs.Put.{Put}
 use Rattle.text.specs.PutLaws.{put_within, on_front_lem, front_text}
 use Rattle.two_wire_text.specs.Hex.{bytes_of}

@@ -1,6 +1,7 @@
 -- A message of two bytes and more has its parts, one after another; a shorter one is none.
 use borrow.Author.Rules.{rules}
-use Rattle.text.specs.PutLaws.{then, puts_none}
+use Rattle.text.specs.PutLaws.{puts_none}
+use Rattle.text.specs.PagesLaws.{next, from_front}
 use Rattle.two_wire_words.specs.WordsLaws.{accepted_short, accepted_parts}
 use Rattle.two_wire_words.proofs.put_accepted.Goals as goal
 
@@ -9,6 +10,5 @@ returns-then-bytes-lt2 c = simp (accepted_short c.args.bytes.now c.if-bytes-lt2.
 
 pub returns : goal.returns
 returns c =
-    simp (accepted_parts c.args.bytes.now c.if-bytes-lt2.false)
-    (then c.put_direction-a.ensures
-    (then c.put_decimal-b.ensures (then c.put-c.ensures (then c.put_decimal-d.ensures c.put.ensures))))
+    let w = next c.put_direction.ensures (next c.put_decimal.ensures (next c.put.ensures (next c.put_decimal-2.ensures c.put-2.ensures))) in
+    simp (accepted_parts c.args.bytes.now c.if-bytes-lt2.false) (search (rules, from_front c.new-page.ensures w))

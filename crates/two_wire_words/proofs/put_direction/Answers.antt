@@ -8,6 +8,6 @@ pub returns-then-address-eq-WRITE_ADDRESS : goal.returns-then-address-eq-WRITE_A
 unfolding direction_word
 returns-then-address-eq-WRITE_ADDRESS c = simp (eq-eqb _ _ c.if-address-eq-WRITE_ADDRESS.true) c.put.ensures
 
-pub returns : goal.returns
+pub returns-else-address-eq-WRITE_ADDRESS : goal.returns-else-address-eq-WRITE_ADDRESS
 unfolding direction_word
-returns c = simp (ne_eqb _ _ c.if-address-eq-WRITE_ADDRESS.false) c.put-2.ensures
+returns-else-address-eq-WRITE_ADDRESS c = simp (ne_eqb _ _ c.if-address-eq-WRITE_ADDRESS.false) c.put-else-address-eq-WRITE_ADDRESS.ensures

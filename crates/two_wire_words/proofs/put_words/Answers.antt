@@ -1,40 +1,39 @@
--- One number after another is tried, in the order of the definition; the words of the one that it is are put.
-use borrow.Author.Tests.{eq-eqb, ne_eqb}
+-- One refusal after another is tried, in the order of the definition; the words of the one that it is are put.
 use borrow.Author.Rules.{rules}
 use Rattle.two_wire_words.specs.Words.{refusal_words}
 use Rattle.two_wire_words.proofs.put_words.Goals as goal
 
-pub returns-then-number-eq-NO_ROOM : goal.returns-then-number-eq-NO_ROOM
+pub returns-then-eq : goal.returns-then-eq
 unfolding refusal_words
-returns-then-number-eq-NO_ROOM c =
-    simp (eq-eqb _ _ c.if-number-eq-NO_ROOM.true) c.put.ensures
+returns-then-eq c =
+    simp (← c.eq.ensures, c.if-eq.true) c.put.ensures
 
-pub returns-then-number-eq-SHORT_MESSAGE : goal.returns-then-number-eq-SHORT_MESSAGE
+pub returns-then-eq-2 : goal.returns-then-eq-2
 unfolding refusal_words
-returns-then-number-eq-SHORT_MESSAGE c =
-    simp (ne_eqb _ _ c.if-number-eq-NO_ROOM.false, eq-eqb _ _ c.if-number-eq-SHORT_MESSAGE.true) c.put-then-number-eq-SHORT_MESSAGE.ensures
+returns-then-eq-2 c =
+    simp (← c.eq.ensures, c.if-eq.false, ← c.eq-2.ensures, c.if-eq-2.true) c.put-then-eq-2.ensures
 
-pub returns-then-number-eq-WRONG_ADDRESS : goal.returns-then-number-eq-WRONG_ADDRESS
+pub returns-then-eq-3 : goal.returns-then-eq-3
 unfolding refusal_words
-returns-then-number-eq-WRONG_ADDRESS c =
-    simp (ne_eqb _ _ c.if-number-eq-NO_ROOM.false, ne_eqb _ _ c.if-number-eq-SHORT_MESSAGE.false, eq-eqb _ _ c.if-number-eq-WRONG_ADDRESS.true) c.put-then-number-eq-WRONG_ADDRESS.ensures
+returns-then-eq-3 c =
+    simp (← c.eq.ensures, c.if-eq.false, ← c.eq-2.ensures, c.if-eq-2.false, ← c.eq-3.ensures, c.if-eq-3.true) c.put-then-eq-3.ensures
 
-pub returns-then-number-eq-WRONG_INDEX : goal.returns-then-number-eq-WRONG_INDEX
+pub returns-then-eq-4 : goal.returns-then-eq-4
 unfolding refusal_words
-returns-then-number-eq-WRONG_INDEX c =
-    simp (ne_eqb _ _ c.if-number-eq-NO_ROOM.false, ne_eqb _ _ c.if-number-eq-SHORT_MESSAGE.false, ne_eqb _ _ c.if-number-eq-WRONG_ADDRESS.false, eq-eqb _ _ c.if-number-eq-WRONG_INDEX.true) c.put-then-number-eq-WRONG_INDEX.ensures
+returns-then-eq-4 c =
+    simp (← c.eq.ensures, c.if-eq.false, ← c.eq-2.ensures, c.if-eq-2.false, ← c.eq-3.ensures, c.if-eq-3.false, ← c.eq-4.ensures, c.if-eq-4.true) c.put-then-eq-4.ensures
 
-pub returns-then-number-eq-WRONG_DATA : goal.returns-then-number-eq-WRONG_DATA
+pub returns-then-eq-5 : goal.returns-then-eq-5
 unfolding refusal_words
-returns-then-number-eq-WRONG_DATA c =
-    simp (ne_eqb _ _ c.if-number-eq-NO_ROOM.false, ne_eqb _ _ c.if-number-eq-SHORT_MESSAGE.false, ne_eqb _ _ c.if-number-eq-WRONG_ADDRESS.false, ne_eqb _ _ c.if-number-eq-WRONG_INDEX.false, eq-eqb _ _ c.if-number-eq-WRONG_DATA.true) c.put-then-number-eq-WRONG_DATA.ensures
+returns-then-eq-5 c =
+    simp (← c.eq.ensures, c.if-eq.false, ← c.eq-2.ensures, c.if-eq-2.false, ← c.eq-3.ensures, c.if-eq-3.false, ← c.eq-4.ensures, c.if-eq-4.false, ← c.eq-5.ensures, c.if-eq-5.true) c.put-then-eq-5.ensures
 
-pub returns-then-number-eq-PAST_LAST_REGISTER : goal.returns-then-number-eq-PAST_LAST_REGISTER
+pub returns-then-eq-6 : goal.returns-then-eq-6
 unfolding refusal_words
-returns-then-number-eq-PAST_LAST_REGISTER c =
-    simp (ne_eqb _ _ c.if-number-eq-NO_ROOM.false, ne_eqb _ _ c.if-number-eq-SHORT_MESSAGE.false, ne_eqb _ _ c.if-number-eq-WRONG_ADDRESS.false, ne_eqb _ _ c.if-number-eq-WRONG_INDEX.false, ne_eqb _ _ c.if-number-eq-WRONG_DATA.false, eq-eqb _ _ c.if-number-eq-PAST_LAST_REGISTER.true) c.put-then-number-eq-PAST_LAST_REGISTER.ensures
+returns-then-eq-6 c =
+    simp (← c.eq.ensures, c.if-eq.false, ← c.eq-2.ensures, c.if-eq-2.false, ← c.eq-3.ensures, c.if-eq-3.false, ← c.eq-4.ensures, c.if-eq-4.false, ← c.eq-5.ensures, c.if-eq-5.false, ← c.eq-6.ensures, c.if-eq-6.true) c.put-then-eq-6.ensures
 
 pub returns : goal.returns
 unfolding refusal_words
 returns c =
-    simp (ne_eqb _ _ c.if-number-eq-NO_ROOM.false, ne_eqb _ _ c.if-number-eq-SHORT_MESSAGE.false, ne_eqb _ _ c.if-number-eq-WRONG_ADDRESS.false, ne_eqb _ _ c.if-number-eq-WRONG_INDEX.false, ne_eqb _ _ c.if-number-eq-WRONG_DATA.false, ne_eqb _ _ c.if-number-eq-PAST_LAST_REGISTER.false) c.put-2.ensures
+    simp (← c.eq.ensures, c.if-eq.false, ← c.eq-2.ensures, c.if-eq-2.false, ← c.eq-3.ensures, c.if-eq-3.false, ← c.eq-4.ensures, c.if-eq-4.false, ← c.eq-5.ensures, c.if-eq-5.false, ← c.eq-6.ensures, c.if-eq-6.false) c.put-2.ensures

@@ -3,7 +3,6 @@ use native.Mathlib.Numerals.{unary_clauses}
 use native.Mathlib.Omega.{arith}
 use mathlib.Core.Path.{refl}
 use lib.ListN.{length-set}
-use borrow.Author.Rules.{rules}
 use Rattle.two_wire_write.proofs.put_message.Goals as goal
 
 pub bounds-buffer-at-2 : goal.bounds-buffer-at-2

@@ -1,43 +1,47 @@
--- At each turn the rest is whole pairs, and storing their messages from here on gives the wanted buffer; a turn takes one pair.
-use mathlib.Core.Path.{◌≡◌, refl, ◌∙◌}
-use mathlib.Core.Bool.{false}
-use Prim.Native.Nat.{◌≤◌, ◌-◌, ◌+◌}
+-- At each turn storing the messages of the pairs left from here on gives the wanted buffer.
+use mathlib.Core.Path.{refl, ap, ◌∙◌}
+use mathlib.Core.List.{List}
+use Prim.Native.Nat.{ℕ, ◌<◌}
+use Rattle.std.specs.Slice.Iter.{chunks_exact_rest}
 use native.Mathlib.Omega.{arith}
 use borrow.Author.Rules.{rules}
-use lib.ListN.{length, drop, drop_of_length-le}
+use lib.ListN.{length}
 use lib.Seq.{sets}
-use Rattle.two_wire_write.specs.Writing.{ends_within_pair, messages, joined}
-use Rattle.two_wire_write.specs.WritingLaws.{pair_whole, ends_step, step_length, step_sets}
+use Rattle.two_wire_write.specs.Writing.{messages, joined}
+use Rattle.two_wire_write.proofs.Pairs.{length_ahead, sets_ahead, messages_end}
 use Rattle.two_wire_write.proofs.put_messages.Goals as goal
 
-pub loop-i-init : goal.loop-i-init
-loop-i-init c = (search rules, c.requires.0, refl, search rules, refl)
-
-pub overflow_add-i : goal.overflow_add-i
-overflow_add-i c = omega (arith, pair_whole _ _ c.loop-i-test.true c.loop-i.invariant.1)
-
-pub bounds-pairs-i-in-loop-i : goal.bounds-pairs-i-in-loop-i
-bounds-pairs-i-in-loop-i c = omega (arith, pair_whole _ _ c.loop-i-test.true c.loop-i.invariant.1)
+pub loop-pair-init : goal.loop-pair-init
+loop-pair-init c =
+    let e = c.chunks_exact-pair-items.ensures in
+    rw c.into_iter-pair-iterator.ensures.into_iter_gives (
+      e.size,
+      refl,
+      omega (arith, ap (λ (l : List ℕ). length (joined (messages l))) e.rest),
+      ap (λ (l : List ℕ). sets c.args.buffer.now 0 (joined (messages l))) e.rest,
+    )
 
 pub put_message-at-requires : goal.put_message-at-requires
-put_message-at-requires c = omega (arith, step_length _ _ c.loop-i-test.true c.loop-i.invariant.1)
+put_message-at-requires c =
+    let l = c.loop-pair.invariant in
+    let s = c.in-Some.ensures.steps.1 in
+    omega (arith, rw s.0 at l.2, length_ahead c.in-Some.pair.now (chunks_exact_rest c.next.new.self) (s.1 ∙ l.0))
 
-pub overflow_add-i-in-loop-i : goal.overflow_add-i-in-loop-i
-overflow_add-i-in-loop-i c =
-    let loop = c.loop-i in
-    omega (arith, pair_whole _ _ c.loop-i-test.true loop.invariant.1)
-
-pub loop-i-smaller : goal.loop-i-smaller
-loop-i-smaller c =
-    let loop = c.loop-i in
-    omega (arith, pair_whole _ _ c.loop-i-test.true loop.invariant.1)
-
-pub loop-i-preserved : goal.loop-i-preserved
-loop-i-preserved c = let l = c.loop-i.invariant in
-    let t = c.loop-i-test.true in
-    (omega (arith, pair_whole _ _ t l.1), ends_step _ _ t l.1, search rules, omega (arith, step_length _ _ t l.1), simp (c.put_message-at.ensures.0, c.put_message-at.ensures.1) (step_sets _ _ t l.1 _ _ ∙ l.4))
+pub loop-pair-preserved : goal.loop-pair-preserved
+loop-pair-preserved c =
+    let l = c.loop-pair.invariant in
+    let e = c.in-Some.ensures.steps in
+    let two = e.1.1 ∙ l.0 in (
+      e.0 ∙ l.0,
+      search rules,
+      omega (arith, rw e.1.0 at l.2, length_ahead c.in-Some.pair.now (chunks_exact_rest c.next.new.self) two, c.put_message-at.ensures.0),
+      simp (c.put_message-at.ensures.0, c.put_message-at.ensures.1) (sets_ahead _ _ two _ _ ∙ rw e.1.0 at l.3),
+    )
 
 pub returns : goal.returns
-returns c = let l = c.loop-i.invariant in
-    let e = drop_of_length-le c.args.pairs.now c.loop-i-test.false in
-    (omega (arith, rw e at l.3), rw e at l.4)
+returns c =
+    let l = c.loop-pair.invariant in
+    let rest = chunks_exact_rest c.loop-pair.pair-iterator in
+    let few : length rest < 2 = omega (arith, l.0, c.in-None.ensures.steps.1.0) in
+    let e = messages_end rest few in
+    (omega (arith, rw e at l.2), rw e at l.3)

@@ -1,20 +1,14 @@
--- At each turn the rest is whole pairs, and storing their messages from here on gives the wanted buffer; a turn takes one pair.
-use mathlib.Core.Path.{◌≡◌, refl, ◌∙◌}
-use mathlib.Core.Bool.{false}
-use Prim.Native.Nat.{◌≤◌, ◌-◌, ◌+◌}
-use native.Mathlib.Omega.{arith}
-use borrow.Author.Rules.{rules}
-use lib.ListN.{length, drop, drop_of_length-le}
+-- At each turn storing the messages of the pairs left from here on gives the wanted buffer.
+use mathlib.Core.Path.{◌≡◌}
+use Prim.Native.Nat.{◌+◌}
+use lib.ListN.{length}
 use lib.Seq.{sets}
-use Rattle.two_wire_write.specs.Writing.{ends_within_pair, messages, joined}
-use Rattle.two_wire_write.specs.WritingLaws.{pair_whole, ends_step, step_length, step_sets}
+use Rattle.std.specs.Slice.Iter.{chunks_exact_rest, chunks_exact_size}
+use Rattle.two_wire_write.specs.Writing.{messages, joined}
 use Rattle.two_wire_write.proofs.put_messages.Given as goal
 
-abbrev pub invariant-loop-i : goal.invariant-loop-i
-invariant-loop-i l =
-    (l.i ≤ length l.pairs) × (ends_within_pair (drop l.i l.pairs) ≡ false) × (length l.buffer ≡ length l.initial.buffer)
-    × (l.at + length (joined (messages (drop l.i l.pairs))) ≡ length (joined (messages l.pairs)))
-    × (sets l.buffer l.at (joined (messages (drop l.i l.pairs))) ≡ sets l.initial.buffer 0 (joined (messages l.pairs)))
-
-abbrev pub decreases-loop-i : goal.decreases-loop-i
-decreases-loop-i l = length l.pairs - l.i
+abbrev pub invariant-loop-pair : goal.invariant-loop-pair
+invariant-loop-pair l =
+    (chunks_exact_size l.pair-iterator ≡ 2) × (length l.buffer ≡ length l.initial.buffer)
+    × (l.at + length (joined (messages (chunks_exact_rest l.pair-iterator))) ≡ length (joined (messages l.pairs)))
+    × (sets l.buffer l.at (joined (messages (chunks_exact_rest l.pair-iterator))) ≡ sets l.initial.buffer 0 (joined (messages l.pairs)))

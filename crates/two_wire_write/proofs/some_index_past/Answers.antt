@@ -1,32 +1,33 @@
--- At each turn some index is past 127 exactly where one of the rest is, and the rest is whole pairs; a turn takes one pair.
-use mathlib.Core.Path.{◌≡◌, refl, sym, ◌∙◌}
-use mathlib.Core.Bool.{false}
-use Prim.Native.Nat.{◌≤◌, ◌-◌}
+-- At each turn some index is past 127 exactly where one of the pairs left is.
+use mathlib.Core.Path.{sym, ap, ◌∙◌}
 use native.Mathlib.Omega.{arith}
-use borrow.Author.Rules.{rules}
 use borrow.Author.Tests.{lt-ltb, le-ltb}
-use lib.ListN.{length, drop, drop_of_length-le}
-use Rattle.two_wire_write.specs.Writing.{ends_within_pair, some_index_past}
-use Rattle.two_wire_write.specs.WritingLaws.{pair_whole, ends_step, past_step}
+use Prim.Native.Nat.{◌<◌}
+use lib.ListN.{length}
+use Rattle.std.specs.Slice.Iter.{chunks_exact_rest}
+use Rattle.two_wire_write.specs.Writing.{some_index_past}
+use Rattle.two_wire_write.proofs.Pairs.{past_ahead, past_end}
 use Rattle.two_wire_write.proofs.some_index_past.Goals as goal
 
-pub loop-i-init : goal.loop-i-init
-loop-i-init c = (search rules, c.requires, refl)
+pub loop-pair-init : goal.loop-pair-init
+loop-pair-init c =
+    let e = c.chunks_exact-pair-items.ensures in
+    rw c.into_iter-pair-iterator.ensures.into_iter_gives (e.size, ap some_index_past (sym e.rest))
 
-pub returns-then-pairs-i-gt-LAST_INDEX : goal.returns-then-pairs-i-gt-LAST_INDEX
-returns-then-pairs-i-gt-LAST_INDEX c = let l = c.loop-i.invariant in
-    sym (l.2 ∙ past_step _ _ c.loop-i-test.true l.1 ∙ simp (lt-ltb _ _ c.if-pairs-i-gt-LAST_INDEX.true))
+pub returns-then-pair-gt-LAST_INDEX : goal.returns-then-pair-gt-LAST_INDEX
+returns-then-pair-gt-LAST_INDEX c =
+    let l = c.loop-pair.invariant in
+    let s = c.in-Some.ensures.steps.1 in
+    sym (l.1 ∙ ap some_index_past s.0 ∙ past_ahead _ _ (s.1 ∙ l.0) ∙ simp (lt-ltb _ _ c.if-pair-gt-LAST_INDEX.true))
 
-pub overflow_add-i : goal.overflow_add-i
-overflow_add-i c = omega (arith, pair_whole _ _ c.loop-i-test.true c.loop-i.invariant.1)
-
-pub loop-i-smaller : goal.loop-i-smaller
-loop-i-smaller c = omega (arith, pair_whole _ _ c.loop-i-test.true c.loop-i.invariant.1)
-
-pub loop-i-preserved : goal.loop-i-preserved
-loop-i-preserved c = let l = c.loop-i.invariant in
-    let t = c.loop-i-test.true in
-    (omega (arith, pair_whole _ _ t l.1), ends_step _ _ t l.1, l.2 ∙ past_step _ _ t l.1 ∙ simp (le-ltb _ _ c.if-pairs-i-gt-LAST_INDEX.false))
+pub loop-pair-preserved : goal.loop-pair-preserved
+loop-pair-preserved c =
+    let l = c.loop-pair.invariant in
+    let e = c.in-Some.ensures.steps in
+    (e.0 ∙ l.0, l.1 ∙ ap some_index_past e.1.0 ∙ past_ahead _ _ (e.1.1 ∙ l.0) ∙ simp (le-ltb _ _ c.if-pair-gt-LAST_INDEX.false))
 
 pub returns : goal.returns
-returns c = sym (c.loop-i.invariant.2 ∙ rw (drop_of_length-le _ c.loop-i-test.false))
+returns c =
+    let l = c.loop-pair.invariant in
+    let few : length (chunks_exact_rest c.loop-pair.pair-iterator) < 2 = omega (arith, l.0, c.in-None.ensures.steps.1.0) in
+    sym (l.1 ∙ past_end _ few)

@@ -8,7 +8,6 @@ use native.Mathlib.Omega.{arith}
 use borrow.Author.Tests.{eq-eqb, ne_eqb, lt-leb}
 use Rattle.lent_buffer.specs.Filled.{require}
 use Rattle.lent_buffer.specs.FilledLaws.{refuses}
-use borrow.Author.Rules.{rules}
 use Rattle.two_wire_write.proofs.write.Goals as goal
 
 pub returns-then-pairs-eq1 : goal.returns-then-pairs-eq1

@@ -1,10 +1,10 @@
 -- By the verdict; none for a good capture.
-use Rattle.text.specs.PutLaws.{puts_none}
+use Rattle.text.specs.PagesLaws.{nothing}
 use borrow.Author.Rules.{rules}
 use Rattle.verdict_report.proofs.put_advice.Goals as goal
 
 pub returns-in-Good : goal.returns-in-Good
-returns-in-Good c = simp c.in-Good.is (puts_none _ _)
+returns-in-Good c = simp c.in-Good.is (nothing _)
 
 pub returns-in-CheckTheClip : goal.returns-in-CheckTheClip
 returns-in-CheckTheClip c = simp c.in-CheckTheClip.is c.put.ensures

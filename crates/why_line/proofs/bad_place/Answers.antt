@@ -1,7 +1,6 @@
 -- Each reason has its place; those with a number of their own are held at what is looked at.
 use native.Mathlib.Omega.{arith}
 use Rattle.profile.specs.LayoutLaws.{body_small}
-use borrow.Author.Rules.{rules}
 use Rattle.why_line.proofs.bad_place.Goals as goal
 
 pub overflow_mul-result-in-NoEndOfLine : goal.overflow_mul-result-in-NoEndOfLine

@@ -1,7 +1,6 @@
 -- Beyond the end the definition has 0 as well.
 use mathlib.Core.Path.{sym}
 use lib.ListN.{get_or-eq_default}
-use borrow.Author.Rules.{rules}
 use Rattle.why_line.proofs.byte_in.Goals as goal
 
 pub returns : goal.returns

@@ -1,7 +1,6 @@
 -- The byte itself, or a half of it and a half of the next.
 use Rattle.why_line.specs.ReasonText.{code_in}
 use native.Mathlib.Omega.{arith}
-use borrow.Author.Rules.{rules}
 use Rattle.why_line.proofs.code_in.Goals as goal
 
 pub returns-then-low : goal.returns-then-low

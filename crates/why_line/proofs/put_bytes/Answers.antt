@@ -1,23 +1,17 @@
 -- Byte after byte: after i turns the first i bytes are put.
-use Prim.Native.Nat.{◌≤◌, ◌-◌}
-use native.Mathlib.Numerals.{add-one}
-use lib.ListN.{length, take}
-use Rattle.text.specs.Put.{Puts}
-use Rattle.text.specs.PutLaws.{then, puts_length, puts_none}
-use Rattle.why_line.specs.ReasonText.{hexes}
-use Rattle.why_line.specs.ReasonTextLaws.{hexes_more, hexes_whole}
-use borrow.Author.Rules.{rules}
+use Rattle.std.proofs.Common.{add-one, take_all}
+use Rattle.text.specs.PagesLaws.{next, nothing}
+use Rattle.why_line.specs.ReasonTextLaws.{hexes_more}
 use Rattle.why_line.proofs.put_bytes.Goals as goal
 
-pub loop-i-init : goal.loop-i-init
-loop-i-init c = (search rules, puts_none _ _)
+pub loop-byte-init : goal.loop-byte-init
+loop-byte-init c = nothing _
 
-pub loop-i-preserved : goal.loop-i-preserved
-loop-i-preserved c =
-    (search rules, rw (add-one, hexes_more _ _ c.loop-i-test.true) (then c.loop-i.invariant.1 c.put_spaced-next.ensures))
-
-pub shape_of-out : goal.shape_of-out
-shape_of-out c = puts_length c.loop-i.invariant.1
+pub loop-byte-preserved : goal.loop-byte-preserved
+loop-byte-preserved c =
+    rw (add-one, hexes_more _ _ c.loop-byte-test.true) (next c.loop-byte.invariant c.put_spaced.ensures)
 
 pub returns : goal.returns
-returns c = hexes_whole _ _ c.loop-i-test.false c.loop-i.invariant.1
+returns c =
+    let all = take_all c.loop-byte.byte-index c.args.bytes.now c.loop-byte-test.false in
+    simp all at c.loop-byte.invariant

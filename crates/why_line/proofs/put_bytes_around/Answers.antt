@@ -1,12 +1,11 @@
 -- The bytes before, those in brackets, and the bytes after, one after another.
-use Rattle.text.specs.PutLaws.{then}
+use Rattle.text.specs.PagesLaws.{next}
 use Rattle.why_line.specs.ReasonText.{around_bad}
-use borrow.Author.Rules.{rules}
 use Rattle.why_line.proofs.put_bytes_around.Goals as goal
 
 pub returns : goal.returns
 unfolding around_bad
 returns c =
     simp (← c.lesser.ensures, ← c.lesser-end.ensures, ← c.lesser-to.ensures)
-    (then c.put_bytes-at.ensures
-    (then c.put-at.ensures (then c.put_hex-at.ensures (then c.put_bytes-at-2.ensures (then c.put-at-2.ensures c.put_bytes.ensures)))))
+    (next c.put_bytes.ensures
+    (next c.put.ensures (next c.put_hex.ensures (next c.put_bytes-2.ensures (next c.put-2.ensures c.put_bytes-3.ensures)))))

@@ -1,10 +1,9 @@
 -- The number and the place, with their words.
-use Rattle.text.specs.PutLaws.{then}
+use Rattle.text.specs.PagesLaws.{next}
 use Rattle.why_line.specs.ReasonText.{mark_words}
-use borrow.Author.Rules.{rules}
 use Rattle.why_line.proofs.put_mark.Goals as goal
 
 pub returns : goal.returns
 unfolding mark_words
 returns c =
-    then c.put-at.ensures (then c.put_decimal-at.ensures (then c.put-at-2.ensures (then c.put_decimal-at-2.ensures c.put.ensures)))
+    next c.put.ensures (next c.put_decimal.ensures (next c.put-2.ensures (next c.put_decimal-2.ensures c.put-3.ensures)))

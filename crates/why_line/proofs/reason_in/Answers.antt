@@ -1,7 +1,6 @@
 -- By whether the mark goes on beyond what is looked at, and whether it is good.
 use borrow.Author.Tests.{lt-ltb, le-ltb, eq-eqb, ne_eqb}
 use Rattle.why_line.specs.ReasonText.{reason_in}
-use borrow.Author.Rules.{rules}
 use Rattle.why_line.proofs.reason_in.Goals as goal
 
 pub returns-then-bytes-le-MOST : goal.returns-then-bytes-le-MOST

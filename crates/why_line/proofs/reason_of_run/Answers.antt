@@ -9,7 +9,6 @@ use Rattle.reason.specs.Explanation.{explanation}
 use Rattle.reason.specs.ValuedLaws.{explanation_told}
 use Rattle.why_line.specs.ReasonText.{most_bytes}
 use Rattle.why_line.specs.ReasonTextLaws.{run_is}
-use borrow.Author.Rules.{rules}
 use Rattle.why_line.proofs.reason_of_run.Goals as goal
 
 pub slice_bounds-all-end : goal.slice_bounds-all-end

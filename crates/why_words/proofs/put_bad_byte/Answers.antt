@@ -1,5 +1,5 @@
 -- The line, then the place and the byte.
-use Rattle.text.specs.PutLaws.{then}
+use Rattle.text.specs.PagesLaws.{next}
 use Rattle.why_words.specs.ReasonWords.{bad_byte_words}
 use borrow.Author.Rules.{rules}
 use Rattle.why_words.proofs.put_bad_byte.Goals as goal
@@ -7,4 +7,4 @@ use Rattle.why_words.proofs.put_bad_byte.Goals as goal
 pub returns : goal.returns
 unfolding bad_byte_words
 returns c =
-    then c.put_line-at.ensures (then c.put-at.ensures (then c.put_decimal-at.ensures (then c.put-at-2.ensures c.put_hex.ensures)))
+    next c.put_line.ensures (next c.put.ensures (next c.put_decimal.ensures (next c.put-2.ensures c.put_hex.ensures)))

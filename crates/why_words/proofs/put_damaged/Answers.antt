@@ -1,5 +1,5 @@
 -- The code, and the sums that fail.
-use Rattle.text.specs.PutLaws.{then}
+use Rattle.text.specs.PagesLaws.{next}
 use Rattle.why_words.specs.ReasonWords.{damaged_words}
 use borrow.Author.Rules.{rules}
 use Rattle.why_words.proofs.put_damaged.Goals as goal
@@ -7,4 +7,4 @@ use Rattle.why_words.proofs.put_damaged.Goals as goal
 pub returns : goal.returns
 unfolding damaged_words
 returns c =
-    then c.put-at.ensures (then c.put_hex-at.ensures (then c.put-at-2.ensures c.put_sums.ensures))
+    next c.put.ensures (next c.put_hex.ensures (next c.put-2.ensures c.put_sums.ensures))

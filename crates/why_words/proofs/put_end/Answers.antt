@@ -1,5 +1,5 @@
 -- The line, then the code that came.
-use Rattle.text.specs.PutLaws.{then}
+use Rattle.text.specs.PagesLaws.{next}
 use Rattle.why_words.specs.ReasonWords.{end_words}
 use borrow.Author.Rules.{rules}
 use Rattle.why_words.proofs.put_end.Goals as goal
@@ -7,4 +7,4 @@ use Rattle.why_words.proofs.put_end.Goals as goal
 pub returns : goal.returns
 unfolding end_words
 returns c =
-    then c.put_line-at.ensures (then c.put-at.ensures c.put_hex.ensures)
+    next c.put_line.ensures (next c.put.ensures c.put_hex.ensures)

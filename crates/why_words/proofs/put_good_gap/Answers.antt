@@ -8,7 +8,7 @@ unfolding good_gap_words
 returns-then-cut c =
     simp c.if-cut.true c.put_long_gap.ensures
 
-pub returns : goal.returns
+pub returns-else-cut : goal.returns-else-cut
 unfolding good_gap_words
-returns c =
+returns-else-cut c =
     simp c.if-cut.false c.put.ensures

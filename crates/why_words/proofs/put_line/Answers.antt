@@ -1,5 +1,5 @@
 -- The words, and the name of the line that the code reads as.
-use Rattle.text.specs.PutLaws.{then}
+use Rattle.text.specs.PagesLaws.{next}
 use Rattle.why_words.specs.ReasonWords.{with_line_name}
 use borrow.Author.Rules.{rules}
 use Rattle.why_words.proofs.put_line.Goals as goal
@@ -7,4 +7,4 @@ use Rattle.why_words.proofs.put_line.Goals as goal
 pub returns : goal.returns
 unfolding with_line_name
 returns c =
-    simp (← c.read-reading.ensures, ← c.kind-kind.ensures) (then c.put-at.ensures c.put_line_name.ensures)
+    simp (← c.read-reading.ensures, ← c.kind-kind.ensures) (next c.put.ensures c.put_line_name.ensures)

@@ -1,5 +1,5 @@
 -- The number, after its word.
-use Rattle.text.specs.PutLaws.{then}
+use Rattle.text.specs.PagesLaws.{next}
 use Rattle.why_words.specs.ReasonWords.{refused_number}
 use borrow.Author.Rules.{rules}
 use Rattle.why_words.proofs.put_refused.Goals as goal
@@ -7,4 +7,4 @@ use Rattle.why_words.proofs.put_refused.Goals as goal
 pub returns : goal.returns
 unfolding refused_number
 returns c =
-    then c.put-at.ensures c.put_decimal.ensures
+    next c.put.ensures c.put_decimal.ensures

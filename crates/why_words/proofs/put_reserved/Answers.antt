@@ -1,5 +1,5 @@
 -- The code, after its words.
-use Rattle.text.specs.PutLaws.{then}
+use Rattle.text.specs.PagesLaws.{next}
 use Rattle.why_words.specs.ReasonWords.{reserved_words}
 use borrow.Author.Rules.{rules}
 use Rattle.why_words.proofs.put_reserved.Goals as goal
@@ -7,4 +7,4 @@ use Rattle.why_words.proofs.put_reserved.Goals as goal
 pub returns : goal.returns
 unfolding reserved_words
 returns c =
-    then c.put-at.ensures c.put_hex.ensures
+    next c.put.ensures c.put_hex.ensures

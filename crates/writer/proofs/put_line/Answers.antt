@@ -3,7 +3,6 @@ use native.Mathlib.Omega.{arith}
 use lib.ListN.{length-replicate}
 use Rattle.profile.specs.Profile.{null_byte}
 use Rattle.writer.proofs.Putting.{put_then}
-use borrow.Author.Rules.{rules}
 use Rattle.writer.proofs.put_line.Goals as goal
 
 pub put_nulls-requires : goal.put_nulls-requires

@@ -1,6 +1,5 @@
 -- A byte put straight after another is the same as both put at once.
 use Rattle.writer.proofs.Putting.{put_then}
-use borrow.Author.Rules.{rules}
 use Rattle.writer.proofs.put_two.Goals as goal
 
 pub returns : goal.returns

@@ -1,5 +1,5 @@
 -- By the sort of the difference.
-use borrow.Author.Rules.{rules}
+use Rattle.diff_summary.proofs.Numbers.{abs_diff_is}
 use Rattle.diff_summary.proofs.Summary.count.Goals as goal
 
 pub returns-in-First : goal.returns-in-First
@@ -12,4 +12,4 @@ pub returns-in-Kinds : goal.returns-in-Kinds
 returns-in-Kinds c = simp (c.in-Kinds.is, c.with-in-Kinds.ensures, c.one_more-in-Kinds.ensures)
 
 pub returns-in-Bytes : goal.returns-in-Bytes
-returns-in-Bytes c = simp (c.in-Bytes.is, c.pixel.ensures, c.absolute_difference.ensures)
+returns-in-Bytes c = simp (c.in-Bytes.is, c.pixel.ensures, c.abs_diff.ensures, abs_diff_is c.in-Bytes.x c.in-Bytes.y)

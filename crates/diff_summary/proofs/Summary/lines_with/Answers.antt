@@ -1,7 +1,6 @@
 -- A pixel of another line than the last makes one line more.
 use borrow.Author.Tests.{eq-eqb, ne_eqb}
 use Rattle.diff_summary.specs.Summary.{lines_with}
-use borrow.Author.Rules.{rules}
 use Rattle.diff_summary.proofs.Summary.lines_with.Goals as goal
 
 pub returns-then-self-eq0 : goal.returns-then-self-eq0

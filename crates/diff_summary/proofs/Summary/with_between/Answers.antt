@@ -1,7 +1,6 @@
 -- The kinds, then the places, are what differs between the lines.
 use mathlib.Core.Path.{◌∙◌}
 use Rattle.diff_summary.specs.SummaryLaws.{between_counted}
-use borrow.Author.Rules.{rules}
 use Rattle.diff_summary.proofs.Summary.with_between.Goals as goal
 
 pub returns : goal.returns

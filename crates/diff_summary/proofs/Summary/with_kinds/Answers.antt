@@ -1,6 +1,5 @@
 -- Equal kinds count nothing; others are one difference.
 use borrow.Author.Tests.{eq-eqb, ne_eqb}
-use borrow.Author.Rules.{rules}
 use Rattle.diff_summary.proofs.Summary.with_kinds.Goals as goal
 
 pub returns-then-x-y : goal.returns-then-x-y

@@ -1,6 +1,5 @@
 -- Equal bytes count nothing; others are one difference.
 use borrow.Author.Tests.{eq-eqb, ne_eqb}
-use borrow.Author.Rules.{rules}
 use Rattle.diff_summary.proofs.Summary.with_place.Goals as goal
 
 pub returns-then-x-y : goal.returns-then-x-y

@@ -9,8 +9,8 @@ overflow_add-settling c =
     let args = c.args in
     simp c.settling_place-settling.ensures (omega (arith, settling_small args.profile))
 
-pub returns-in-Unsettled : goal.returns-in-Unsettled
-returns-in-Unsettled c = simp (c.in-Due.is, c.in-Unsettled.is, ← c.settling_place-settling.ensures, c.within.ensures)
+pub returns-in-None : goal.returns-in-None
+returns-in-None c = simp (c.in-Due.is, c.in-None.is, ← c.settling_place-settling.ensures, c.within.ensures)
 
-pub returns-in-Settled : goal.returns-in-Settled
-returns-in-Settled c = simp (c.in-Due.is, c.in-Settled.is, ← c.settling_place-settling.ensures, ← c.last_place-last.ensures, c.within-in-Settled.ensures)
+pub returns-in-Some : goal.returns-in-Some
+returns-in-Some c = simp (c.in-Due.is, c.in-Some.is, ← c.settling_place-settling.ensures, ← c.last_place-last.ensures, c.within-in-Some.ensures)

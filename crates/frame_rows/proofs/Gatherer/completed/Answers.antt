@@ -1,22 +1,21 @@
 -- What `keep` says of the last row decides: with it the rows are the frame's, and none are kept for the next; or 12, and nothing changes.
-use mathlib.Core.Path.{ap}
-use borrow.Author.Rules.{rules}
+use mathlib.Core.Path.{sym, ap, ◌∙◌}
+use Rattle.std.specs.Prelude.{Ok, Some}
 use Rattle.frame_rows.specs.declared.Gatherer.{Gatherer}
-use Rattle.frame_rows.specs.declared.Progress.TheVariants as progress
 use Rattle.frame_rows.specs.FrameRows.{saying, completed}
-use Rattle.frame_rows.proofs.Answering.{gives}
+use Rattle.frame_rows.proofs.Answering.{gives, fits, fits_not}
 use Rattle.frame_rows.proofs.Gatherer.completed.Goals as goal
 
-pub returns-then-row : goal.returns-then-row
+pub returns-in-None : goal.returns-in-None
 unfolding completed
-returns-then-row c =
-    let keep = c.keep-row in
-    let taken = c.if-row.true in
-    gives _ _ (progress.Complete keep.result.end) _ _ (ap (λ (s : Gatherer). saying s (progress.Complete keep.result.end)) c.moved-gatherer.ensures)
-    (simp (← keep.ensures.fitting, keep.ensures.leaves, keep.ensures.ending, taken))
+returns-in-None c =
+    let row = c.keep.ensures in
+    gives _ _ _ _ _ c.refused.ensures (simp (row.leaves, fits_not _ _ (sym c.in-None.is ∙ row.ending)))
 
-pub returns : goal.returns
+pub returns-in-Some : goal.returns-in-Some
 unfolding completed
-returns c =
-    let row = c.keep-row.ensures in
-    gives _ _ _ _ _ c.refused.ensures (simp (← row.fitting, row.leaves, c.if-row.false))
+returns-in-Some c =
+    let row = c.keep.ensures in
+    let fit = fits _ (sym c.in-Some.is ∙ row.ending) in
+    gives _ _ (Ok (Some c.in-Some.end)) _ _ (ap (λ (s : Gatherer). saying s (Ok (Some c.in-Some.end))) c.moved-gatherer.ensures)
+    (simp (row.leaves, fit.0, fit.1))

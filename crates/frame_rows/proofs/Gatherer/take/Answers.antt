@@ -4,12 +4,12 @@ use Rattle.frame_rows.specs.FrameRows.{take_of}
 use Rattle.frame_rows.proofs.Answering.{gives}
 use Rattle.frame_rows.proofs.Gatherer.take.Goals as goal
 
-pub returns-in-Nothing : goal.returns-in-Nothing
+pub returns-in-None : goal.returns-in-None
 unfolding take_of
-returns-in-Nothing c = gives _ _ _ _ _ c.quiet.ensures (simp (← c.handed_over-handed.ensures, c.in-Nothing.is))
+returns-in-None c = gives _ _ _ _ _ c.quiet.ensures (simp (← c.handed_over.ensures, c.in-None.is))
 
-pub returns-in-Line : goal.returns-in-Line
+pub returns-in-Some : goal.returns-in-Some
 unfolding take_of
-returns-in-Line c =
-    let over = c.handed_over-handed in
-    simp (← over.ensures, c.in-Line.is) c.hand.ensures
+returns-in-Some c =
+    let over = c.handed_over in
+    simp (← over.ensures, c.in-Some.is) c.hand.ensures

@@ -3,10 +3,10 @@ use Rattle.frame_tally.specs.Tally.{take_of}
 use borrow.Author.Rules.{rules}
 use Rattle.frame_tally.proofs.Tally.take.Goals as goal
 
-pub returns-in-Nothing : goal.returns-in-Nothing
+pub returns-in-None : goal.returns-in-None
 unfolding take_of
-returns-in-Nothing c = simp (← c.handed_over-handed.ensures, c.in-Nothing.is, c.quiet.ensures, c.marked_by-tally.ensures)
+returns-in-None c = simp (← c.handed_over.ensures, c.in-None.is, c.quiet.ensures, c.marked_by-tally.ensures)
 
-pub returns-in-Line : goal.returns-in-Line
+pub returns-in-Some : goal.returns-in-Some
 unfolding take_of
-returns-in-Line c = simp (← c.handed_over-handed.ensures, c.in-Line.is, c.hand.ensures, c.own_answer.ensures, c.marked_by-tally.ensures)
+returns-in-Some c = simp (← c.handed_over.ensures, c.in-Some.is, c.hand.ensures, c.own_answer.ensures, c.marked_by-tally.ensures)

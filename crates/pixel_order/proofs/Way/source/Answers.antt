@@ -1,5 +1,4 @@
 -- By the way: the place of a pixel, or the pixel at a place, as the two functions promise.
-use borrow.Author.Rules.{rules}
 use Rattle.pixel_order.proofs.Way.source.Goals as goal
 
 pub returns-in-ToPixels : goal.returns-in-ToPixels

@@ -1,6 +1,5 @@
 -- Where the test passes the window is emptied and the mark answered with what is then kept; else 11, and nothing moves.
 use Rattle.reader.specs.Reader.{finish_of}
-use borrow.Author.Rules.{rules}
 use Rattle.reader.proofs.Reader.finish.Goals as goal
 
 pub returns-then-passes : goal.returns-then-passes

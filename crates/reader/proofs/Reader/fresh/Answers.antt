@@ -1,5 +1,4 @@
 -- Nothing is kept, as its call promises; the rest is written as the definition has it.
-use borrow.Author.Rules.{rules}
 use Rattle.reader.proofs.Reader.fresh.Goals as goal
 
 pub returns : goal.returns

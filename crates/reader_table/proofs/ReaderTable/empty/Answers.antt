@@ -1,5 +1,4 @@
 -- Eight free places.
-use borrow.Author.Rules.{rules}
 use Rattle.reader_table.proofs.ReaderTable.empty.Goals as goal
 
 pub returns : goal.returns

@@ -2,14 +2,13 @@
 use Rattle.stream.specs.AnswersLaws.{answer_of}
 use Rattle.refinement.specs.Runs.{run}
 use Rattle.reader_table.proofs.Asked.{call_granted, call_denied}
-use borrow.Author.Rules.{rules}
 use Rattle.reader_table.proofs.ReaderTable.run.Goals as goal
 
-pub returns-then-n-eq0 : goal.returns-then-n-eq0
-returns-then-n-eq0 c =
+pub returns-in-None : goal.returns-in-None
+returns-in-None c =
     let read = c.place_at-p.ensures in
     let a = c.args in
-    let q = call_granted a.self a.technician a.place read c.denial-n.ensures (run a.nibbles.now a.buffer.now) c.if-n-eq0.true in
+    let q = call_granted a.self a.technician a.place read (run a.nibbles.now a.buffer.now) c.in-None.ensures in
     let e = c.run-f.ensures in
     record {
       next = simp (q, c.with_reader-table.ensures, e.next);
@@ -18,10 +17,10 @@ returns-then-n-eq0 c =
       leaves = simp (q) e.leaves;
     }
 
-pub returns : goal.returns
-returns c =
+pub returns-in-Some : goal.returns-in-Some
+returns-in-Some c =
     let read = c.place_at-p.ensures in
     let a = c.args in
-    let q = call_denied a.self a.technician a.place read c.denial-n.ensures (run a.nibbles.now a.buffer.now) c.if-n-eq0.false in
+    let q = call_denied a.self a.technician a.place read (run a.nibbles.now a.buffer.now) c.in-Some.ensures in
     let e = c.not_run.ensures in
     record { next = simp (q, e.0); says = simp (q, e.1); count = simp (q, e.2); leaves = simp (q) }

@@ -1,5 +1,4 @@
 -- The reader of a free place is a fresh one.
-use borrow.Author.Rules.{rules}
 use Rattle.reader_table.proofs.TablePlace.free.Goals as goal
 
 pub returns : goal.returns
