@@ -96,7 +96,7 @@ fn up_to_stop(start: Head, body: &mut [u8], nibbles: &[u8], buffer: &mut [u8]) -
     let first = run_ahead::ahead(start, body, nibbles, 0);
     let mut h = first.head;
     let mut i = first.at;
-    // Not a for: each turn goes on by what the call took.
+    // A nibble a turn, from the place up to which the run ahead took them.
     while i < nibbles.len() {
         let x = nibbles[i];
         if 15 < x {
