@@ -13,10 +13,10 @@ use piecewise::{Listed, Lister};
 fn main(rt: HostRuntime) {
     let asked = command::sensor_and_file(rt);
     if asked.understood {
-        let judged = Judged {
+        let report = FrameReport {
             lister: FrameLister::new(asked.profile),
         };
-        piecewise::list_capture(rt, judged, asked.first);
+        piecewise::list_capture(rt, report, asked.first);
     } else {
         command::complain(rt, b"usage: frames [vv5404|vv6404|vv5300] [FILE]\n");
     }
@@ -24,20 +24,20 @@ fn main(rt: HostRuntime) {
 
 // A line for each frame, and the report at the end.
 #[derive(Clone, Copy)]
-struct Judged {
+struct FrameReport {
     lister: FrameLister,
 }
 
-impl Lister for Judged {
+impl Lister for FrameReport {
     // No text stands above the frames.
     fn head(self, _out: &mut [u8]) -> usize {
         0
     }
 
-    fn list(self, piece: &[u8], from: usize, out: &mut [u8]) -> Listed<Judged> {
+    fn list(self, piece: &[u8], from: usize, out: &mut [u8]) -> Listed<FrameReport> {
         let done = self.lister.list(piece, from, out);
         Listed {
-            lister: Judged {
+            lister: FrameReport {
                 lister: done.lister,
             },
             taken: done.taken,
@@ -45,10 +45,10 @@ impl Lister for Judged {
         }
     }
 
-    fn finish(self, out: &mut [u8]) -> Listed<Judged> {
+    fn finish(self, out: &mut [u8]) -> Listed<FrameReport> {
         let last = self.lister.finish(out);
         Listed {
-            lister: Judged {
+            lister: FrameReport {
                 lister: last.lister,
             },
             taken: last.taken,

@@ -12,10 +12,10 @@ use piecewise::{Listed, Lister};
 fn main(rt: HostRuntime) {
     let asked = command::sensor_and_file(rt);
     if asked.understood {
-        let rows = Rows {
+        let table = MarkTable {
             lister: MarkLister::new(asked.profile),
         };
-        piecewise::list_capture(rt, rows, asked.first);
+        piecewise::list_capture(rt, table, asked.first);
     } else {
         command::complain(rt, b"usage: list [vv5404|vv6404|vv5300] [FILE]\n");
     }
@@ -23,19 +23,19 @@ fn main(rt: HostRuntime) {
 
 // The names of the columns, and a row for each mark.
 #[derive(Clone, Copy)]
-struct Rows {
+struct MarkTable {
     lister: MarkLister,
 }
 
-impl Lister for Rows {
+impl Lister for MarkTable {
     fn head(self, out: &mut [u8]) -> usize {
         list_rows::header(out)
     }
 
-    fn list(self, piece: &[u8], from: usize, out: &mut [u8]) -> Listed<Rows> {
+    fn list(self, piece: &[u8], from: usize, out: &mut [u8]) -> Listed<MarkTable> {
         let done = self.lister.list(piece, from, out);
         Listed {
-            lister: Rows {
+            lister: MarkTable {
                 lister: done.lister,
             },
             taken: done.taken,
@@ -43,10 +43,10 @@ impl Lister for Rows {
         }
     }
 
-    fn finish(self, out: &mut [u8]) -> Listed<Rows> {
+    fn finish(self, out: &mut [u8]) -> Listed<MarkTable> {
         let last = self.lister.finish(out);
         Listed {
-            lister: Rows {
+            lister: MarkTable {
                 lister: last.lister,
             },
             taken: last.taken,

@@ -28,7 +28,7 @@ fn is_for_means(asked: Asked) -> bool {
 
 // Writes the table of the file at a place among the arguments, or of standard input for 0, and says so where no row has come.
 fn table(rt: HostRuntime, file: usize) {
-    let fresh = Rows {
+    let fresh = MeanTable {
         lister: MeanLister::new(),
         come: false,
     };
@@ -44,22 +44,22 @@ fn table(rt: HostRuntime, file: usize) {
 
 // The names of the columns, and a row for each visible line; and whether a row has come.
 #[derive(Clone, Copy)]
-struct Rows {
+struct MeanTable {
     lister: MeanLister,
     come: bool,
 }
 
-impl Lister for Rows {
+impl Lister for MeanTable {
     fn head(self, out: &mut [u8]) -> usize {
         let mut page = Page::new(out);
         mean_rows::put_header(&mut page);
         page.used
     }
 
-    fn list(self, piece: &[u8], from: usize, out: &mut [u8]) -> Listed<Rows> {
+    fn list(self, piece: &[u8], from: usize, out: &mut [u8]) -> Listed<MeanTable> {
         let done = self.lister.list(piece, from, out);
         Listed {
-            lister: Rows {
+            lister: MeanTable {
                 lister: done.lister,
                 come: self.come || 0 < done.used,
             },
@@ -68,10 +68,10 @@ impl Lister for Rows {
         }
     }
 
-    fn finish(self, out: &mut [u8]) -> Listed<Rows> {
+    fn finish(self, out: &mut [u8]) -> Listed<MeanTable> {
         let last = self.lister.finish(out);
         Listed {
-            lister: Rows {
+            lister: MeanTable {
                 lister: last.lister,
                 come: self.come || 0 < last.used,
             },

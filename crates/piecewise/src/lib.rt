@@ -108,10 +108,7 @@ fn list_piece<L: Lister>(rt: HostRuntime, lister: L, piece: &[u8], out: &mut [u8
     while at < 2 * piece.len() {
         let done = lister.list(piece, at, out);
         lister = done.lister;
-        if !host_calls::print_or_tell(rt, &out[..done.used]) {
-            return None;
-        }
-        if done.taken == 0 {
+        if !host_calls::print_or_tell(rt, &out[..done.used]) || done.taken == 0 {
             return None;
         }
         at += done.taken;

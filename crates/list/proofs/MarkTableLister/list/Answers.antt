@@ -6,7 +6,7 @@ use Rattle.list_marks.specs.declared.MarkLister.{MarkLister}
 use Rattle.list_marks.specs.declared.MarksListed.{MarksListed}
 use Rattle.list_marks.specs.MarkLister.{ListsMarks, listed_of}
 use Rattle.list_marks.specs.MarkListerLaws.{taken_within}
-use Rattle.list.proofs.RowsLister.list.Goals as goal
+use Rattle.list.proofs.MarkTableLister.list.Goals as goal
 
 -- it takes no more nibbles than are left
 taken_fits :

@@ -6,7 +6,7 @@ use Rattle.list_means.specs.declared.MeanLister.{MeanLister}
 use Rattle.list_means.specs.declared.MeansListed.{MeansListed}
 use Rattle.list_means.specs.MeanLister.{ListsMeans, listed_of}
 use Rattle.list_means.specs.MeanListerLaws.{taken_within}
-use Rattle.means.proofs.RowsLister.list.Goals as goal
+use Rattle.means.proofs.MeanTableLister.list.Goals as goal
 
 -- it takes no more nibbles than are left
 taken_fits :

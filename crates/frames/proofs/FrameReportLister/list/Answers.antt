@@ -6,7 +6,7 @@ use Rattle.list_frames.specs.declared.FrameLister.{FrameLister}
 use Rattle.list_frames.specs.declared.FramesListed.{FramesListed}
 use Rattle.list_frames.specs.FrameLister.{ListsFrames, listed_of}
 use Rattle.list_frames.specs.FrameListerLaws.{taken_within}
-use Rattle.frames.proofs.JudgedLister.list.Goals as goal
+use Rattle.frames.proofs.FrameReportLister.list.Goals as goal
 
 -- it takes no more nibbles than are left
 taken_fits :
