@@ -12,7 +12,7 @@ ghost use Rattle.profile.specs.Profile.{body_length, longest};
 ghost use Rattle.stream.specs.Answers.{outcome_of, answer_for, buffer_after, refused};
 ghost use Rattle.reader.specs.Reader.{reader_of, fresh_reader, new_of, taking, take_of, feed_of, finish_of};
 ghost use Rattle.reader.specs.Gives.{CallGives, FeedGives, TakeGives};
-ghost use Rattle.reader.specs.Parts.{completing};
+ghost use Rattle.reader.specs.Parts.{completing, copied};
 
 use mark_text::Kept;
 use profile::Profile;
@@ -191,10 +191,17 @@ fn hand_out(p: Profile, answer: Answer, body: &[u8], buffer: &mut [u8])
     ensures { buffer.new ≡ buffer_after (outcome_of p answer body.now) buffer.old }
 {
     match answer {
-        Answer::Line(_) => {
-            let n = p.body_length();
-            buffer[..n].copy_from_slice(&body[..n]);
-        }
+        Answer::Line(_) => copy_front(buffer, body, p.body_length()),
         Answer::Nothing | Answer::Gap(_) | Answer::Refused(_) => {}
+    }
+}
+
+// The first n bytes of one slice go to the front of another. Byte after byte: by copy_from_slice an archive for C would need memmove from outside.
+fn copy_front(to: &mut [u8], from: &[u8], n: usize)
+    requires { (n ≤ length from.now) × (n ≤ length to.old) }
+    ensures { to.new ≡ copied to.old from.now n }
+{
+    for i in 0..n {
+        to[i] = from[i];
     }
 }

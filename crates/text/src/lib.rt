@@ -59,12 +59,13 @@ pub fn put(text: &[u8], out: &mut [u8], at: usize) -> usize
     if out.len() <= at {
         return at;
     }
+    let n = text.len();
     let room = out.len() - at;
-    if text.len() <= room {
-        out[at..at + text.len()].copy_from_slice(text);
-        return at + text.len();
+    if n <= room {
+        copy(text, n, out, at);
+        return at + n;
     }
-    out[at..].copy_from_slice(&text[..room]);
+    copy(text, room, out, at);
     at + room
 }
 
@@ -83,6 +84,16 @@ pub fn put_hex(byte: u8, out: &mut [u8], at: usize) -> usize
 {
     let next = put_byte(hex_digit(byte / 16), out, at);
     put_byte(hex_digit(byte % 16), out, next)
+}
+
+// Puts the first n bytes of a text at a place. Byte after byte: by copy_from_slice an archive for C would need memmove from outside.
+fn copy(text: &[u8], n: usize, out: &mut [u8], at: usize)
+    requires { (n ≤ length text.now) × (at + n ≤ length out.old) }
+    ensures { Puts out.old at (take n text.now) (at + n) out.new }
+{
+    for i in 0..n {
+        out[at + i] = text[i];
+    }
 }
 
 // Puts the decimal digits of a number at the end of the places, the last one first, and gives the place of the first.
