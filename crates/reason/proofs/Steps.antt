@@ -94,6 +94,12 @@ begins_starts (n₀ ∷ n₁ ∷ n₂ ∷ n₃ ∷ n₄ ∷ n₅ ∷ x ∷ y ∷
     six true true true true true false = refl
     six true true true true true true = refl
 
+-- whose first is another than F
+pub begins_first : (u : List ℕ) → (get_or u 0 0 ≡ 15 → ⊥) → begins_mark u ≡ false
+unfolding code_at
+begins_first [] h = refl
+begins_first (n ∷ u) h = rw (ne_eqb 15 n (λ e. h (sym e))) refl
+
 -- the code of a mark
 pub code_there : (u : List ℕ) → begins_mark u ≡ true → code_at u ≡ Some (pair_at u 6)
 unfolding code_at

@@ -106,11 +106,14 @@ fn nibbles_only(run: &[u8]) -> bool
     run.iter().all(|n| *n <= 15)
 }
 
-// Whether the nibbles begin with a mark.
+// Whether the nibbles begin with a mark. The first is asked before the six are: of most places it decides, and the call costs a quarter more.
 fn begins_mark(run: &[u8]) -> bool
     ensures { (result ≡ begins_mark run.now) × (result ≡ true → 8 ≤ length run.now) }
 {
-    MARK <= run.len() && run.starts_with(&[15, 15, 15, 15, 0, 0])
+    if run.len() < MARK || run[0] != 15 {
+        return false;
+    }
+    run.starts_with(&[15, 15, 15, 15, 0, 0])
 }
 
 // How many nibbles stand before the first place where a mark begins.

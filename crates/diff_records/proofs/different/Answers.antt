@@ -1,14 +1,25 @@
--- The count is that of the pairs that differ.
-use Rattle.std.proofs.Common.{arith, rules, tests, ◌∙◌}
-use Rattle.std.proofs.lemmas.Iterator.{YieldsList-from_slice, YieldsList-from_zip}
-use Rattle.std.proofs.lemmas.Iterator.Consumers.{YieldsList-at, YieldsList-from_filter, count_from_yields_List}
-use Rattle.diff_records.proofs.PairLaws.{differ, different_pairs, different_most}
+-- The count so far, and the places from one on, are all the places.
+use mathlib.Core.Path.{ap}
+use mathlib.Core.List.{List}
+use Prim.Native.Nat.{ℕ}
+use native.Mathlib.Omega.{arith}
+use borrow.Author.Rules.{rules}
+use lib.ListN.{drop, drop_of_length-le}
+use Rattle.diff_records.specs.Next.{different}
+use Rattle.diff_records.proofs.DifferenceLaws.{different_step}
 use Rattle.diff_records.proofs.different.Goals as goal
+
+pub loop-p-init : goal.loop-p-init
+loop-p-init c = (search rules, omega arith)
+
+pub loop-p-preserved : goal.loop-p-preserved
+loop-p-preserved c =
+    let a = c.args in
+    let l = c.loop-p in
+    (omega arith, omega (arith, different_step a.a.now a.b.now l.p c.loop-p-test.true (omega arith)))
 
 pub returns : goal.returns
 returns c =
-    let a = c.args.a.now in
-    let b = c.args.b.now in
-    let n = count_from_yields_List c.filter.result _ c.count.ensures.ran
-    (YieldsList-from_filter _ differ (YieldsList-at c.filter.ensures.source (YieldsList-from_zip (YieldsList-from_slice a (cc)) (YieldsList-from_slice b (cc)))) c.filter.ensures.closure (λ x b q k. search (rules, tests))) in
-    (n ∙ different_pairs a b, omega (arith, n, different_pairs a b, different_most a b, c.requires.0))
+    let a = c.args in
+    let p = c.loop-p.p in
+    (omega (arith, ap (λ (l : List ℕ). different l (drop p a.b.now)) (drop_of_length-le a.a.now {i = p} (omega arith))), omega arith)
