@@ -5,7 +5,8 @@
 
 #![tactic(auto)]
 
-ghost use Rattle.std.specs.Prelude.{◌≤◌, ◌<◌, ◌+◌, ◌*◌, ◌^◌, IfSome};
+ghost use Rattle.std.specs.Prelude.{◌≡◌, ◌≤◌, ◌<◌, ◌+◌, ◌*◌, ◌^◌, IfSome};
+ghost use Rattle.script_words.specs.Words.{word_at};
 
 use refusal::Refusal;
 use std::io::Print;
@@ -39,7 +40,9 @@ pub fn end_line(rt: HostRuntime) {
 }
 
 // The word of a line with this number, the first being 0; where there is none, an empty one.
-pub fn word_at(line: &[u8], word: usize) -> &[u8] {
+pub fn word_at(line: &[u8], word: usize) -> &[u8]
+    ensures { result.now ≡ word_at line.now word }
+{
     match line.split(|sign| *sign == b' ').nth(word) {
         Some(found) => found,
         None => &line[..0],
