@@ -91,7 +91,7 @@ fn between_size(a: &[u8], b: &[u8]) -> usize
 }
 
 // How many places of two bodies differ. By their places, and with no branch on the bytes, so that many are compared at once: by filter and count
-// a comparison of whole frames takes a quarter longer.
+// a comparison of whole frames takes up to half as long again.
 fn different(a: &[u8], b: &[u8]) -> usize
     requires { (length a.now ≡ width) × (length b.now ≡ width) }
     ensures { (result ≡ different a.now b.now) × (result ≤ width) }
